@@ -1,0 +1,1 @@
+// Theory only: specs/ has permutations, their orbits and the exchange lemmas.

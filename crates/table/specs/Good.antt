@@ -1,0 +1,42 @@
+-- What a good table is, document 01, "The table": a field for each rule. "Anything else is torn."
+-- Assumes nothing.
+use Prim.Native.Nat.{ℕ, _≤_, _<_}
+use mathlib.Core.Path.{_≡_}
+use mathlib.Core.List.{List}
+use mathlib.Core.Logic.{_≢_}
+use lib.ListN.{length}
+use Rattle.orbits.specs.Iter.{Reach}
+use Rattle.table.specs.Layout.{vertices, edges, darts, words, nothing, isolated, nextWord, prevWord, leaves, edgeWord, vertexWord, edgeOf, Live}
+
+-- "The three words of a dart that is not live are 65,535."
+pub record Bare (t : List ℕ) (d : ℕ) : Type 0 where
+  pub next-none : nextWord t d ≡ nothing
+  pub prev-none : prevWord t d ≡ nothing
+  pub leaves-none : leaves t d ≡ nothing
+
+-- d is the smallest live dart that leaves v
+pub record Smallest (t : List ℕ) (v d : ℕ) : Type 0 where
+  pub live : Live t d
+  pub here : leaves t d ≡ v
+  pub least : (d′ : ℕ) → Live t d′ → leaves t d′ ≡ v → d ≤ d′
+
+pub record Good (t : List ℕ) : Type 0 where
+  -- "a lent slice of 7,680 unsigned 16-bit words"
+  pub size : length t ≡ words
+  -- "0 if not live, else its turns plus 100; turns run from -99 to 99"
+  pub turns : (e : ℕ) → e < edges → edgeWord t e ≤ 199
+  pub bare : (d : ℕ) → d < darts → edgeWord t (edgeOf d) ≡ 0 → Bare t d
+  -- "every live dart leaves a live vertex"
+  pub leaves-low : (d : ℕ) → Live t d → leaves t d < vertices
+  pub leaves-live : (d : ℕ) → Live t d → vertexWord t (leaves t d) ≢ nothing
+  -- "'next' and 'previous' undo each other on live darts"
+  pub next-live : (d : ℕ) → Live t d → Live t (nextWord t d)
+  pub prev-live : (d : ℕ) → Live t d → Live t (prevWord t d)
+  pub prev-next : (d : ℕ) → Live t d → prevWord t (nextWord t d) ≡ d
+  pub next-prev : (d : ℕ) → Live t d → nextWord t (prevWord t d) ≡ d
+  -- "the live darts leaving a vertex form one cycle of 'next'"
+  pub next-leaves : (d : ℕ) → Live t d → leaves t (nextWord t d) ≡ leaves t d
+  pub one-cycle : (d d′ : ℕ) → Live t d → Live t d′ → leaves t d ≡ leaves t d′ → Reach (nextWord t) d d′
+  -- "65,535 if not live, 65,534 if live and isolated, else its smallest live dart"
+  pub alone : (v : ℕ) → v < vertices → vertexWord t v ≡ isolated → (d : ℕ) → Live t d → leaves t d ≢ v
+  pub smallest : (v : ℕ) → v < vertices → vertexWord t v ≢ nothing → vertexWord t v ≢ isolated → Smallest t v (vertexWord t v)

@@ -1,0 +1,73 @@
+-- The words of a table, document 01, "The table": the layout is named here, and once more as the constants of src/layout.rt, and nowhere else.
+-- Assumes nothing.
+use Prim.Native.Nat.{ℕ, _+_, _-_, _*_, _/_, _%_, _<_}
+use mathlib.Core.List.{List}
+use mathlib.Core.Logic.{_≢_}
+use lib.ListN.{getD}
+
+-- "Vertices are 0 to 511, edges 0 to 1,023", and each edge has two darts
+abbrev pub vertices : ℕ
+vertices = 512
+
+abbrev pub edges : ℕ
+edges = 1024
+
+abbrev pub darts : ℕ
+darts = 2048
+
+-- "a lent slice of 7,680 unsigned 16-bit words"
+abbrev pub words : ℕ
+words = 7680
+
+-- where each kind of word begins: "next" words begin at 0
+abbrev pub prevAt : ℕ
+prevAt = 2048
+
+abbrev pub leavesAt : ℕ
+leavesAt = 4096
+
+abbrev pub edgeAt : ℕ
+edgeAt = 6144
+
+abbrev pub vertexAt : ℕ
+vertexAt = 7168
+
+-- the word of what is not there: a dart that is not live, a vertex that is not live
+abbrev pub nothing : ℕ
+nothing = 65535
+
+-- the word of a vertex that is live and isolated
+abbrev pub isolated : ℕ
+isolated = 65534
+
+-- "the next dart counterclockwise at its vertex"
+abbrev pub nextWord : List ℕ → ℕ → ℕ
+nextWord t d = getD t d 0
+
+-- "the previous one"
+abbrev pub prevWord : List ℕ → ℕ → ℕ
+prevWord t d = getD t (prevAt + d) 0
+
+-- "the vertex it leaves"
+abbrev pub leaves : List ℕ → ℕ → ℕ
+leaves t d = getD t (leavesAt + d) 0
+
+-- "for each edge, 0 if not live, else its turns plus 100"
+abbrev pub edgeWord : List ℕ → ℕ → ℕ
+edgeWord t e = getD t (edgeAt + e) 0
+
+-- "for each vertex, 65,535 if not live, 65,534 if live and isolated, else its smallest live dart"
+abbrev pub vertexWord : List ℕ → ℕ → ℕ
+vertexWord t v = getD t (vertexAt + v) 0
+
+-- "Edge e has two darts: 2e leaves its first end, 2e+1 its second; the reverse of d is the other one"
+abbrev pub rev : ℕ → ℕ
+rev d = d + 1 - 2 * (d % 2)
+
+abbrev pub edgeOf : ℕ → ℕ
+edgeOf d = d / 2
+
+-- "A dart is live if its edge is"
+pub record Live (t : List ℕ) (d : ℕ) : Type 0 where
+  pub low : d < darts
+  pub on : edgeWord t (edgeOf d) ≢ 0

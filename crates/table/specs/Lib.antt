@@ -1,0 +1,4 @@
+pub mod Layout
+pub mod Good
+pub mod Rotation
+pub mod Lawful

@@ -1,1 +1,0 @@
-// Theory only: specs/ has permutations, their orbits and the exchange lemmas.

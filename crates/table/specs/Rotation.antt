@@ -9,7 +9,9 @@ use mathlib.Core.List.{List}
 use mathlib.Core.Logic.{_≢_}
 use lib.Dec.{ltb, eqb}
 use borrow.Author.Tests.{ltb-true, eqb-true, eqb-false, lt-ltb, eq-eqb, ne-eqb}
-use Rattle.orbits.specs.Iter.{iter, Reach}
+use Rattle.orbits.specs.Iterate.{iter}
+use Rattle.orbits.specs.Truth.{clash}
+use Rattle.orbits.specs.Reach.{Reach}
 use Rattle.table.specs.Layout.{vertices, darts, nothing, isolated, nextWord, prevWord, leaves, edgeWord, vertexWord, edgeOf, rev, Live}
 use Rattle.table.specs.Good.{Good, Bare, Smallest}
 
@@ -155,3 +157,21 @@ module _ (t : List ℕ) where
   alone-word v e =
       let p = and-both (ltb v vertices) (eqb (vertexWord t v) isolated) e in
       (ltb-true v vertices (p .0), eqb-true (vertexWord t v) isolated (p .1))
+
+  pub not-live : (d : ℕ) → (Live t d → ⊥) → live? t d ≡ false
+  not-live d n = elim (live-case d) [
+      holds e l ↦ absurd (n l)
+    | fails e m ↦ e ]
+
+-- what a Boolean that was seen tells
+pub case-yes : {b : Bool} {P : Type 0} → Case b P → b ≡ true → P
+case-yes (holds e p) t = p
+case-yes (fails e n) t = absurd (clash t e)
+
+pub case-no : {b : Bool} {P : Type 0} → Case b P → b ≡ false → P → ⊥
+case-no (holds e p) f x = clash e f
+case-no (fails e n) f x = n x
+
+pub case-map : {b : Bool} {P Q : Type 0} → (P → Q) → (Q → P) → Case b P → Case b Q
+case-map f g (holds e p) = holds e (f p)
+case-map f g (fails e n) = fails e (λ q. n (g q))

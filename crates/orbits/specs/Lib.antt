@@ -1,0 +1,10 @@
+-- Permutations of the numbers below N and their orbits. Nothing here knows what the numbers stand for.
+-- A file uses only those above it.
+pub mod Truth
+pub mod Count
+pub mod Iterate
+pub mod Reach
+pub mod Classes
+pub mod Merge
+pub mod Orbits
+pub mod Exchange

@@ -13,6 +13,7 @@ use Rattle.orbits.specs.Count.{count, count-le}
 use Rattle.table.specs.Layout.{vertices, edges, darts, words, nothing, isolated, nextWord, prevWord, leaves, edgeWord, vertexWord, edgeOf, Live}
 use Rattle.table.specs.Good.{Good, Bare}
 use Rattle.table.specs.Rotation.{live?, yes-live, not-live}
+use Rattle.table.specs.Counting.{Counts, counts, breaks}
 use Rattle.table.specs.declared.dart.Counted.{Counted}
 use Rattle.table.specs.declared.dart.Counted.the-variants.{Broken, Of}
 
@@ -34,22 +35,24 @@ pub record DartRule (t : List ℕ) (d : ℕ) : Type 0 where
 abbrev pub Ruled : List ℕ → ℕ → Type 0
 Ruled t n = (d : ℕ) → d < n → DartRule t d
 
-pub data DartsSay (t : List ℕ) (r : Counted) : Type 0 where
-  ruled : r ≡ Of (count (live? t) darts) → Ruled t darts → DartsSay t r
-  unruled : r ≡ Broken → (Ruled t darts → ⊥) → DartsSay t r
+-- what the count of the live darts answers
+abbrev pub DartsSay : List ℕ → Counted → Type 0
+DartsSay t r = Counts (Ruled t darts) (count (live? t) darts) r
 
 -- every rule of a dart is one of a good table's
 pub good-ruled : (t : List ℕ) → Good t → Ruled t darts
 good-ruled t g d h = record {
-    turns = g .turns (edgeOf d) (omega arith);
-    bare = g .bare d h;
-    linked = λ on. let l : Live t d = record { low = h; on = on } in record {
-      at = g .leaves-low d l;
-      next-low = g .next-live d l .low;
-      prev-next = g .prev-next d l;
-      next-leaves = g .next-leaves d l;
-      prev-low = g .prev-live d l .low;
-      next-prev = g .next-prev d l } }
+  turns = g .turns (edgeOf d) (omega arith);
+  bare = g .bare d h;
+  linked = λ on. let l : Live t d = record { low = h; on = on } in record {
+    at = g .leaves-low d l;
+    next-low = g .next-live d l .low;
+    prev-next = g .prev-next d l;
+    next-leaves = g .next-leaves d l;
+    prev-low = g .prev-live d l .low;
+    next-prev = g .next-prev d l;
+  };
+}
 
 module _ (t : List ℕ) (d : ℕ) where
   pub rule-dead : edgeWord t (edgeOf d) ≡ 0 → Bare t d → DartRule t d
@@ -74,8 +77,9 @@ module _ (t : List ℕ) where
 
   rules-more : (d : ℕ) → Ruled t d → DartRule t d → Ruled t (d + 1)
   rules-more d r h k l = elim (ℕ-discrete k d) [
-      yes e ↦ rw e h
-    | no e ↦ r k (omega arith) ]
+    | yes e ↦ rw e h
+    | no e ↦ r k (omega arith)
+  ]
 
   pub passed-live : (n d : ℕ) → Passed t n d → d < darts → DartRule t d → edgeWord t (edgeOf d) ≢ 0 → Passed t (n + 1) (d + 1)
   unfolding count
@@ -95,7 +99,7 @@ module _ (t : List ℕ) where
   pub passed-all : (n d : ℕ) → Passed t n d → darts ≤ d → DartsSay t (Of n)
   passed-all n d p h =
       let e : d ≡ darts = omega (arith, p .low) in
-      ruled (ap Of (rw e at (p .counted))) (rw e at (p .rules))
+      counts (ap Of (rw e at (p .counted))) (rw e at (p .rules))
 
   pub passed-broken : (d : ℕ) → d < darts → (DartRule t d → ⊥) → DartsSay t Broken
-  passed-broken d h n = unruled refl (λ r. n (r d h))
+  passed-broken d h n = breaks refl (λ r. n (r d h))

@@ -8,9 +8,9 @@ use mathlib.Core.Bool.{Bool, true, false, _&&_, not}
 use mathlib.Core.List.{List}
 use mathlib.Core.Logic.{_≢_}
 use lib.Dec.{ltb, eqb}
-use borrow.Author.Tests.{ltb-true, eqb-true, eqb-false, lt-ltb, eq-eqb, ne-eqb}
+use borrow.Author.Tests.{ltb-true, eqb-true, eqb-false, lt-ltb, eq-eqb, ne-eqb, not-true}
 use Rattle.orbits.specs.Iterate.{iter}
-use Rattle.orbits.specs.Truth.{clash}
+use Rattle.orbits.specs.Truth.{clash, both, both-left, both-right}
 use Rattle.orbits.specs.Reach.{Reach}
 use Rattle.table.specs.Layout.{vertices, darts, nothing, isolated, nextWord, prevWord, leaves, edgeWord, vertexWord, edgeOf, rev, Live}
 use Rattle.table.specs.Good.{Good, Bare, Smallest}
@@ -73,23 +73,8 @@ alone? t v = ltb v vertices && eqb (vertexWord t v) isolated
 abbrev pub rotation : List ℕ → Rotation
 rotation t = record { live = live? t; next = nextDart t; prev = prevDart t; turns = turnsOf t; from = leaves t; there = there? t; alone = alone? t }
 
--- two tests that are both true, and a test that is not
-
-and-both : (a b : Bool) → a && b ≡ true → (a ≡ true) × (b ≡ true)
-and-both true b e = (refl, e)
-and-both false b e = let z : _≡_ {A = ℕ} 0 1 = cc in absurd (omega arith)
-
-and-true : (a b : Bool) → a ≡ true → b ≡ true → a && b ≡ true
-and-true true b p q = q
-and-true false b p q = p
-
 not-yes : (b : Bool) → b ≡ false → not b ≡ true
-not-yes true p = sym p
-not-yes false p = refl
-
-not-no : (b : Bool) → not b ≡ true → b ≡ false
-not-no true p = sym p
-not-no false p = refl
+not-yes b p = rw p
 
 -- a Boolean that says whether P holds is one of two cases
 pub data Case (b : Bool) (P : Type 0) : Type 0 where
@@ -98,7 +83,7 @@ pub data Case (b : Bool) (P : Type 0) : Type 0 where
 
 case-of : {b : Bool} {P : Type 0} → (b ≡ true → P) → (P → b ≡ true) → (c : Bool) → b ≡ c → Case b P
 case-of f g true e = holds e (f e)
-case-of f g false e = fails e (λ p. let z : _≡_ {A = Bool} true false = sym (g p) ∙ e in let y : _≡_ {A = ℕ} 0 1 = cc in omega arith)
+case-of f g false e = fails e (λ p. clash (g p) e)
 
 -- two Booleans that say the same are the same
 pub same-case : {a b : Bool} {P Q : Type 0} → (P → Q) → (Q → P) → Case a P → Case b Q → a ≡ b
@@ -111,13 +96,15 @@ module _ (t : List ℕ) where
   pub live-yes : (d : ℕ) → live? t d ≡ true → Live t d
   unfolding live?
   live-yes d e =
-      let p = and-both (ltb d darts) (not (eqb (edgeWord t (edgeOf d)) 0)) e in
-      record { low = ltb-true d darts (p .0); on = eqb-false (edgeWord t (edgeOf d)) 0 (not-no _ (p .1)) }
+      record {
+        low = ltb-true d darts (both-left (ltb d darts) _ e);
+        on = eqb-false (edgeWord t (edgeOf d)) 0 (not-true _ (both-right (ltb d darts) _ e));
+      }
 
   pub yes-live : (d : ℕ) → Live t d → live? t d ≡ true
   unfolding live?
   yes-live d l =
-      and-true (ltb d darts) (not (eqb (edgeWord t (edgeOf d)) 0)) (lt-ltb d darts (l .low)) (not-yes _ (ne-eqb (edgeWord t (edgeOf d)) 0 (l .on)))
+      both (lt-ltb d darts (l .low)) (not-yes _ (ne-eqb (edgeWord t (edgeOf d)) 0 (l .on)))
 
   pub live-case : (d : ℕ) → Case (live? t d) (Live t d)
   live-case d = case-of (live-yes d) (yes-live d) (live? t d) refl
@@ -140,28 +127,27 @@ module _ (t : List ℕ) where
 
   pub there-yes : (v : ℕ) → v < vertices → vertexWord t v ≢ nothing → there? t v ≡ true
   unfolding there?
-  there-yes v l n = and-true (ltb v vertices) (not (eqb (vertexWord t v) nothing)) (lt-ltb v vertices l) (not-yes _ (ne-eqb (vertexWord t v) nothing n))
+  there-yes v l n = both (lt-ltb v vertices l) (not-yes _ (ne-eqb (vertexWord t v) nothing n))
 
   pub there-word : (v : ℕ) → there? t v ≡ true → (v < vertices) × (vertexWord t v ≢ nothing)
   unfolding there?
   there-word v e =
-      let p = and-both (ltb v vertices) (not (eqb (vertexWord t v) nothing)) e in
-      (ltb-true v vertices (p .0), eqb-false (vertexWord t v) nothing (not-no _ (p .1)))
+      (ltb-true v vertices (both-left (ltb v vertices) _ e), eqb-false (vertexWord t v) nothing (not-true _ (both-right (ltb v vertices) _ e)))
 
   pub alone-yes : (v : ℕ) → v < vertices → vertexWord t v ≡ isolated → alone? t v ≡ true
   unfolding alone?
-  alone-yes v l p = and-true (ltb v vertices) (eqb (vertexWord t v) isolated) (lt-ltb v vertices l) (eq-eqb (vertexWord t v) isolated p)
+  alone-yes v l p = both (lt-ltb v vertices l) (eq-eqb (vertexWord t v) isolated p)
 
   pub alone-word : (v : ℕ) → alone? t v ≡ true → (v < vertices) × (vertexWord t v ≡ isolated)
   unfolding alone?
   alone-word v e =
-      let p = and-both (ltb v vertices) (eqb (vertexWord t v) isolated) e in
-      (ltb-true v vertices (p .0), eqb-true (vertexWord t v) isolated (p .1))
+      (ltb-true v vertices (both-left (ltb v vertices) _ e), eqb-true (vertexWord t v) isolated (both-right (ltb v vertices) _ e))
 
   pub not-live : (d : ℕ) → (Live t d → ⊥) → live? t d ≡ false
   not-live d n = elim (live-case d) [
-      holds e l ↦ absurd (n l)
-    | fails e m ↦ e ]
+    | holds e l ↦ absurd (n l)
+    | fails e m ↦ e
+  ]
 
 -- what a Boolean that was seen tells
 pub case-yes : {b : Bool} {P : Type 0} → Case b P → b ≡ true → P

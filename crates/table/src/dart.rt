@@ -1,5 +1,11 @@
 // The rules that a dart's own words keep.
-use crate::layout::{DARTS, EDGE, EDGE_WORD_MAX, LEAVES, NOTHING, PREV, VERTICES};
+use crate::layout::DARTS;
+use crate::layout::EDGE;
+use crate::layout::EDGE_WORD_MAX;
+use crate::layout::LEAVES;
+use crate::layout::NOTHING;
+use crate::layout::PREV;
+use crate::layout::VERTICES;
 ghost use mathlib.Core.Path.{_≡_};
 ghost use Prim.Native.Nat.{_<_};
 ghost use lib.ListN.{length};

@@ -1,6 +1,6 @@
 // The words of a table: its layout, what a good table is and the check that answers it, the empty mesh, and the refusals.
-pub mod layout;
 pub mod answer;
 pub mod dart;
-
-
+pub mod layout;
+pub mod vertex;
+pub mod whole;

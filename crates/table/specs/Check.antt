@@ -1,26 +1,23 @@
 -- Whether a table is good is decided: `good?` is the Boolean, and it is true exactly if the table is good.
 -- Assumes nothing.
-use Prim.Native.Nat.{ℕ, zero, _≤_, _<_}
-use native.Mathlib.Omega.{arith}
+use Prim.Native.Nat.{ℕ, _≤_, _<_}
 use native.Mathlib.Nat.{lt-of-lt-of-le}
 use native.Mathlib.Decide.{ℕ-discrete, decLe, decLt, map-dec}
-use mathlib.Core.Path.{_≡_, refl, sym}
+use mathlib.Core.Path.{_≡_, refl}
 use mathlib.Core.Bool.{Bool, true, false, _&&_}
 use mathlib.Core.List.{List}
-use mathlib.Core.Logic.{_≢_, Dec·and, Dec·not}
+use mathlib.Core.Logic.{Dec·and, Dec·not}
 use lib.ListN.{length}
-use Rattle.orbits.specs.Truth.{First, first, found, none, clash}
+use Rattle.orbits.specs.Truth.{first, found, none}
 use Rattle.orbits.specs.Count.{count}
 use Rattle.orbits.specs.Iterate.{iter, period, period-le}
 use Rattle.orbits.specs.Reach.{reach-within}
-use Rattle.table.specs.Layout.{darts, vertices, words, nothing, isolated, nextWord, prevWord, leaves, edgeWord, vertexWord, edgeOf, Live}
+use Rattle.table.specs.Layout.{darts, vertices, words, nothing, isolated, nextWord, prevWord, leaves, edgeWord, vertexWord, edgeOf}
 use Rattle.table.specs.Good.{Good, Bare}
 use Rattle.table.specs.Rotation.{Case, holds, fails, live?, nextDart}
 use Rattle.table.specs.Darts.{Linked, DartRule, Ruled, rule-dead, rule-live, good-ruled}
 use Rattle.table.specs.Cycle.{next-inj}
 use Rattle.table.specs.Vertices.{Leads, VertexRule, led?, counted-good, good-counted}
-use Rattle.table.specs.declared.dart.Counted.{Counted}
-use Rattle.table.specs.declared.dart.Counted.the-variants.{Broken, Of}
 use Rattle.table.specs.declared.answer.Answer.{Answer}
 use Rattle.table.specs.declared.answer.Answer.the-variants.{Done, Declined}
 use Rattle.table.specs.declared.answer.Refusal.the-variants.{Torn}

@@ -4,17 +4,16 @@ use Prim.Native.Nat.{ℕ, zero, suc, _+_, _≤_, _<_}
 use native.Mathlib.Omega.{arith}
 use native.Mathlib.Nat.{lt-of-lt-of-le}
 use mathlib.Core.Path.{_≡_, refl, sym, _∙_, ap}
-use mathlib.Core.Bool.{Bool, true, false}
+use mathlib.Core.Bool.{true}
 use mathlib.Core.List.{List}
 use mathlib.Core.Logic.{_≢_}
 use native.Mathlib.Decide.{ℕ-discrete, decLt}
 use native.Mathlib.Numerals.{add-one}
-use Rattle.orbits.specs.Truth.{clash}
 use Rattle.orbits.specs.Count.{count, count-all, count-onto}
-use Rattle.orbits.specs.Iterate.{iter, iter-zero, iter-suc, Inj, iter-low, Period, period, period-le, period-apart}
-use Rattle.orbits.specs.Reach.{Reach, reaches, says-reach, reach-says, reach-within}
-use Rattle.table.specs.Layout.{darts, nothing, nextWord, prevWord, leaves, edgeWord, edgeOf, Live}
-use Rattle.table.specs.Rotation.{Case, holds, fails, live?, nextDart, prevDart, live-case, yes-live, live-yes, nextDart-live, prevDart-live, nextDart-dead, prevDart-dead}
+use Rattle.orbits.specs.Iterate.{iter, iter-suc, Inj, iter-low, Period, period, period-le, period-apart}
+use Rattle.orbits.specs.Reach.{reaches, says-reach, reach-says, reach-within}
+use Rattle.table.specs.Layout.{darts, nextWord, prevWord, leaves, Live}
+use Rattle.table.specs.Rotation.{Case, holds, fails, live?, nextDart, prevDart, live-case, yes-live, nextDart-live, prevDart-live, nextDart-dead, prevDart-dead}
 use Rattle.table.specs.Darts.{Ruled}
 
 module _ (t : List ℕ) (r : Ruled t darts) where

@@ -5,12 +5,11 @@ use native.Mathlib.Decide.{ℕ-discrete}
 use native.Mathlib.Numerals.{add-one}
 use mathlib.Core.Bool.{true, false}
 use native.Mathlib.Omega.{arith}
-use mathlib.Core.Path.{_≡_, refl, sym, _∙_, ap, subst}
+use mathlib.Core.Path.{_≡_, refl, ap}
 use mathlib.Core.List.{List}
 use mathlib.Core.Logic.{_≢_}
-use lib.ListN.{length}
 use Rattle.orbits.specs.Count.{count, count-le}
-use Rattle.table.specs.Layout.{vertices, edges, darts, words, nothing, isolated, nextWord, prevWord, leaves, edgeWord, vertexWord, edgeOf, Live}
+use Rattle.table.specs.Layout.{vertices, darts, words, nextWord, prevWord, leaves, edgeWord, edgeOf, Live}
 use Rattle.table.specs.Good.{Good, Bare}
 use Rattle.table.specs.Rotation.{live?, yes-live, not-live}
 use Rattle.table.specs.Counting.{Counts, counts, breaks}

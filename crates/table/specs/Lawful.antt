@@ -1,19 +1,15 @@
 -- The rotation system of a good table is lawful.
 -- Assumes nothing.
-use Prim.Native.Nat.{ℕ, zero, suc, _+_, _-_, _*_, _/_, _%_, _≤_, _<_}
+use Prim.Native.Nat.{ℕ, _<_}
 use native.Mathlib.Omega.{arith}
-use mathlib.Core.Path.{_≡_, refl, sym, _∙_, ap, subst}
-use mathlib.Core.Bool.{Bool, true, false, _&&_, not}
+use mathlib.Core.Path.{_≡_, sym, _∙_}
 use mathlib.Core.List.{List}
-use mathlib.Core.Logic.{_≢_}
-use lib.Dec.{ltb, eqb}
-use borrow.Author.Tests.{ltb-true, eqb-true, eqb-false, lt-ltb, eq-eqb, ne-eqb}
 use Rattle.orbits.specs.Truth.{clash}
-use Rattle.table.specs.Layout.{vertices, darts, nothing, isolated, nextWord, prevWord, leaves, edgeWord, vertexWord, edgeOf, rev, Live}
-use Rattle.table.specs.Good.{Good, Bare, Smallest}
+use Rattle.table.specs.Layout.{darts, nothing, isolated, leaves, vertexWord, edgeOf, rev, Live}
+use Rattle.table.specs.Good.{Good}
 use Rattle.table.specs.Darts.{Ruled, good-ruled}
 use Rattle.table.specs.Cycle.{prev-next, next-prev, live-next, leaves-next, iter-word}
-use Rattle.table.specs.Rotation.{Rotation, Lawful, live?, nextDart, prevDart, turnsOf, there?, alone?, rotation, Case, holds, fails, live-yes, yes-live, live-case, same-case, there-yes, there-word, alone-yes, alone-word, nextDart-live, prevDart-live, nextDart-dead, prevDart-dead}
+use Rattle.table.specs.Rotation.{Lawful, turnsOf, rotation, live-yes, yes-live, live-case, same-case, there-yes, there-word, alone-yes, alone-word, nextDart-dead}
 
 -- the reverse of a dart is the edge's other dart
 pub rev-edge : (d : ℕ) → edgeOf (rev d) ≡ edgeOf d

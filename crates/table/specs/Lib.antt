@@ -8,3 +8,4 @@ pub mod Darts
 pub mod Cycle
 pub mod Vertices
 pub mod Check
+pub mod Empty

@@ -1,19 +1,16 @@
 -- A rotation system, with no words in it: tracing, surgery and surfaces are stated over it. `rotation t` reads one off a table, and a good table's is lawful.
 -- A dart that is not live is its own next and its own previous, so that the laws hold for every number.
 -- Assumes nothing.
-use Prim.Native.Nat.{ℕ, zero, suc, _<_}
-use native.Mathlib.Omega.{arith}
-use mathlib.Core.Path.{_≡_, refl, sym, _∙_, ap, subst}
+use Prim.Native.Nat.{ℕ, _<_}
+use mathlib.Core.Path.{_≡_, refl, sym, _∙_}
 use mathlib.Core.Bool.{Bool, true, false, _&&_, not}
 use mathlib.Core.List.{List}
 use mathlib.Core.Logic.{_≢_}
 use lib.Dec.{ltb, eqb}
 use borrow.Author.Tests.{ltb-true, eqb-true, eqb-false, lt-ltb, eq-eqb, ne-eqb, not-true}
-use Rattle.orbits.specs.Iterate.{iter}
 use Rattle.orbits.specs.Truth.{clash, both, both-left, both-right}
 use Rattle.orbits.specs.Reach.{Reach}
 use Rattle.table.specs.Layout.{vertices, darts, nothing, isolated, nextWord, prevWord, leaves, edgeWord, vertexWord, edgeOf, rev, Live}
-use Rattle.table.specs.Good.{Good, Bare, Smallest}
 
 pub record Rotation : Type 0 where
   -- is the dart live

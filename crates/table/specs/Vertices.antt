@@ -2,7 +2,6 @@
 -- Assumes nothing.
 use Prim.Native.Nat.{ℕ, zero, suc, _+_, _*_, _/_, _≤_, _<_}
 use native.Mathlib.Omega.{arith}
-use native.Mathlib.Nat.{add-zero}
 use mathlib.Core.Path.{_≡_, refl, sym, _∙_, ap}
 use mathlib.Core.Bool.{Bool, true, false, not, _&&_, _||_}
 use mathlib.Core.List.{List}
@@ -11,13 +10,12 @@ use lib.ListN.{length}
 use lib.Dec.{eqb, ltb}
 use borrow.Author.Tests.{eqb-true, eq-eqb, ne-eqb, ltb-true, lt-ltb, le-ltb}
 use native.Mathlib.Decide.{ℕ-discrete, decLt}
-use native.Mathlib.Numerals.{add-one}
 use Rattle.orbits.specs.Truth.{clash, both, both-left, both-right, same-truth, false-unless, truth, holds, fails}
 use Rattle.orbits.specs.Count.{count, count-same, count-none, count-split, count-part, none-counted, count-le}
-use Rattle.orbits.specs.Iterate.{iter, iter-suc, Period, period, period-le}
+use Rattle.orbits.specs.Iterate.{iter, Period}
 use Rattle.orbits.specs.Reach.{Reach, reaches, says-reach, reach-says, reach-sym, reach-trans}
-use Rattle.table.specs.Layout.{darts, vertices, words, nothing, isolated, nextWord, prevWord, leaves, edgeWord, vertexWord, edgeOf, Live}
-use Rattle.table.specs.Good.{Good, Smallest}
+use Rattle.table.specs.Layout.{darts, vertices, words, nothing, isolated, leaves, vertexWord, Live}
+use Rattle.table.specs.Good.{Good}
 use Rattle.table.specs.Rotation.{live?, nextDart, yes-live, live-yes, not-live, nextDart-dead}
 use Rattle.table.specs.Darts.{Ruled}
 use Rattle.table.specs.Cycle.{CycleSays, leads, follows, next-live, prev-live, next-inj, iter-live, iter-leaves, iter-word, orbit-size}

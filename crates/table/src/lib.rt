@@ -4,3 +4,4 @@ pub mod dart;
 pub mod layout;
 pub mod vertex;
 pub mod whole;
+pub mod empty;

@@ -1,127 +1,95 @@
-use Prim.Native.Nat.{_+_}
-use mathlib.Core.Path.{refl, _∙_}
+use mathlib.Core.Path.{refl}
 use native.Mathlib.Omega.{arith}
 use Rattle.table.specs.Rotation.{holds, fails}
 use mir.Facts.{fits-16-64}
 use borrow.Author.Needs.{needs}
 use Rattle.table.proofs.dart.is_linked.Statement.{statement}
 use Rattle.table.proofs.dart.is_linked.Tie as tie
-use Rattle.table.proofs.dart.is_linked.Reads as reads
-use Rattle.table.proofs.dart.is_linked.Lts as lts
 
--- src/dart.rt:39:15
 add-v : tie.Need-add-v
 add-v c = search needs
 
--- src/dart.rt:39:13
 mul-v : tie.Need-mul-v
 mul-v c = search needs
 
--- src/dart.rt:39:13
 shared-slice-read-v : tie.Need-shared-slice-read-v
 shared-slice-read-v c = search needs
 
--- src/dart.rt:39:13
 cast-v : tie.Need-cast-v
 cast-v c = fits-16-64 (c .shared-slice-known .given _)
 
--- src/dart.rt:41:9
 returns : tie.Need-returns
 returns c = fails refl (λ l. omega (arith, l .at))
 
--- src/dart.rt:43:13
 mul-n : tie.Need-mul-n
 mul-n c = search needs
 
--- src/dart.rt:43:13
 shared-slice-read-n : tie.Need-shared-slice-read-n
 shared-slice-read-n c = search needs
 
--- src/dart.rt:43:13
 cast-n : tie.Need-cast-n
 cast-n c = fits-16-64 (c .shared-slice-known2 .given _)
 
--- src/dart.rt:45:9
 returns-2 : tie.Need-returns-2
 returns-2 c = fails refl (λ l. omega (arith, l .next-low))
 
--- src/dart.rt:47:10
 add-if3 : tie.Need-add-if3
 add-if3 c = search needs
 
--- src/dart.rt:47:8
 mul-if3 : tie.Need-mul-if3
 mul-if3 c = search needs
 
--- src/dart.rt:47:8
 shared-slice-read-if3 : tie.Need-shared-slice-read-if3
 shared-slice-read-if3 c = search needs
 
--- src/dart.rt:47:8
 cast-if3 : tie.Need-cast-if3
 cast-if3 c = fits-16-64 (c .shared-slice-known3 .given _)
 
--- src/dart.rt:48:9
 returns-3 : tie.Need-returns-3
 returns-3 c = fails refl (λ l. c .if3 .taken (l .prev-next))
 
--- src/dart.rt:50:10
 add-if4 : tie.Need-add-if4
 add-if4 c = search needs
 
--- src/dart.rt:50:8
 mul-if4 : tie.Need-mul-if4
 mul-if4 c = search needs
 
--- src/dart.rt:50:8
 shared-slice-read-if4 : tie.Need-shared-slice-read-if4
 shared-slice-read-if4 c = search needs
 
--- src/dart.rt:50:8
 cast-if4 : tie.Need-cast-if4
 cast-if4 c = fits-16-64 (c .shared-slice-known4 .given _)
 
--- src/dart.rt:51:9
 returns-4 : tie.Need-returns-4
 returns-4 c = fails refl (λ l. c .if4 .taken (l .next-leaves))
 
--- src/dart.rt:53:15
 add-p : tie.Need-add-p
 add-p c = search needs
 
--- src/dart.rt:53:13
 mul-p : tie.Need-mul-p
 mul-p c = search needs
 
--- src/dart.rt:53:13
 shared-slice-read-p : tie.Need-shared-slice-read-p
 shared-slice-read-p c = search needs
 
--- src/dart.rt:53:13
 cast-p : tie.Need-cast-p
 cast-p c = fits-16-64 (c .shared-slice-known5 .given _)
 
--- src/dart.rt:55:9
 returns-5 : tie.Need-returns-5
 returns-5 c = fails refl (λ l. omega (arith, l .prev-low))
 
--- src/dart.rt:57:8
 mul-if6 : tie.Need-mul-if6
 mul-if6 c = search needs
 
--- src/dart.rt:57:8
 shared-slice-read-if6 : tie.Need-shared-slice-read-if6
 shared-slice-read-if6 c = search needs
 
--- src/dart.rt:57:8
 cast-if6 : tie.Need-cast-if6
 cast-if6 c = fits-16-64 (c .shared-slice-known6 .given _)
 
--- src/dart.rt:58:9
 returns-6 : tie.Need-returns-6
 returns-6 c = fails refl (λ l. c .if6 .taken (l .next-prev))
 
--- src/dart.rt:35:1
 returns-7 : tie.Need-returns-7
 returns-7 c = holds refl (record { at = omega arith; next-low = omega arith; prev-next = c .before .before .before .before .before .before .if3 .left; next-leaves = c .before .before .before .before .if4 .left; prev-low = omega arith; next-prev = c .if6 .left })
 

@@ -5,29 +5,20 @@ use mathlib.Core.Path.{refl, sym, _∙_}
 use borrow.Author.Needs.{needs}
 use Rattle.table.proofs.dart.keeps_rule.Statement.{statement}
 use Rattle.table.proofs.dart.keeps_rule.Tie as tie
-use Rattle.table.proofs.dart.keeps_rule.Reads as reads
-use Rattle.table.proofs.dart.keeps_rule.Lts as lts
-use Rattle.table.proofs.dart.is_bare.Reads as is-bare-reads
-use Rattle.table.proofs.dart.is_linked.Reads as is-linked-reads
 
--- src/dart.rt:69:9
 is-bare-requires : tie.Need-is-bare-requires
 is-bare-requires c κs = search needs
 
--- src/dart.rt:69:9
 returns : tie.Need-returns
 returns c = let off = sym (c .before .before .before .pre .2) ∙ c .before .if1 .taken in
     case-map (rule-dead _ _ off) (λ r. r .bare off) (c .is-bare .ensures)
 
--- src/dart.rt:72:9
 returns-2 : tie.Need-returns-2
 returns-2 c = fails refl (λ r. omega (arith, r .turns, c .before .before .before .pre .2, c .if2 .taken))
 
--- src/dart.rt:74:5
 is-linked-requires : tie.Need-is-linked-requires
 is-linked-requires c κs = search needs
 
--- src/dart.rt:64:1
 returns-3 : tie.Need-returns-3
 returns-3 c = let same = c .before .before .before .before .pre .2 in
     let on = c .before .before .if1 .left in

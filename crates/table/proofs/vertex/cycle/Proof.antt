@@ -5,8 +5,6 @@ use native.Mathlib.Omega.{arith}
 use Prim.Native.Nat.{_-_}
 use Rattle.table.proofs.vertex.cycle.Statement.{statement}
 use Rattle.table.proofs.vertex.cycle.Tie as tie
-use Rattle.table.proofs.vertex.cycle.Reads as reads
-use Rattle.table.proofs.vertex.cycle.Lts as lts
 
 abbrev Inv-loop : tie.InvT-loop
 Inv-loop t w d₀ n₀ d n = Round t w n d
@@ -14,51 +12,39 @@ Inv-loop t w d₀ n₀ d n = Round t w n d
 abbrev μ-loop : tie.MeasureT-loop
 μ-loop t w d₀ n₀ d n = darts - n
 
--- src/vertex.rt:18:17
 mul-d : tie.Need-mul-d Inv-loop μ-loop
 mul-d c = omega (arith, c .pre .2 .low)
 
--- src/vertex.rt:18:17
 shared-slice-read-d : tie.Need-shared-slice-read-d Inv-loop μ-loop
 shared-slice-read-d c = omega (arith, c .before .pre .0, c .before .pre .2 .low)
 
--- src/vertex.rt:18:17
 cast-d : tie.Need-cast-d Inv-loop μ-loop
 cast-d c = fits-16-64 (c .shared-slice-known .given _)
 
--- src/vertex.rt:20:5
 loop-holds : tie.Need-loop-holds Inv-loop μ-loop
 loop-holds c = round-none _ (c .before .pre .1) _ (c .before .pre .2)
 
--- src/vertex.rt:22:13
 returns : tie.Need-returns Inv-loop μ-loop
 returns c = round-lower _ (c .before .before .before .before .pre .1) _ (c .before .before .before .before .pre .2) _ _ (c .before .before .loop .inv) (c .if1 .taken)
 
--- src/vertex.rt:24:13
 mul-d-2 : tie.Need-mul-d-2 Inv-loop μ-loop
 mul-d-2 c = omega (arith, c .before .before .loop .inv .live .low)
 
--- src/vertex.rt:24:13
 shared-slice-read-d-2 : tie.Need-shared-slice-read-d-2 Inv-loop μ-loop
 shared-slice-read-d-2 c = omega (arith, c .before .before .before .before .before .pre .0, c .before .before .before .loop .inv .live .low)
 
--- src/vertex.rt:24:13
 cast-d-2 : tie.Need-cast-d-2 Inv-loop μ-loop
 cast-d-2 c = fits-16-64 (c .shared-slice-known2 .given _)
 
--- src/vertex.rt:25:9
 add-n : tie.Need-add-n Inv-loop μ-loop
 add-n c = let h = round-short _ (c .before .before .before .before .before .pre .1) _ (c .before .before .before .before .before .pre .2) _ _ (c .before .before .before .loop .inv) (c .before .before .loop-test .taken) in omega (arith, h)
 
--- src/vertex.rt:20:5
 loop-less : tie.Need-loop-less Inv-loop μ-loop
 loop-less c = let h = round-short _ (c .before .before .before .before .before .pre .1) _ (c .before .before .before .before .before .pre .2) _ _ (c .before .before .before .loop .inv) (c .before .before .loop-test .taken) in omega (arith, h)
 
--- src/vertex.rt:20:5
 loop-again : tie.Need-loop-again Inv-loop μ-loop
 loop-again c = round-more _ (c .before .before .before .before .before .pre .1) _ (c .before .before .before .before .before .pre .2) _ _ (c .before .before .before .loop .inv) (c .before .before .loop-test .taken) (c .before .if1 .left)
 
--- src/vertex.rt:14:1
 returns-2 : tie.Need-returns-2 Inv-loop μ-loop
 returns-2 c = round-all _ (c .before .before .before .pre .1) _ (c .before .before .before .pre .2) _ _ (c .before .loop .inv) (c .loop-test .left)
 

@@ -4,67 +4,49 @@ use native.Mathlib.Omega.{arith}
 use borrow.Author.Needs.{needs}
 use Rattle.table.proofs.vertex.led_darts.Statement.{statement}
 use Rattle.table.proofs.vertex.led_darts.Tie as tie
-use Rattle.table.proofs.vertex.led_darts.Reads as reads
-use Rattle.table.proofs.vertex.led_darts.Lts as lts
-use Rattle.table.proofs.vertex.cycle.Reads as cycle-reads
 
--- src/vertex.rt:35:18
 add-word : tie.Need-add-word
 add-word c = search needs
 
--- src/vertex.rt:35:16
 mul-word : tie.Need-mul-word
 mul-word c = search needs
 
--- src/vertex.rt:35:16
 shared-slice-read-word : tie.Need-shared-slice-read-word
 shared-slice-read-word c = search needs
 
--- src/vertex.rt:37:9
 returns : tie.Need-returns
 returns c = vertex-none _ (c .before .before .before .pre .1) _ (c .if1 .taken)
 
--- src/vertex.rt:40:9
 returns-2 : tie.Need-returns-2
 returns-2 c = vertex-alone _ (c .before .before .before .before .pre .1) _ (c .if2 .taken)
 
--- src/vertex.rt:42:13
 cast-w : tie.Need-cast-w
 cast-w c = fits-16-64 (c .before .before .shared-slice-known2 .given _)
 
--- src/vertex.rt:44:9
 returns-3 : tie.Need-returns-3
 returns-3 c = vertex-astray _ (c .before .before .before .before .before .pre .1) _ (c .before .before .if1 .left) (c .before .if2 .left) (λ a. let low = a .live .low in omega arith)
 
--- src/vertex.rt:46:10
 add-if4 : tie.Need-add-if4
 add-if4 c = search needs
 
--- src/vertex.rt:46:8
 mul-if4 : tie.Need-mul-if4
 mul-if4 c = search needs
 
--- src/vertex.rt:46:8
 shared-slice-read-if4 : tie.Need-shared-slice-read-if4
 shared-slice-read-if4 c = search needs
 
--- src/vertex.rt:46:8
 cast-if4 : tie.Need-cast-if4
 cast-if4 c = fits-16-64 (c .shared-slice-known3 .given _)
 
--- src/vertex.rt:47:9
 returns-4 : tie.Need-returns-4
 returns-4 c = vertex-astray _ (c .before .before .before .before .before .before .before .pre .1) _ (c .before .before .before .before .if1 .left) (c .before .before .before .if2 .left) (λ a. c .if4 .taken (a .here))
 
--- src/vertex.rt:49:9
 cycle-requires : tie.Need-cycle-requires
 cycle-requires c κs = (c .before .before .before .before .before .before .before .pre .0, c .before .before .before .before .before .before .before .pre .1, leaving-live _ (c .before .before .before .before .before .before .before .pre .1) _ (c .before .before .before .before .before .before .before .pre .2) _ (c .before .before .if3 .left) (c .if4 .left))
 
--- src/vertex.rt:51:9
 returns-5 : tie.Need-returns-5
 returns-5 c = vertex-astray _ (c .before .before .before .before .before .before .before .before .before .pre .1) _ (c .before .before .before .before .before .before .if1 .left) (c .before .before .before .before .before .if2 .left) (vertex-follows _ (c .before .before .before .before .before .before .before .before .before .pre .1) _ _ (c .before .cycle .ensures) (c .if5 .taken))
 
--- src/vertex.rt:31:1
 returns-6 : tie.Need-returns-6
 returns-6 c = vertex-leads _ (c .before .before .before .before .before .before .before .before .before .pre .1) _ (c .before .before .before .before .before .before .before .before .before .pre .2) (c .before .before .before .before .if3 .left) (c .before .before .if4 .left) _ (c .before .cycle .ensures) (c .if5 .left)
 

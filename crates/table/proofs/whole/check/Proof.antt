@@ -6,55 +6,40 @@ use mathlib.Core.Path.{_∙_, sym}
 use borrow.Author.Needs.{needs}
 use Rattle.table.proofs.whole.check.Statement.{statement}
 use Rattle.table.proofs.whole.check.Tie as tie
-use Rattle.table.proofs.whole.check.Reads as reads
-use Rattle.table.proofs.whole.check.Lts as lts
-use Rattle.table.proofs.dart.live_darts.Reads as live-darts-reads
-use Rattle.table.proofs.vertex.all_led_darts.Reads as all-led-darts-reads
 
--- src/whole.rt:14:9
 returns : tie.Need-returns
 returns c = check-torn _ (λ g. c .if1 .taken (g .size))
 
--- src/whole.rt:16:29
 live-darts-requires : tie.Need-live-darts-requires
 live-darts-requires c κs = search needs
 
--- src/whole.rt:16:21
 enum-known-live : tie.Need-enum-known-live
 enum-known-live c = search needs
 
--- src/whole.rt:17:33
 enum-told : tie.Need-enum-told
 enum-told c = search needs
 
--- src/whole.rt:17:9
 returns-2 : tie.Need-returns-2
 returns-2 c = check-torn _ (λ g. counts-broken (c .before .before .live-darts .ensures) (c .enum-told .given .1) (good-ruled _ g))
 
--- src/whole.rt:19:28
 all-led-darts-requires : tie.Need-all-led-darts-requires
 all-led-darts-requires c κs = (c .before .before .before .before .if1 .left, counts-of _ (c .before .before .before .live-darts .ensures) (c .before .live .given .1) .1)
 
--- src/whole.rt:19:21
 enum-known-led : tie.Need-enum-known-led
 enum-known-led c = search needs
 
--- src/whole.rt:20:33
 enum-told-2 : tie.Need-enum-told-2
 enum-told-2 c = search needs
 
--- src/whole.rt:20:9
 returns-3 : tie.Need-returns-3
 returns-3 c = let r = counts-of _ (c .before .before .before .before .before .before .live-darts .ensures) (c .before .before .before .before .live .given .1) .1 in
     check-torn _ (λ g. counts-broken (c .before .before .all-led-darts .ensures) (c .enum-told2 .given .1) (good-counted _ (c .before .before .before .before .before .before .before .if1 .left) r g .0))
 
--- src/whole.rt:23:9
 returns-4 : tie.Need-returns-4
 returns-4 c = let live = counts-of _ (c .before .before .before .before .before .before .before .before .live-darts .ensures) (c .before .before .before .before .before .before .live .given .1) in
     let led = counts-of _ (c .before .before .before .before .all-led-darts .ensures) (c .before .before .led .given .1) in
     check-torn _ (λ g. c .if2 .taken (led .0 ∙ good-counted _ (c .before .before .before .before .before .before .before .before .before .if1 .left) (live .1) g .1 ∙ sym (live .0)))
 
--- src/whole.rt:10:1
 returns-5 : tie.Need-returns-5
 returns-5 c = let live = counts-of _ (c .before .before .before .before .before .before .before .before .live-darts .ensures) (c .before .before .before .before .before .before .live .given .1) in
     let led = counts-of _ (c .before .before .before .before .all-led-darts .ensures) (c .before .before .led .given .1) in

@@ -2,7 +2,7 @@
 
 use crate::length::{edge_length, lengths_are_there};
 use crate::refusal::Refusal;
-use crate::trace::{named_step, step_after, Step};
+use crate::trace::{named_step, named_steps, step_after, Step};
 use crate::weave::{step_letters, Letter};
 
 /// "steps, overs, unders, length", each of 32 bits.
@@ -48,22 +48,11 @@ impl<'a> Reader<'a> {
 /// the table since. "Every step declines as the making of the reader would"; then 7, then 9 "for its own edge's length
 /// alone, which a step tests before 6".
 pub fn read_step(table: &[u16], start: Step, at: Step, lengths: &[u32], tally: &mut Tally) -> Result<Read, Refusal> {
-    named_steps(table, start, at)?;
+    named_steps(table, &[start, at].map(|s| (s.dart, s.t as u16)))?;
     lengths_are_there(lengths)?;
     let length = edge_length(lengths, at.edge())?;
     *tally = brought_forward(*tally, &step_letters(table, at), length).ok_or(Refusal::Overturned)?;
     Ok(Read { step: at, ends: step_after(table, at) == start })
-}
-
-/// Both steps are named to the call: 2 for either goes before 4 for either.
-fn named_steps(table: &[u16], start: Step, at: Step) -> Result<(), Refusal> {
-    let verdicts = [start, at].map(|s| named_step(table, s.dart, s.t as u16).err());
-    for refusal in [Refusal::Torn, Refusal::NoSuchName, Refusal::Absent] {
-        if verdicts.contains(&Some(refusal)) {
-            return Err(refusal);
-        }
-    }
-    Ok(())
 }
 
 /// The tally with one step more, if no field passes 32 bits.

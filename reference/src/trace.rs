@@ -26,12 +26,18 @@ impl Step {
     }
 }
 
-/// The step that a caller names: torn, then past its range, then not there. All calls on one ribbon begin so.
+/// The step that a caller names. All calls on one ribbon begin so.
 pub fn named_step(table: &[u16], dart: u16, t: u16) -> Result<Step, Refusal> {
-    check(table)?;
-    decline_if(dart as usize >= DARTS || t > 1, Refusal::NoSuchName)?;
-    decline_if(!dart_is_live(table, dart), Refusal::Absent)?;
+    named_steps(table, &[(dart, t)])?;
     Ok(step(dart, t as u8))
+}
+
+/// Torn, then a name past its range or a type above 1, then a dart that is not there. Where several steps are named,
+/// 2 for any of them goes before 4 for any.
+pub fn named_steps(table: &[u16], named: &[(u16, u16)]) -> Result<(), Refusal> {
+    check(table)?;
+    decline_if(named.iter().any(|&(dart, t)| dart as usize >= DARTS || t > 1), Refusal::NoSuchName)?;
+    decline_if(named.iter().any(|&(dart, _)| !dart_is_live(table, dart)), Refusal::Absent)
 }
 
 /// "let t' be t plus the turns of d's edge, mod 2; go to the next dart after the reverse of d if t' is 0, to the one

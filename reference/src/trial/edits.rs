@@ -24,36 +24,42 @@ pub const WINDOWS: [Window; 5] = [
 pub fn random_edit(random: &mut Random, table: &[u16], window: Window, growth: usize) -> Edit {
     let insertions = 25 + 5 * growth;
     match random.below(100 + insertions) {
-        0..=14 => Edit::AddVertex { v: random_vertex(random, window) },
-        15..=22 => Edit::RemoveVertex { v: random_vertex(random, window) },
-        23..=64 => Edit::TurnEdge { e: random_edge(random, window), amount: random_turns(random) },
-        65..=99 => Edit::DeleteEdge { e: random_edge(random, window) },
+        0..=14 => Edit::AddVertex { v: random_vertex(random, window, |v| !vertex_is_live(table, v)) },
+        15..=22 => Edit::RemoveVertex { v: random_vertex(random, window, |v| vertex_is_isolated(table, v)) },
+        23..=64 => Edit::TurnEdge { e: random_live_edge(random, table, window), amount: random_turns(random) },
+        65..=99 => Edit::DeleteEdge { e: random_live_edge(random, table, window) },
         _ => random_insertion(random, table, window),
     }
 }
 
 fn random_insertion(random: &mut Random, table: &[u16], window: Window) -> Edit {
+    let e = random_name(random, window.edges, EDGES, |e| !edge_is_live(table, e));
     let c1 = random_corner(random, table, window);
     let c2 = if random.once_in(4) { c1 } else { random_corner(random, table, window) };
-    Edit::InsertEdge { e: random_edge(random, window), c1, c2, k: random_turns(random) }
+    Edit::InsertEdge { e, c1, c2, k: random_turns(random) }
 }
 
-pub fn random_vertex(random: &mut Random, window: Window) -> u16 {
-    random_name(random, window.vertices, VERTICES)
+fn random_vertex(random: &mut Random, window: Window, right: impl Fn(Vertex) -> bool) -> u16 {
+    random_name(random, window.vertices, VERTICES, right)
 }
 
-pub fn random_edge(random: &mut Random, window: Window) -> u16 {
-    random_name(random, window.edges, EDGES)
+fn random_live_edge(random: &mut Random, table: &[u16], window: Window) -> u16 {
+    random_name(random, window.edges, EDGES, |e| edge_is_live(table, e))
 }
 
-/// A name below `most`; once in fifty anything else: the ends of the range and past it.
-fn random_name(random: &mut Random, most: usize, range: usize) -> u16 {
-    if !random.once_in(50) {
-        return random.below(most) as u16;
+/// A name in the window, mostly one that is right; once in fifty anything: the ends of the range and past it.
+fn random_name(random: &mut Random, window: usize, range: usize, right: impl Fn(u16) -> bool) -> u16 {
+    if random.once_in(50) {
+        let past = range as u16;
+        let word = random.word();
+        return random.pick(&[0, past - 1, past, past + 1, 32_767, 32_768, 65_534, 65_535, word]);
     }
-    let past = range as u16;
-    let word = random.word();
-    random.pick(&[0, past - 1, past, past + 1, 32_767, 32_768, 65_534, 65_535, word])
+    let names: Vec<u16> = (0..window as u16).filter(|&name| right(name)).collect();
+    if names.is_empty() || random.once_in(6) {
+        random.below(window) as u16
+    } else {
+        random.pick(&names)
+    }
 }
 
 /// Turns or an amount of turns: mostly small, at times at the limits and past them.

@@ -54,7 +54,7 @@ fn reading_goes_on_after_a_declined_edit() {
 
 #[test]
 fn words_are_high_byte_first_and_turns_in_twos_complement() {
-    // A loop of turns -2: two walks of one step, both mixed hands the same; then an amount of -97 and one of -1.
+    // A loop of turns -2 has two walks of one step, under and then over; then an amount of -97 and one of -1.
     let loop_of_minus_2 = b"AV\0\0IE\x01\x02\x80\0\x80\0\xff\xfe";
     let output = "mesh 1 1 2 1 2\npart 0 2 o\nwalk 0 1 516/0:UO\nwalk 1 1 517/0:UO\nweave plain\n";
     assert_eq!(job(loop_of_minus_2), output);

@@ -53,7 +53,7 @@ fn all_of(point: Space) -> Vec<Space> {
     let mut points: Vec<Space> = Vec::new();
     for signs in 0..8 {
         for shift in 0..3 {
-            let mut p = [0, 1, 2].map(|i| if signs >> i & 1 == 1 { -point[i] } else { point[i] }.abs_zero());
+            let mut p = [0, 1, 2].map(|i| if signs >> i & 1 == 1 { -point[i] } else { point[i] });
             p.rotate_left(shift);
             if !points.contains(&p) {
                 points.push(p);
@@ -61,17 +61,6 @@ fn all_of(point: Space) -> Vec<Space> {
         }
     }
     points
-}
-
-trait AbsZero {
-    fn abs_zero(self) -> f64;
-}
-
-impl AbsZero for f64 {
-    /// The same number, with no sign on zero.
-    fn abs_zero(self) -> f64 {
-        self + 0.0
-    }
 }
 
 fn golden() -> f64 {

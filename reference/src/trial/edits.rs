@@ -47,9 +47,9 @@ fn random_live_edge(random: &mut Random, table: &[u16], window: Window) -> u16 {
     random_name(random, window.edges, EDGES, |e| edge_is_live(table, e))
 }
 
-/// A name in the window, mostly one that is right; once in fifty anything: the ends of the range and past it.
+/// A name in the window, mostly one that is right; once in thirty anything: the ends of the range and past it.
 fn random_name(random: &mut Random, window: usize, range: usize, right: impl Fn(u16) -> bool) -> u16 {
-    if random.once_in(50) {
+    if random.once_in(30) {
         let past = range as u16;
         let word = random.word();
         return random.pick(&[0, past - 1, past, past + 1, 32_767, 32_768, 65_534, 65_535, word]);

@@ -76,14 +76,16 @@ empty-size = size edgeAt edges vertices
 
 pub empty-word : (i : ℕ) → i < words → getD emptyTable i 0 ≡ emptyWord i
 empty-word i h = elim (decLt i edgeAt) [
-    | yes l ↦ rw (lt-ltb i edgeAt l) (empty-dart i l)
-    | no l ↦ elim (decLt i vertexAt) [
-      | yes m ↦
-          let s : i ≡ edgeAt + (i - edgeAt) = omega arith in
-          rw (le-ltb i edgeAt (omega arith), lt-ltb i vertexAt m) (ap (λ k. getD emptyTable k 0) s ∙ empty-edge (i - edgeAt) (omega arith))
-      | no m ↦
-          let s : i ≡ vertexAt + (i - vertexAt) = omega arith in
-          rw (le-ltb i edgeAt (omega arith), le-ltb i vertexAt (omega arith)) (ap (λ k. getD emptyTable k 0) s ∙ empty-vertex (i - vertexAt) (omega arith)) ] ]
+  | yes l ↦ rw (lt-ltb i edgeAt l) (empty-dart i l)
+  | no l ↦ elim (decLt i vertexAt) [
+    | yes m ↦
+        let s : i ≡ edgeAt + (i - edgeAt) = omega arith in
+        rw (le-ltb i edgeAt (omega arith), lt-ltb i vertexAt m) (ap (λ k. getD emptyTable k 0) s ∙ empty-edge (i - edgeAt) (omega arith))
+    | no m ↦
+        let s : i ≡ vertexAt + (i - vertexAt) = omega arith in
+        rw (le-ltb i edgeAt (omega arith), le-ltb i vertexAt (omega arith)) (ap (λ k. getD emptyTable k 0) s ∙ empty-vertex (i - vertexAt) (omega arith))
+  ]
+]
 
 -- no dart is live
 empty-dead : (d : ℕ) → Live emptyTable d → ⊥
@@ -91,22 +93,24 @@ empty-dead d l = let low = l .low in l .on (empty-edge (edgeOf d) (omega arith))
 
 pub empty-good : Good emptyTable
 empty-good = record {
-    size = empty-size;
-    turns = λ e h. rw (empty-edge e h) (omega arith);
-    bare = λ d h _. record {
-      next-none = empty-dart d (omega arith);
-      prev-none = empty-dart _ (omega arith);
-      leaves-none = empty-dart _ (omega arith) };
-    leaves-low = λ d l. absurd (empty-dead d l);
-    leaves-live = λ d l. absurd (empty-dead d l);
-    next-live = λ d l. absurd (empty-dead d l);
-    prev-live = λ d l. absurd (empty-dead d l);
-    prev-next = λ d l. absurd (empty-dead d l);
-    next-prev = λ d l. absurd (empty-dead d l);
-    next-leaves = λ d l. absurd (empty-dead d l);
-    one-cycle = λ d d′ l. absurd (empty-dead d l);
-    alone = λ v h i d l. absurd (empty-dead d l);
-    smallest = λ v h n. absurd (n (empty-vertex v h)) }
+  size = empty-size;
+  turns = λ e h. rw (empty-edge e h) (omega arith);
+  bare = λ d h _. record {
+    next-none = empty-dart d (omega arith);
+    prev-none = empty-dart _ (omega arith);
+    leaves-none = empty-dart _ (omega arith);
+  };
+  leaves-low = λ d l. absurd (empty-dead d l);
+  leaves-live = λ d l. absurd (empty-dead d l);
+  next-live = λ d l. absurd (empty-dead d l);
+  prev-live = λ d l. absurd (empty-dead d l);
+  prev-next = λ d l. absurd (empty-dead d l);
+  next-prev = λ d l. absurd (empty-dead d l);
+  next-leaves = λ d l. absurd (empty-dead d l);
+  one-cycle = λ d d′ l. absurd (empty-dead d l);
+  alone = λ v h i d l. absurd (empty-dead d l);
+  smallest = λ v h n. absurd (n (empty-vertex v h));
+}
 
 -- The loop that fills: the words below i are the empty mesh's.
 pub record Filled (t : List ℕ) (i : ℕ) : Type 0 where
@@ -122,11 +126,13 @@ filled-none t s = record { low = omega arith; size = s; front = λ k h. absurd (
 
 pub filled-more : (t : List ℕ) (i w : ℕ) → Filled t i → i < words → w ≡ emptyWord i → Filled (set t i w) (i + 1)
 filled-more t i w f h e = record {
-    low = omega arith;
-    size = length-set t i w ∙ f .size;
-    front = λ k l. elim (ℕ-discrete k i) [
-      | yes q ↦ rw q (getD-set-same t i w 0 (rw (f .size) h) ∙ e)
-      | no q ↦ getD-set-other t i k w 0 q ∙ f .front k (omega arith) ] }
+  low = omega arith;
+  size = length-set t i w ∙ f .size;
+  front = λ k l. elim (ℕ-discrete k i) [
+    | yes q ↦ rw q (getD-set-same t i w 0 (rw (f .size) h) ∙ e)
+    | no q ↦ getD-set-other t i k w 0 q ∙ f .front k (omega arith)
+  ];
+}
 
 pub filled-all : (t : List ℕ) (i : ℕ) → Filled t i → words ≤ i → t ≡ emptyTable
 filled-all t i f h =

@@ -1,6 +1,10 @@
 // The empty mesh.
-use crate::answer::{Answer, Refusal};
-use crate::layout::{EDGE, NOTHING, VERTEX, WORDS};
+use crate::answer::Answer;
+use crate::answer::Refusal;
+use crate::layout::EDGE;
+use crate::layout::NOTHING;
+use crate::layout::VERTEX;
+use crate::layout::WORDS;
 ghost use mathlib.Core.Path.{_≡_};
 ghost use Rattle.table.specs.Empty.{emptyWord, emptyOf, emptied};
 

@@ -8,3 +8,5 @@ pub mod Classes
 pub mod Merge
 pub mod Orbits
 pub mod Exchange
+pub mod Mirror
+pub mod Faces

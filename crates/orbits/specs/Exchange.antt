@@ -1,77 +1,25 @@
 -- The exchange lemma. f with its values at x and y exchanged: where x and y were on two orbits these become one, and
 -- where they were two points of one orbit it falls in two. All other orbits stay.
---     tr, exch         x and y exchanged; f after that
+--     exch             f after x and y are exchanged
 --     exch-joins       x and y on two orbits of f: the orbits of the exchange are those of f with these two joined
 --     exch-parts       x and y two points of one orbit: the orbits of f are those of the exchange, with these two joined
 --     exch-arc         and the part of y is then the way of f from x to y
 --     exch-less        one orbit less;      exch-more    one more
 use mathlib.Core.Path.{_≡_, refl, sym, _∙_, ap, fun-ext}
 use mathlib.Core.Logic.{_≢_, _⊎_, inl, inr, _↔_, ⊎-elim}
-use mathlib.Core.Bool.{Bool, true, cond}
+use mathlib.Core.Bool.{Bool}
 use Prim.Native.Nat.{ℕ, zero, suc, pred, _-_, _+_, _<_, _≤_}
 use native.Mathlib.Decide.{ℕ-discrete, decLt}
 use native.Mathlib.Omega.{arith}
-use lib.Dec.{eqb}
-use borrow.Author.Tests.{eq-eqb, ne-eqb}
 use Rattle.orbits.specs.Truth.{First, first, found, none}
 use Rattle.orbits.specs.Iterate.{iter, iter-zero, iter-suc, iter-add, Inj}
 use Rattle.orbits.specs.Reach.{Reach, reach-here, reach-step, reach-one, reach-trans, reach-sym, reach-low, reach-ind, reach-back}
-use Rattle.orbits.specs.Merge.{Join, inside, across, back, Merge}
-use Rattle.orbits.specs.Orbits.{orbits, World, On, merge-orbits}
-
-unfoldable pub tr : ℕ → ℕ → ℕ → ℕ
-tr x y i = cond (eqb i x) y (cond (eqb i y) x i)
+use Rattle.orbits.specs.Swap.{tr, tr-left, tr-right, tr-off, tr-twice, tr-swap, tr-keeps, Place, place, at-left, at-right, off}
+use Rattle.orbits.specs.Merge.{Join, inside, across, back, Merge, join-then, join-tr}
+use Rattle.orbits.specs.Orbits.{orbits, World, On, reach-partition, merge-orbits}
 
 unfoldable pub exch : (ℕ → ℕ) → ℕ → ℕ → ℕ → ℕ
 exch f x y i = f (tr x y i)
-
--- where i stands
-pub data Place (x y i : ℕ) : Type 0 where
-  at-left : i ≡ x → Place x y i
-  at-right : i ≡ y → Place x y i
-  off : i ≢ x → i ≢ y → Place x y i
-
-pub place : (x y i : ℕ) → Place x y i
-place x y i = elim (ℕ-discrete i x) [
-  | yes e ↦ at-left e
-  | no d ↦ elim (ℕ-discrete i y) [ yes e ↦ at-right e | no g ↦ off d g ]
-]
-
-pub tr-left : (x y : ℕ) → tr x y x ≡ y
-unfolding tr
-tr-left x y = rw (eq-eqb x x refl)
-
-pub tr-off : (x y i : ℕ) → i ≢ x → i ≢ y → tr x y i ≡ i
-unfolding tr
-tr-off x y i d e = rw (ne-eqb i x d, ne-eqb i y e)
-
-pub tr-right : (x y : ℕ) → tr x y y ≡ x
-unfolding tr
-tr-right x y = elim (ℕ-discrete y x) [
-  | yes e ↦ rw e (tr-left x x)
-  | no d ↦ rw (ne-eqb y x d, eq-eqb y y refl)
-]
-
-pub tr-twice : (x y i : ℕ) → tr x y (tr x y i) ≡ i
-tr-twice x y i = elim (place x y i) [
-  | at-left e ↦ rw (e, tr-left x y, tr-right x y)
-  | at-right e ↦ rw (e, tr-right x y, tr-left x y)
-  | off d e ↦ rw (tr-off x y i d e, tr-off x y i d e)
-]
-
-pub tr-swap : (x y i : ℕ) → tr x y i ≡ tr y x i
-tr-swap x y i = elim (place x y i) [
-  | at-left e ↦ rw (e, tr-left x y, tr-right y x)
-  | at-right e ↦ rw (e, tr-right x y, tr-left y x)
-  | off d e ↦ rw (tr-off x y i d e, tr-off y x i e d)
-]
-
-pub tr-keeps : (P : ℕ → Type 0) (x y i : ℕ) → P x → P y → P i → P (tr x y i)
-tr-keeps P x y i p q r = elim (place x y i) [
-  | at-left e ↦ rw (e, tr-left x y) q
-  | at-right e ↦ rw (e, tr-right x y) p
-  | off d e ↦ rw (tr-off x y i d e) r
-]
 
 pub exch-left : (f : ℕ → ℕ) (x y : ℕ) → exch f x y x ≡ f y
 unfolding exch
@@ -137,38 +85,20 @@ meets {N} {f} I {x} {y} h apart =
     ])
     x (reach-back I x h))
 
--- each step of the exchange stays inside the joined relation
-steps-join : (f : ℕ → ℕ) (x y i j : ℕ) → Reach (exch f x y) i j → Join (Reach f) x y i j
-steps-join f x y i j r =
-    reach-ind (exch f x y) (Join (Reach f) x y i) i (inside reach-here) (λ k s t. step k t (place x y k)) j r
-  where
-    step : (k : ℕ) → Join (Reach f) x y i k → Place x y k → Join (Reach f) x y i (exch f x y k)
-    step k t (at-left e) = rw (e, exch-left f x y) (go (rw e at t))
-      where
-        go : Join (Reach f) x y i x → Join (Reach f) x y i (f y)
-        go (inside p) = across p (reach-one y)
-        go (across p q) = across p (reach-one y)
-        go (back p q) = inside (reach-step p)
-    step k t (at-right e) = rw (e, exch-right f x y) (go (rw e at t))
-      where
-        go : Join (Reach f) x y i y → Join (Reach f) x y i (f x)
-        go (inside p) = back p (reach-one x)
-        go (across p q) = inside (reach-step p)
-        go (back p q) = back p (reach-one x)
-    step k t (off d e) = rw (exch-off f x y k d e) (go t)
-      where
-        go : Join (Reach f) x y i k → Join (Reach f) x y i (f k)
-        go (inside p) = inside (reach-step p)
-        go (across p q) = across p (reach-step q)
-        go (back p q) = back p (reach-step q)
-
 pub exch-joins : {N : ℕ} {f : ℕ → ℕ} → Inj N f → {x y : ℕ} → x < N → y < N → ¬ Reach f x y → Merge N (Reach f) (Reach (exch f x y)) x y
+unfolding exch
 exch-joins {N} {f} I {x} {y} h l apart = record {
   apart = apart;
-  into = λ i j m n r. steps-join f x y i j r;
+  into = λ i j m n r. reach-ind (exch f x y) (Join (Reach f) x y i) i (inside reach-here) (λ k s t. step m s t) j r;
   onto = λ i j m n t. join t;
 }
   where
+    -- each step of the exchange stays inside the joined relation
+    step : {i k : ℕ} → i < N → Reach (exch f x y) i k → Join (Reach f) x y i k → Join (Reach f) x y i (exch f x y k)
+    step {i} {k} m s t =
+        let at : tr x y k < N = tr-keeps (λ j. j < N) x y k h l (reach-low (exch-inj I h l) m s) in
+        let P = reach-partition I in
+        join-then P h l m at (I .fwd (tr x y k) at) (join-tr P h l h l m reach-here reach-here t) (reach-one (tr x y k))
     yx : Reach (exch f x y) y x
     yx = meets I h apart
 

@@ -5,6 +5,7 @@ pub mod Count
 pub mod Iterate
 pub mod Reach
 pub mod Classes
+pub mod Swap
 pub mod Merge
 pub mod Orbits
 pub mod Exchange

@@ -2,6 +2,7 @@
 -- x and y joined. Where these were two live classes, there is one class less.
 --     Join          i and j are in one class, or one is in the class of x and the other in that of y
 --     Merge         R′ is Join R x y, and R holds x and y apart
+--     join-then, join-tr     what stays inside the joined relation: R, and to exchange one number of x's class and one of y's
 --     merge-classes the number falls by one
 use mathlib.Core.Path.{_≡_, refl, sym, _∙_, ap}
 use mathlib.Core.Logic.{_≢_}
@@ -11,6 +12,7 @@ use native.Mathlib.Decide.{ℕ-discrete, decLt}
 use native.Mathlib.Omega.{arith}
 use Rattle.orbits.specs.Truth.{false-unless, same-truth}
 use Rattle.orbits.specs.Count.{count-one}
+use Rattle.orbits.specs.Swap.{tr, tr-left, tr-right, tr-off, place, at-left, at-right, off}
 use Rattle.orbits.specs.Classes.{Partition, Keeps, least, head, classes, Least, least-of, least-one, least-means, least-says, head-live, head-least, head-says}
 
 pub data Join (R : ℕ → ℕ → Type 0) (x y i j : ℕ) : Type 0 where
@@ -27,6 +29,30 @@ pub join-swap : {R : ℕ → ℕ → Type 0} {x y i j : ℕ} → Join R x y i j 
 join-swap (inside q) = inside q
 join-swap (across p q) = back p q
 join-swap (back p q) = across p q
+
+module _ {N : ℕ} {R : ℕ → ℕ → Type 0} {r : ℕ → ℕ → Bool} (P : Partition N R r) {x y : ℕ} (h : x < N) (l : y < N) where
+  pub join-then : {i j k : ℕ} → i < N → j < N → k < N → Join R x y i j → R j k → Join R x y i k
+  join-then {i} {j} {k} a b c (inside p) s = inside (P .join i j k a b c p s)
+  join-then {i} {j} {k} a b c (across p q) s = across p (P .join y j k l b c q s)
+  join-then {i} {j} {k} a b c (back p q) s = back p (P .join x j k h b c q s)
+
+  -- what is joined to x is joined to y, and the other way
+  join-over : {i : ℕ} → Join R x y i x → Join R x y i y
+  join-over (inside p) = across p (P .self y l)
+  join-over (across p q) = across p (P .self y l)
+  join-over (back p q) = inside p
+
+  join-home : {i : ℕ} → Join R x y i y → Join R x y i x
+  join-home (inside p) = back p (P .self x h)
+  join-home (across p q) = inside p
+  join-home (back p q) = back p (P .self x h)
+
+  -- so an exchange of one number of x's class and one of y's stays inside
+  pub join-tr : {u v i k : ℕ} → u < N → v < N → i < N → R x u → R y v → Join R x y i k → Join R x y i (tr u v k)
+  join-tr {u} {v} {i} {k} a b c p q t = elim (place u v k) [
+      at-left e ↦ rw (e, tr-left u v) (join-then c l b (join-over (join-then c a h (rw e at t) (P .flip x u h a p))) q)
+    | at-right e ↦ rw (e, tr-right u v) (join-then c h a (join-home (join-then c b l (rw e at t) (P .flip y v l b q))) p)
+    | off d e ↦ rw (tr-off u v k d e) t ]
 
 pub merge-swap : {N : ℕ} {R R′ : ℕ → ℕ → Type 0} {r : ℕ → ℕ → Bool} {x y : ℕ} → Partition N R r → x < N → y < N → Merge N R R′ x y → Merge N R R′ y x
 merge-swap {N} {R} {R′} {r} {x} {y} P h l M = record {

@@ -11,3 +11,4 @@ pub mod Orbits
 pub mod Exchange
 pub mod Mirror
 pub mod Faces
+pub mod MirrorExchange

@@ -3,6 +3,7 @@
 --     Join          i and j are in one class, or one is in the class of x and the other in that of y
 --     Merge         R′ is Join R x y, and R holds x and y apart
 --     join-then, join-tr     what stays inside the joined relation: R, and to exchange one number of x's class and one of y's
+--     join-flat     where x and y were in one class, nothing is joined
 --     merge-classes the number falls by one
 use mathlib.Core.Path.{_≡_, refl, sym, _∙_, ap}
 use mathlib.Core.Logic.{_≢_}
@@ -30,11 +31,22 @@ join-swap (inside q) = inside q
 join-swap (across p q) = back p q
 join-swap (back p q) = across p q
 
+pub join-map : {R R′ : ℕ → ℕ → Type 0} {x y i j : ℕ} → ((i j : ℕ) → R i j → R′ i j) → Join R x y i j → Join R′ x y i j
+join-map s (inside q) = inside (s _ _ q)
+join-map s (across p q) = across (s _ _ p) (s _ _ q)
+join-map s (back p q) = back (s _ _ p) (s _ _ q)
+
 module _ {N : ℕ} {R : ℕ → ℕ → Type 0} {r : ℕ → ℕ → Bool} (P : Partition N R r) {x y : ℕ} (h : x < N) (l : y < N) where
   pub join-then : {i j k : ℕ} → i < N → j < N → k < N → Join R x y i j → R j k → Join R x y i k
   join-then {i} {j} {k} a b c (inside p) s = inside (P .join i j k a b c p s)
   join-then {i} {j} {k} a b c (across p q) s = across p (P .join y j k l b c q s)
   join-then {i} {j} {k} a b c (back p q) s = back p (P .join x j k h b c q s)
+
+  -- where x and y are in one class nothing new is joined
+  pub join-flat : {i j : ℕ} → i < N → j < N → R x y → Join R x y i j → R i j
+  join-flat a b e (inside p) = p
+  join-flat {i} {j} a b e (across p q) = P .join i x j a h b p (P .join x y j h l b e q)
+  join-flat {i} {j} a b e (back p q) = P .join i y j a l b p (P .join y x j l h b (P .flip x y h l e) q)
 
   -- what is joined to x is joined to y, and the other way
   join-over : {i : ℕ} → Join R x y i x → Join R x y i y

@@ -3,6 +3,7 @@
 --     Mirror           the laws
 --     mirror-world     such an f is injective below N
 --     reach-mirror     j after i: then the mirror of i after the mirror of j
+--     opposite-..      the opposite of i is m (f i): the same step, run the other way
 --     no-self          i and its mirror are on two orbits
 --     period-half      twice the period of a live number is at most the number of live numbers
 use mathlib.Core.Path.{_≡_, refl, sym, _∙_, ap}
@@ -39,10 +40,13 @@ mirror-on E {i} o = record { lt = E .low i (o .lt); on = E .keep i (o .lt) ∙ o
 pub mirror-next : {N : ℕ} {f m : ℕ → ℕ} {live : ℕ → Bool} → Mirror N f m live → (i : ℕ) → i < N → f (m (f i)) ≡ m i
 mirror-next {N} {f} {m} E i h = sym (E .twice (f (m (f i))) (E .fwd _ (E .low _ (E .fwd i h)))) ∙ ap m (E .turn i h)
 
+pub opposite-reach : {N : ℕ} {f m : ℕ → ℕ} {live : ℕ → Bool} → Mirror N f m live → {i : ℕ} → i < N → Reach f (m (f i)) (m i)
+opposite-reach {N} {f} {m} E {i} h = rw (mirror-next E i h) at (reach-one {f = f} (m (f i)))
+
 pub reach-mirror : {N : ℕ} {f m : ℕ → ℕ} {live : ℕ → Bool} → Mirror N f m live → {i j : ℕ} → i < N → Reach f i j → Reach f (m j) (m i)
 reach-mirror {N} {f} {m} E {i} {j} h r =
     reach-ind f (λ k. Reach f (m k) (m i)) i reach-here
-    (λ k s t. reach-trans (rw (mirror-next E k (reach-low (mirror-world E .perm) h s)) at (reach-one {f = f} (m (f k)))) t)
+    (λ k s t. reach-trans (opposite-reach E (reach-low (mirror-world E .perm) h s)) t)
     j r
 
 -- the same, both run forwards: the mirror of an orbit is an orbit
@@ -50,6 +54,20 @@ pub mirror-reach : {N : ℕ} {f m : ℕ → ℕ} {live : ℕ → Bool} → Mirro
 mirror-reach E h r =
     let I = mirror-world E .perm in
     reach-sym I (E .low _ (reach-low I h r)) (reach-mirror E h r)
+
+pub mirror-unreach : {N : ℕ} {f m : ℕ → ℕ} {live : ℕ → Bool} → Mirror N f m live → {i j : ℕ} → i < N → j < N → Reach f (m i) (m j) → Reach f i j
+mirror-unreach E {i} {j} h l r = rw (E .twice i h, E .twice j l) at (mirror-reach E (E .low i h) r)
+
+-- The step from i, run the other way, is the step from m (f i): the opposite of i. To take the opposite is an involution
+-- with no live fixed point.
+pub opposite-on : {N : ℕ} {f m : ℕ → ℕ} {live : ℕ → Bool} → Mirror N f m live → {i : ℕ} → On N live i → On N live (m (f i))
+opposite-on E {i} o = mirror-on E (reach-on (mirror-world E) o (reach-one i))
+
+pub opposite-inj : {N : ℕ} {f m : ℕ → ℕ} {live : ℕ → Bool} → Mirror N f m live → {i j : ℕ} → i < N → j < N → m (f i) ≡ m (f j) → i ≡ j
+opposite-inj {N} {f} {m} E {i} {j} h l e = sym (E .turn i h) ∙ ap (λ k. m (f k)) e ∙ E .turn j l
+
+pub opposite-apart : {N : ℕ} {f m : ℕ → ℕ} {live : ℕ → Bool} → Mirror N f m live → {i : ℕ} → On N live i → i ≢ m (f i)
+opposite-apart {N} {f} {m} E {i} o e = E .cross i o (sym (E .twice (f i) (E .fwd i (o .lt))) ∙ ap m (sym e))
 
 pub no-self : {N : ℕ} {f m : ℕ → ℕ} {live : ℕ → Bool} → Mirror N f m live → {i : ℕ} → On N live i → ¬ Reach f i (m i)
 no-self {N} {f} {m} {live} E {i} o r = apart (r .steps) i o (r .lands)

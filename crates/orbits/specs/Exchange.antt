@@ -99,6 +99,7 @@ exch-joins {N} {f} I {x} {y} h l apart = record {
         let at : tr x y k < N = tr-keeps (λ j. j < N) x y k h l (reach-low (exch-inj I h l) m s) in
         let P = reach-partition I in
         join-then P h l m at (I .fwd (tr x y k) at) (join-tr P h l h l m reach-here reach-here t) (reach-one (tr x y k))
+
     yx : Reach (exch f x y) y x
     yx = meets I h apart
 

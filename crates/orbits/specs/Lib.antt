@@ -12,3 +12,4 @@ pub mod Exchange
 pub mod Mirror
 pub mod Faces
 pub mod MirrorExchange
+pub mod FaceExchange

@@ -31,10 +31,11 @@ join-swap (inside q) = inside q
 join-swap (across p q) = back p q
 join-swap (back p q) = across p q
 
-pub join-map : {R R′ : ℕ → ℕ → Type 0} {x y i j : ℕ} → ((i j : ℕ) → R i j → R′ i j) → Join R x y i j → Join R′ x y i j
-join-map s (inside q) = inside (s _ _ q)
-join-map s (across p q) = across (s _ _ p) (s _ _ q)
-join-map s (back p q) = back (s _ _ p) (s _ _ q)
+pub join-map : {N : ℕ} {R R′ : ℕ → ℕ → Type 0} {x y i j : ℕ} → x < N → y < N → i < N → j < N → ((i j : ℕ) → i < N → j < N → R i j → R′ i j)
+    → Join R x y i j → Join R′ x y i j
+join-map a b c d s (inside q) = inside (s _ _ c d q)
+join-map a b c d s (across p q) = across (s _ _ c a p) (s _ _ b d q)
+join-map a b c d s (back p q) = back (s _ _ c b p) (s _ _ a d q)
 
 module _ {N : ℕ} {R : ℕ → ℕ → Type 0} {r : ℕ → ℕ → Bool} (P : Partition N R r) {x y : ℕ} (h : x < N) (l : y < N) where
   pub join-then : {i j k : ℕ} → i < N → j < N → k < N → Join R x y i j → R j k → Join R x y i k
@@ -62,9 +63,10 @@ module _ {N : ℕ} {R : ℕ → ℕ → Type 0} {r : ℕ → ℕ → Bool} (P : 
   -- so an exchange of one number of x's class and one of y's stays inside
   pub join-tr : {u v i k : ℕ} → u < N → v < N → i < N → R x u → R y v → Join R x y i k → Join R x y i (tr u v k)
   join-tr {u} {v} {i} {k} a b c p q t = elim (place u v k) [
-      at-left e ↦ rw (e, tr-left u v) (join-then c l b (join-over (join-then c a h (rw e at t) (P .flip x u h a p))) q)
+    | at-left e ↦ rw (e, tr-left u v) (join-then c l b (join-over (join-then c a h (rw e at t) (P .flip x u h a p))) q)
     | at-right e ↦ rw (e, tr-right u v) (join-then c h a (join-home (join-then c b l (rw e at t) (P .flip y v l b q))) p)
-    | off d e ↦ rw (tr-off u v k d e) t ]
+    | off d e ↦ rw (tr-off u v k d e) t
+  ]
 
 pub merge-swap : {N : ℕ} {R R′ : ℕ → ℕ → Type 0} {r : ℕ → ℕ → Bool} {x y : ℕ} → Partition N R r → x < N → y < N → Merge N R R′ x y → Merge N R R′ y x
 merge-swap {N} {R} {R′} {r} {x} {y} P h l M = record {

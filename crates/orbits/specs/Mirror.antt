@@ -60,6 +60,9 @@ mirror-unreach E {i} {j} h l r = rw (E .twice i h, E .twice j l) at (mirror-reac
 
 -- The step from i, run the other way, is the step from m (f i): the opposite of i. To take the opposite is an involution
 -- with no live fixed point.
+pub opposite-low : {N : ℕ} {f m : ℕ → ℕ} {live : ℕ → Bool} → Mirror N f m live → {i : ℕ} → i < N → m (f i) < N
+opposite-low E h = E .low _ (E .fwd _ h)
+
 pub opposite-on : {N : ℕ} {f m : ℕ → ℕ} {live : ℕ → Bool} → Mirror N f m live → {i : ℕ} → On N live i → On N live (m (f i))
 opposite-on E {i} o = mirror-on E (reach-on (mirror-world E) o (reach-one i))
 

@@ -13,3 +13,4 @@ pub mod Mirror
 pub mod Faces
 pub mod MirrorExchange
 pub mod FaceExchange
+pub mod PassThrough

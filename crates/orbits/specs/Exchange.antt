@@ -14,7 +14,7 @@ use native.Mathlib.Omega.{arith}
 use Rattle.orbits.specs.Truth.{First, first, found, none}
 use Rattle.orbits.specs.Iterate.{iter, iter-zero, iter-suc, iter-add, Inj}
 use Rattle.orbits.specs.Reach.{Reach, reach-here, reach-step, reach-one, reach-trans, reach-sym, reach-low, reach-ind, reach-back}
-use Rattle.orbits.specs.Swap.{tr, tr-left, tr-right, tr-off, tr-twice, tr-swap, tr-keeps, Place, place, at-left, at-right, off}
+use Rattle.orbits.specs.Swap.{tr, tr-left, tr-right, tr-off, tr-twice, tr-inj, tr-swap, tr-keeps, Place, place, at-left, at-right, off}
 use Rattle.orbits.specs.Merge.{Join, inside, across, back, Merge, join-then, join-tr}
 use Rattle.orbits.specs.Orbits.{orbits, World, On, reach-partition, merge-orbits}
 
@@ -45,7 +45,7 @@ pub exch-inj : {N : ℕ} {f : ℕ → ℕ} → Inj N f → {x y : ℕ} → x < N
 unfolding exch
 exch-inj {N} {f} I {x} {y} h l = record {
   fwd = λ i m. I .fwd (tr x y i) (low i m);
-  inj = λ i j m n e. sym (tr-twice x y i) ∙ ap (tr x y) (I .inj (tr x y i) (tr x y j) (low i m) (low j n) e) ∙ tr-twice x y j;
+  inj = λ i j m n e. tr-inj x y i j (I .inj (tr x y i) (tr x y j) (low i m) (low j n) e);
 }
   where
     low : (i : ℕ) → i < N → tr x y i < N

@@ -1,6 +1,7 @@
 -- A face is an orbit with its mirror image. No orbit is its own mirror, so there are half as many faces as orbits.
 --     Face, faced, faces     on one orbit or on mirror orbits; the test; how many live classes
 --     orbits-pair            twice as many orbits
+--     reps-faces             one number for each live face: as many as there are faces
 use mathlib.Core.Path.{_≡_, refl, sym, _∙_, ap, subst}
 use mathlib.Core.Logic.{_≢_}
 use mathlib.Core.Bool.{Bool, true, false, not, _&&_, _||_, true-or, or-true, false-or}
@@ -137,3 +138,8 @@ module _ {N : ℕ} {f m : ℕ → ℕ} {live : ℕ → Bool} (E : Mirror N f m l
       let two : count (λ i. head (reaches f N) live i && not (least (faced f m N) i)) N ≡ count (head (faced f m N) live) N =
       reps-count face-partition face-keeps other-reps in
       omega arith
+
+pub reps-faces : {M N : ℕ} {f m : ℕ → ℕ} {t live : ℕ → Bool} {φ : ℕ → ℕ} → Mirror N f m live → Reps M N (Face f m) t live φ
+    → count t M ≡ faces f m N live
+unfolding faces
+reps-faces E S = reps-count (face-partition E) (face-keeps E) S

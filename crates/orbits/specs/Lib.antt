@@ -14,3 +14,5 @@ pub mod Faces
 pub mod MirrorExchange
 pub mod FaceExchange
 pub mod PassThrough
+pub mod Rename
+mod Instances

@@ -1,7 +1,7 @@
 -- Two numbers exchanged.
 --     tr               takes x to y, y to x, and each other number to itself
 --     Place, place     where a number stands
-use mathlib.Core.Path.{_≡_, refl}
+use mathlib.Core.Path.{_≡_, refl, sym, _∙_, ap}
 use mathlib.Core.Logic.{_≢_}
 use mathlib.Core.Bool.{cond}
 use Prim.Native.Nat.{ℕ}
@@ -45,6 +45,9 @@ tr-twice x y i = elim (place x y i) [
   | at-right e ↦ rw (e, tr-right x y, tr-left x y)
   | off d e ↦ rw (tr-off x y i d e, tr-off x y i d e)
 ]
+
+pub tr-inj : (x y i j : ℕ) → tr x y i ≡ tr x y j → i ≡ j
+tr-inj x y i j e = sym (tr-twice x y i) ∙ ap (tr x y) e ∙ tr-twice x y j
 
 pub tr-swap : (x y i : ℕ) → tr x y i ≡ tr y x i
 tr-swap x y i = elim (place x y i) [

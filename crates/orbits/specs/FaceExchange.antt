@@ -2,7 +2,7 @@
 --     faces-less, exch2-joins      y on another face than x: one face less, and it is the two joined
 --     faces-more, exch2-parts      y on the orbit of x, and not x: one face more, and the two joined are the old one
 --     faces-same, exch2-keeps      y on the mirror of the orbit of x: as many faces, with the same members
-use mathlib.Core.Path.{_≡_, refl, sym, _∙_, ap}
+use mathlib.Core.Path.{_≡_, _∙_, ap}
 use mathlib.Core.Logic.{_≢_, _↔_, Iff·rfl}
 use mathlib.Core.Bool.{Bool}
 use Prim.Native.Nat.{ℕ, suc, _<_}
@@ -13,8 +13,9 @@ use Rattle.orbits.specs.Classes.{Partition}
 use Rattle.orbits.specs.Swap.{tr, tr-twice, tr-swap, tr-keeps}
 use Rattle.orbits.specs.Merge.{Join, inside, across, back, Merge, join-then, join-tr, join-flat, join-map}
 use Rattle.orbits.specs.Orbits.{On}
-use Rattle.orbits.specs.Exchange.{exch, exch-joins, exch-parts}
-use Rattle.orbits.specs.Mirror.{Mirror, mirror-world, mirror-reach, opposite-low, opposite-on, opposite-reach, no-self}
+use Rattle.orbits.specs.Exchange.{exch, exch-joins}
+use Rattle.orbits.specs.ExchangeParts.{exch-parts}
+use Rattle.orbits.specs.Mirror.{Mirror, mirror-world, opposite-low, opposite-reach, no-self}
 use Rattle.orbits.specs.Faces.{Face, along, mirrored, faced, faces, face-flip, face-partition, orbits-pair}
 use Rattle.orbits.specs.MirrorExchange.{exch2, exch2-at, exch2-world, exch2-mirror, exch2-back, exch2-left, exch2-right, moved-low, exch2-less, exch2-more, exch2-same, less-joins, more-parts, same-parts, mirror-apart}
 
@@ -114,11 +115,7 @@ module _ {N : ℕ} {f m : ℕ → ℕ} {live : ℕ → Bool} (E : Mirror N f m l
         kept i j h l q = join-flat P (a .lt) (b .lt) h l meet (exch2-outside c i j h l q)
 
     pub faces-less : faces f m N live ≡ suc (faces (exch2 f m x y) m N live)
-    faces-less =
-        let before = orbits-pair E in
-        let after = orbits-pair (exch2-mirror E a b) in
-        let change = exch2-less E a b apart mapart in
-        omega arith
+    faces-less = omega (arith, orbits-pair E, orbits-pair (exch2-mirror E a b), exch2-less E a b apart mapart)
 
   module _ (d : x ≢ y) (r : Reach f x y) where
     pub exch2-parts : Merge N (Face (exch2 f m x y) m) (Face f m) x y
@@ -149,11 +146,7 @@ module _ {N : ℕ} {f m : ℕ → ℕ} {live : ℕ → Bool} (E : Mirror N f m l
             no-self E b (reach-trans (reach-sym I (a .lt) r) old)
 
     pub faces-more : faces (exch2 f m x y) m N live ≡ suc (faces f m N live)
-    faces-more =
-        let before = orbits-pair E in
-        let after = orbits-pair (exch2-mirror E a b) in
-        let change = exch2-more E a b d r in
-        omega arith
+    faces-more = omega (arith, orbits-pair E, orbits-pair (exch2-mirror E a b), exch2-more E a b d r)
 
   module _ (r : Reach f x (m y)) where
     pub exch2-keeps : (i j : ℕ) → i < N → j < N → Face (exch2 f m x y) m i j ↔ Face f m i j
@@ -183,8 +176,4 @@ module _ {N : ℕ} {f m : ℕ → ℕ} {live : ℕ → Bool} (E : Mirror N f m l
             by (back p q) = absurd (no-self G a (reach-trans p (side c)))
 
     pub faces-same : faces (exch2 f m x y) m N live ≡ faces f m N live
-    faces-same =
-        let before = orbits-pair E in
-        let after = orbits-pair (exch2-mirror E a b) in
-        let change = exch2-same E a b r in
-        omega arith
+    faces-same = omega (arith, orbits-pair E, orbits-pair (exch2-mirror E a b), exch2-same E a b r)

@@ -1,9 +1,9 @@
 -- A face is an orbit with its mirror image. No orbit is its own mirror, so there are half as many faces as orbits.
 --     Face, faced, faces     on one orbit or on mirror orbits; the test; how many live classes
 --     orbits-pair            twice as many orbits
+--     faces-live, faces-split     equal live sets; a live set in two exclusive parts
 --     reps-faces             one number for each live face: as many as there are faces
-use mathlib.Core.Path.{_≡_, refl, sym, _∙_, ap, subst}
-use mathlib.Core.Logic.{_≢_}
+use mathlib.Core.Path.{_≡_, sym, _∙_, ap, subst}
 use mathlib.Core.Bool.{Bool, true, false, not, _&&_, _||_, true-or, or-true, false-or}
 use Prim.Native.Nat.{ℕ, _+_, _*_, _<_}
 use native.Mathlib.Omega.{arith}
@@ -11,8 +11,8 @@ use borrow.Author.Tests.{not-true}
 use Rattle.orbits.specs.Truth.{Truth, truth, holds, fails, clash, both, both-left, both-right, same-truth, false-unless}
 use Rattle.orbits.specs.Count.{count, count-same, count-part, Partner}
 use Rattle.orbits.specs.Reach.{Reach, reaches, reach-here, reach-trans, reach-sym, reach-says, says-reach}
-use Rattle.orbits.specs.Classes.{Partition, Keeps, least, head, classes, Least, least-of, least-one, least-means, least-says, head-live, head-least, head-says, Reps, reps-count}
-use Rattle.orbits.specs.Orbits.{orbits, World, On, reach-partition, reach-live, reach-on, world-keeps}
+use Rattle.orbits.specs.Classes.{Partition, Keeps, least, head, classes, classes-same, classes-split, Least, least-of, least-one, least-means, least-says, head-live, head-least, head-says, Reps, reps-count}
+use Rattle.orbits.specs.Orbits.{orbits, On, reach-partition, reach-live, reach-on}
 use Rattle.orbits.specs.Mirror.{Mirror, mirror-world, mirror-on, reach-mirror, mirror-reach, no-self}
 
 pub data Face (f m : ℕ → ℕ) (i j : ℕ) : Type 0 where
@@ -143,3 +143,13 @@ pub reps-faces : {M N : ℕ} {f m : ℕ → ℕ} {t live : ℕ → Bool} {φ : �
     → count t M ≡ faces f m N live
 unfolding faces
 reps-faces E S = reps-count (face-partition E) (face-keeps E) S
+
+-- another live set: an equal one, or one in two exclusive parts
+pub faces-live : (f m : ℕ → ℕ) (N : ℕ) (live on : ℕ → Bool) → ((i : ℕ) → i < N → live i ≡ on i) → faces f m N live ≡ faces f m N on
+unfolding faces
+faces-live f m N = classes-same (faced f m N) N
+
+pub faces-split : (f m : ℕ → ℕ) (N : ℕ) (live a b : ℕ → Bool) → ((i : ℕ) → i < N → live i ≡ (a i || b i))
+    → ((i : ℕ) → i < N → a i ≡ true → b i ≡ true → ⊥) → faces f m N live ≡ faces f m N a + faces f m N b
+unfolding faces
+faces-split f m N = classes-split (faced f m N) N

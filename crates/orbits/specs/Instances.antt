@@ -12,7 +12,8 @@ use Rattle.orbits.specs.Reach.{Reach, reaches}
 use Rattle.orbits.specs.Classes.{classes, head, least}
 use Rattle.orbits.specs.Swap.{tr}
 use Rattle.orbits.specs.Orbits.{orbits, World, On}
-use Rattle.orbits.specs.Exchange.{exch, exch-world, exch-less, exch-more}
+use Rattle.orbits.specs.Exchange.{exch, exch-world, exch-less}
+use Rattle.orbits.specs.ExchangeParts.{exch-more}
 use Rattle.orbits.specs.Mirror.{Mirror, mirror-world, period-half}
 use Rattle.orbits.specs.Faces.{faces, faced}
 use Rattle.orbits.specs.MirrorExchange.{exch2, exch2-mirror, exch2-less, exch2-more, exch2-same}

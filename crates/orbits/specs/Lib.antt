@@ -9,6 +9,7 @@ pub mod Swap
 pub mod Merge
 pub mod Orbits
 pub mod Exchange
+pub mod ExchangeParts
 pub mod Mirror
 pub mod Faces
 pub mod MirrorExchange

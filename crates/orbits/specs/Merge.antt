@@ -5,10 +5,10 @@
 --     join-then, join-tr     what stays inside the joined relation: R, and to exchange one number of x's class and one of y's
 --     join-flat     where x and y were in one class, nothing is joined
 --     merge-classes the number falls by one
-use mathlib.Core.Path.{_≡_, refl, sym, _∙_, ap}
+use mathlib.Core.Path.{_≡_}
 use mathlib.Core.Logic.{_≢_}
-use mathlib.Core.Bool.{Bool, true, false, _&&_}
-use Prim.Native.Nat.{ℕ, zero, suc, _<_, _≤_}
+use mathlib.Core.Bool.{Bool, true}
+use Prim.Native.Nat.{ℕ, suc, _<_}
 use native.Mathlib.Decide.{ℕ-discrete, decLt}
 use native.Mathlib.Omega.{arith}
 use Rattle.orbits.specs.Truth.{false-unless, same-truth}

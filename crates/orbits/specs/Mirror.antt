@@ -2,6 +2,7 @@
 -- fixed point, and never takes i to f i. Then no orbit is its own mirror image, so orbits have at most half of the live numbers each.
 --     Mirror           the laws
 --     mirror-world     such an f is injective below N
+--     mirror-part      the same mirror on a part of the live numbers
 --     reach-mirror     j after i: then the mirror of i after the mirror of j
 --     opposite-..      the opposite of i is m (f i): the same step, run the other way
 --     no-self          i and its mirror are on two orbits
@@ -31,6 +32,20 @@ pub mirror-world : {N : ℕ} {f m : ℕ → ℕ} {live : ℕ → Bool} → Mirro
 mirror-world {N} {f} {m} E = record {
   perm = record { fwd = E .fwd; inj = λ i j h l e. sym (E .turn i h) ∙ ap (λ k. m (f (m k))) e ∙ E .turn j l };
   inv = E .inv;
+}
+
+-- the same mirror on a part of the live numbers that both maps keep
+pub mirror-part : {N : ℕ} {f m : ℕ → ℕ} {live : ℕ → Bool} → Mirror N f m live → (part : ℕ → Bool) → ((i : ℕ) → i < N → part (f i) ≡ part i)
+    → ((i : ℕ) → i < N → part (m i) ≡ part i) → ((i : ℕ) → On N part i → live i ≡ true) → Mirror N f m part
+mirror-part E part inv keep sub = record {
+  fwd = E .fwd;
+  inv = inv;
+  low = E .low;
+  twice = E .twice;
+  turn = E .turn;
+  keep = keep;
+  still = λ i o. E .still i (record { lt = o .lt; on = sub i o });
+  cross = λ i o. E .cross i (record { lt = o .lt; on = sub i o });
 }
 
 pub mirror-on : {N : ℕ} {f m : ℕ → ℕ} {live : ℕ → Bool} → Mirror N f m live → {i : ℕ} → On N live i → On N live (m i)

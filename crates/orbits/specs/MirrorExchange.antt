@@ -7,15 +7,16 @@
 --     exch2-same       y on the mirror of the orbit of x: as many orbits
 --     less-joins, more-parts, same-parts     what the second of the two exchanges does to the orbits that the first leaves
 use mathlib.Core.Path.{_≡_, refl, sym, _∙_, ap, ap₂}
-use mathlib.Core.Logic.{_≢_, _↔_}
-use mathlib.Core.Bool.{Bool, true}
+use mathlib.Core.Logic.{_≢_}
+use mathlib.Core.Bool.{Bool}
 use Prim.Native.Nat.{ℕ, suc, _<_}
 use native.Mathlib.Decide.{ℕ-discrete}
-use Rattle.orbits.specs.Reach.{Reach, reach-here, reach-one, reach-trans, reach-sym}
+use Rattle.orbits.specs.Reach.{Reach, reach-here, reach-trans, reach-sym}
 use Rattle.orbits.specs.Swap.{tr, tr-left, tr-right, tr-off, tr-twice, tr-keeps, place, at-left, at-right, off}
 use Rattle.orbits.specs.Merge.{Join, inside, across, back, Merge}
 use Rattle.orbits.specs.Orbits.{orbits, World, On}
-use Rattle.orbits.specs.Exchange.{exch, exch-exch, exch-swap, exch-world, exch-outside, exch-joins, exch-parts, exch-less, exch-more}
+use Rattle.orbits.specs.Exchange.{exch, exch-exch, exch-swap, exch-world, exch-outside, exch-joins, exch-less}
+use Rattle.orbits.specs.ExchangeParts.{exch-parts, exch-more}
 use Rattle.orbits.specs.Mirror.{Mirror, mirror-world, mirror-reach, mirror-unreach, opposite-low, opposite-on, opposite-inj, opposite-apart, opposite-reach, no-self}
 
 unfoldable pub exch2 : (ℕ → ℕ) → (ℕ → ℕ) → ℕ → ℕ → ℕ → ℕ

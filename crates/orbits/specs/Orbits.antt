@@ -2,14 +2,15 @@
 --     orbits           how many live numbers are least on their orbit
 --     World, On        f is injective below N and keeps `live`; x is a live number below N
 --     merge-orbits     two orbits joined are one less
+--     orbits-live, orbits-split     equal live sets; a live set in two exclusive parts
 --     reps-orbits      one number for each live orbit: as many as there are orbits
-use mathlib.Core.Path.{_≡_, refl, sym, _∙_, ap}
-use mathlib.Core.Bool.{Bool, true, false}
-use Prim.Native.Nat.{ℕ, suc, _<_, _≤_}
+use mathlib.Core.Path.{_≡_, refl, _∙_}
+use mathlib.Core.Bool.{Bool, true, _||_}
+use Prim.Native.Nat.{ℕ, suc, _+_, _<_, _≤_}
 use Rattle.orbits.specs.Count.{count}
 use Rattle.orbits.specs.Iterate.{Inj, Period, period-on}
 use Rattle.orbits.specs.Reach.{Reach, reaches, reach-here, reach-trans, reach-sym, reach-low, reach-ind, reach-says, says-reach}
-use Rattle.orbits.specs.Classes.{Partition, Keeps, classes, Reps, reps-count}
+use Rattle.orbits.specs.Classes.{Partition, Keeps, classes, classes-same, classes-split, Reps, reps-count}
 use Rattle.orbits.specs.Merge.{Merge, merge-classes}
 
 unfoldable pub orbits : (ℕ → ℕ) → ℕ → (ℕ → Bool) → ℕ
@@ -55,3 +56,13 @@ merge-orbits {live = live} {x = x} {y = y} W I a b M =
 pub reps-orbits : {M N : ℕ} {f : ℕ → ℕ} {t live : ℕ → Bool} {φ : ℕ → ℕ} → World N f live → Reps M N (Reach f) t live φ → count t M ≡ orbits f N live
 unfolding orbits
 reps-orbits W S = reps-count (reach-partition (W .perm)) (world-keeps W) S
+
+-- another live set: an equal one, or one in two exclusive parts
+pub orbits-live : (f : ℕ → ℕ) (N : ℕ) (live on : ℕ → Bool) → ((i : ℕ) → i < N → live i ≡ on i) → orbits f N live ≡ orbits f N on
+unfolding orbits
+orbits-live f N = classes-same (reaches f N) N
+
+pub orbits-split : (f : ℕ → ℕ) (N : ℕ) (live a b : ℕ → Bool) → ((i : ℕ) → i < N → live i ≡ (a i || b i))
+    → ((i : ℕ) → i < N → a i ≡ true → b i ≡ true → ⊥) → orbits f N live ≡ orbits f N a + orbits f N b
+unfolding orbits
+orbits-split f N = classes-split (reaches f N) N

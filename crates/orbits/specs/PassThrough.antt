@@ -12,11 +12,10 @@ use mathlib.Core.Bool.{Bool, true, false}
 use Prim.Native.Nat.{ℕ, suc, _<_}
 use native.Mathlib.Decide.{ℕ-discrete}
 use native.Mathlib.Omega.{arith}
-use Rattle.orbits.specs.Truth.{clash, same-truth, false-unless, Truth, truth, holds, fails}
+use Rattle.orbits.specs.Truth.{clash, false-unless}
 use Rattle.orbits.specs.Count.{Partner, count-one, without, without-at, without-other, without-on}
-use Rattle.orbits.specs.Iterate.{Inj}
-use Rattle.orbits.specs.Reach.{Reach, reaches, reach-here, reach-step, reach-one, reach-trans, reach-sym, reach-low, reach-ind}
-use Rattle.orbits.specs.Classes.{head, classes, least, least-says, head-live, head-least, head-says, Carry, carry-classes}
+use Rattle.orbits.specs.Reach.{Reach, reaches, reach-here, reach-step, reach-one, reach-trans, reach-sym, reach-ind}
+use Rattle.orbits.specs.Classes.{head, classes, least-says, head-live, head-says, carry-classes}
 use Rattle.orbits.specs.Orbits.{orbits, World, On, reach-partition, reach-on, world-keeps}
 use Rattle.orbits.specs.Exchange.{exch, exch-left, exch-right, exch-off, exch-world}
 use Rattle.orbits.specs.Mirror.{Mirror, mirror-world}
@@ -85,11 +84,7 @@ module _ {N : ℕ} {f g : ℕ → ℕ} {live kept : ℕ → Bool} (W : World N f
 
 pub faces-skip : {N : ℕ} {f g m n : ℕ → ℕ} {live kept : ℕ → Bool} → Mirror N f m live → Mirror N g n kept → Skips N f g live kept
     → faces g n N kept ≡ faces f m N live
-faces-skip E G S =
-    let before = orbits-pair E in
-    let after = orbits-pair G in
-    let same = orbits-skip (mirror-world E) (mirror-world G) S in
-    omega arith
+faces-skip E G S = omega (arith, orbits-pair E, orbits-pair G, orbits-skip (mirror-world E) (mirror-world G) S)
 
 -- a fixed number is alone in its orbit
 pub reach-alone : {f : ℕ → ℕ} {z j : ℕ} → f z ≡ z → Reach f z j → j ≡ z

@@ -5,8 +5,7 @@
 --     moved            f with the names x and y exchanged;     moved-orbits, moved-mirror    it has as many orbits, and a mirror if f has
 --     faces-rename, faces-agree     the same for faces
 use mathlib.Core.Path.{_≡_, refl, sym, _∙_, ap}
-use mathlib.Core.Logic.{_≢_}
-use mathlib.Core.Bool.{Bool, true}
+use mathlib.Core.Bool.{Bool}
 use Prim.Native.Nat.{ℕ, _<_}
 use native.Mathlib.Omega.{arith}
 use Rattle.orbits.specs.Count.{Partner}
@@ -71,19 +70,11 @@ orbits-agree {N} {f} {g} {live} W U e =
 
 pub faces-rename : {M N : ℕ} {g n f m : ℕ → ℕ} {on live : ℕ → Bool} {φ : ℕ → ℕ} → Mirror M g n on → Mirror N f m live → Rename M N g f on live φ
     → faces g n M on ≡ faces f m N live
-faces-rename G E R =
-    let before = orbits-pair E in
-    let after = orbits-pair G in
-    let same = orbits-rename (mirror-world G) (mirror-world E) R in
-    omega arith
+faces-rename G E R = omega (arith, orbits-pair E, orbits-pair G, orbits-rename (mirror-world G) (mirror-world E) R)
 
 pub faces-agree : {N : ℕ} {f m g n : ℕ → ℕ} {live : ℕ → Bool} → Mirror N f m live → Mirror N g n live → ((i : ℕ) → On N live i → f i ≡ g i)
     → faces f m N live ≡ faces g n N live
-faces-agree E G e =
-    let before = orbits-pair E in
-    let after = orbits-pair G in
-    let same = orbits-agree (mirror-world E) (mirror-world G) e in
-    omega arith
+faces-agree E G e = omega (arith, orbits-pair E, orbits-pair G, orbits-agree (mirror-world E) (mirror-world G) e)
 
 unfoldable pub moved : ℕ → ℕ → (ℕ → ℕ) → ℕ → ℕ
 moved x y f i = tr x y (f (tr x y i))

@@ -1,2 +1,4 @@
 pub mod Held
 pub mod Splice
+pub mod Link
+pub mod Unlink

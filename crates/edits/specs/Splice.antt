@@ -39,25 +39,28 @@ module _ {t : List ℕ} {n p f e v : ℕ → ℕ} (r : Reads t n p f e v) where
         prev-is = λ j m. prev-prev (setNext t a b) s b a j l ∙ upd-same (prevWord (setNext t a b)) p b a j (prev-next t a b j h ∙ r .prev-is j m);
         from-is = λ j m. leaves-prev (setNext t a b) b a j l ∙ leaves-next t a b j h ∙ r .from-is j m;
         edge-is = λ j m. edge-prev (setNext t a b) b a j l ∙ edge-next t a b j h ∙ r .edge-is j m;
-        vertex-is = λ j m. vertex-prev (setNext t a b) b a j l ∙ vertex-next t a b j h ∙ r .vertex-is j m }
+        vertex-is = λ j m. vertex-prev (setNext t a b) b a j l ∙ vertex-next t a b j h ∙ r .vertex-is j m;
+      }
 
   pub reads-leaves : (a b : ℕ) → a < darts → Reads (setLeaves t a b) n p (upd f a b) e v
   reads-leaves a b h = record {
-      size = length-set t _ b ∙ r .size;
-      next-is = λ j m. next-leaves t a b j m ∙ r .next-is j m;
-      prev-is = λ j m. prev-leaves t a b j m ∙ r .prev-is j m;
-      from-is = λ j m. leaves-leaves t (r .size) a b j h ∙ upd-same (leaves t) f a b j (r .from-is j m);
-      edge-is = λ j m. edge-leaves t a b j h ∙ r .edge-is j m;
-      vertex-is = λ j m. vertex-leaves t a b j h ∙ r .vertex-is j m }
+    size = length-set t _ b ∙ r .size;
+    next-is = λ j m. next-leaves t a b j m ∙ r .next-is j m;
+    prev-is = λ j m. prev-leaves t a b j m ∙ r .prev-is j m;
+    from-is = λ j m. leaves-leaves t (r .size) a b j h ∙ upd-same (leaves t) f a b j (r .from-is j m);
+    edge-is = λ j m. edge-leaves t a b j h ∙ r .edge-is j m;
+    vertex-is = λ j m. vertex-leaves t a b j h ∙ r .vertex-is j m;
+  }
 
   pub reads-vertex : (a b : ℕ) → a < vertices → Reads (setVertex t a b) n p f e (upd v a b)
   reads-vertex a b h = record {
-      size = length-set t _ b ∙ r .size;
-      next-is = λ j m. next-vertex t a b j m ∙ r .next-is j m;
-      prev-is = λ j m. prev-vertex t a b j m ∙ r .prev-is j m;
-      from-is = λ j m. leaves-vertex t a b j m ∙ r .from-is j m;
-      edge-is = λ j m. edge-vertex t a b j m ∙ r .edge-is j m;
-      vertex-is = λ j m. vertex-vertex t (r .size) a b j h ∙ upd-same (vertexWord t) v a b j (r .vertex-is j m) }
+    size = length-set t _ b ∙ r .size;
+    next-is = λ j m. next-vertex t a b j m ∙ r .next-is j m;
+    prev-is = λ j m. prev-vertex t a b j m ∙ r .prev-is j m;
+    from-is = λ j m. leaves-vertex t a b j m ∙ r .from-is j m;
+    edge-is = λ j m. edge-vertex t a b j m ∙ r .edge-is j m;
+    vertex-is = λ j m. vertex-vertex t (r .size) a b j h ∙ upd-same (vertexWord t) v a b j (r .vertex-is j m);
+  }
 
   pub reads-none : (x : ℕ) → x < darts → Reads (setPrev (setNext t x nothing) x nothing) (upd n x nothing) (upd p x nothing) f e v
   reads-none x h =
@@ -68,7 +71,8 @@ module _ {t : List ℕ} {n p f e v : ℕ → ℕ} (r : Reads t n p f e v) where
         prev-is = λ j m. prev-prev (setNext t x nothing) s x nothing j h ∙ upd-same (prevWord (setNext t x nothing)) p x nothing j (prev-next t x nothing j h ∙ r .prev-is j m);
         from-is = λ j m. leaves-prev (setNext t x nothing) x nothing j h ∙ leaves-next t x nothing j h ∙ r .from-is j m;
         edge-is = λ j m. edge-prev (setNext t x nothing) x nothing j h ∙ edge-next t x nothing j h ∙ r .edge-is j m;
-        vertex-is = λ j m. vertex-prev (setNext t x nothing) x nothing j h ∙ vertex-next t x nothing j h ∙ r .vertex-is j m }
+        vertex-is = λ j m. vertex-prev (setNext t x nothing) x nothing j h ∙ vertex-next t x nothing j h ∙ r .vertex-is j m;
+      }
 
 module _ (t : List ℕ) (size : length t ≡ words) where
   reads : Reads t (nextWord t) (prevWord t) (leaves t) (edgeWord t) (vertexWord t)

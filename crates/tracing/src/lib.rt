@@ -1,0 +1,1 @@
+// Tracing: steps, walks, corners and faces of a table.

@@ -1,1 +1,6 @@
-pub mod Iter
+-- Permutations of the numbers below N and their orbits. Nothing here knows what the numbers stand for.
+-- A file uses only those above it.
+pub mod Truth
+pub mod Count
+pub mod Iterate
+pub mod Reach

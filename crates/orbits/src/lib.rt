@@ -1,1 +1,1 @@
-// Theory only: specs/ has permutations, their orbits and the exchange lemmas.
+// Theory only: permutations of the numbers below N and their orbits. All of it stands in specs/.

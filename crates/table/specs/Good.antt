@@ -5,7 +5,7 @@ use mathlib.Core.Path.{_≡_}
 use mathlib.Core.List.{List}
 use mathlib.Core.Logic.{_≢_}
 use lib.ListN.{length}
-use Rattle.orbits.specs.Iter.{Reach}
+use Rattle.orbits.specs.Reach.{Reach}
 use Rattle.table.specs.Layout.{vertices, edges, darts, words, nothing, isolated, nextWord, prevWord, leaves, edgeWord, vertexWord, edgeOf, Live}
 
 -- "The three words of a dart that is not live are 65,535."

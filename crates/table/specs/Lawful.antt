@@ -8,7 +8,8 @@ use mathlib.Core.List.{List}
 use mathlib.Core.Logic.{_≢_}
 use lib.Dec.{ltb, eqb}
 use borrow.Author.Tests.{ltb-true, eqb-true, eqb-false, lt-ltb, eq-eqb, ne-eqb}
-use Rattle.orbits.specs.Iter.{iter, Reach}
+use Rattle.orbits.specs.Iterate.{iter}
+use Rattle.orbits.specs.Reach.{Reach}
 use Rattle.table.specs.Layout.{vertices, darts, nothing, isolated, nextWord, prevWord, leaves, edgeWord, vertexWord, edgeOf, rev, Live}
 use Rattle.table.specs.Good.{Good, Bare, Smallest}
 use Rattle.table.specs.Rotation.{Rotation, Lawful, live?, nextDart, prevDart, turnsOf, there?, alone?, rotation, Case, holds, fails, live-yes, yes-live, live-case, same-case, there-yes, there-word, alone-yes, alone-word, nextDart-live, prevDart-live, nextDart-dead, prevDart-dead}

@@ -9,7 +9,8 @@ use mathlib.Core.List.{List}
 use mathlib.Core.Logic.{_≢_}
 use lib.Dec.{ltb, eqb}
 use borrow.Author.Tests.{ltb-true, eqb-true, eqb-false, lt-ltb, eq-eqb, ne-eqb}
-use Rattle.orbits.specs.Iter.{iter, Reach}
+use Rattle.orbits.specs.Iterate.{iter}
+use Rattle.orbits.specs.Reach.{Reach}
 use Rattle.table.specs.Layout.{vertices, darts, nothing, isolated, nextWord, prevWord, leaves, edgeWord, vertexWord, edgeOf, rev, Live}
 use Rattle.table.specs.Good.{Good, Bare, Smallest}
 

@@ -1,2 +1,3 @@
 -- Tracing a rotation system: steps, walks, corners, faces and the listing. A file uses only those above it.
 pub mod Step
+pub mod Place

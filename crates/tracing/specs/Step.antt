@@ -9,7 +9,8 @@ use lib.Dec.{eqb}
 use borrow.Author.Tests.{eq-eqb, ne-eqb}
 use Rattle.table.specs.Layout.{rev, darts}
 use Rattle.table.specs.Rotation.{Rotation, Lawful, choose}
-use Rattle.table.specs.Lawful.{rev-rev}
+use Rattle.table.specs.Lawful.{rev-rev, rev-low}
+use Rattle.orbits.specs.Truth.{truth, holds, fails}
 
 -- the step words: two types for each dart
 abbrev pub steps : ℕ
@@ -180,3 +181,53 @@ module _ (R : Rotation) (L : Lawful R) where
           rw (mirror-zero R s e, corner-zero R s e) (corner-one R (2 * R .prev (s / 2) + 1) (omega arith) ∙ rw half (L .next-prev (s / 2)))
       go (is-one e) =
           rw (mirror-one R s e, corner-one R s e) (corner-zero R (2 * R .next (s / 2)) (omega arith) ∙ (omega arith))
+
+  -- around a vertex darts stay live, and stay darts
+
+  live-prev : (d : ℕ) → R .live (R .prev d) ≡ R .live d
+  live-prev d = sym (L .live-next (R .prev d)) ∙ ap (R .live) (L .next-prev d)
+
+  pub next-dart : (d : ℕ) → d < darts → R .next d < darts
+  next-dart d h = elim (truth (R .live d)) [
+      holds e ↦ L .dart-low (R .next d) (L .live-next d ∙ e)
+    | fails e ↦ rw (L .still d e) h ]
+
+  pub prev-dart : (d : ℕ) → d < darts → R .prev d < darts
+  prev-dart d h = elim (truth (R .live d)) [
+      holds e ↦ L .dart-low (R .prev d) (live-prev d ∙ e)
+    | fails e ↦
+        let same : R .prev d ≡ d = ap (R .prev) (sym (L .still d e)) ∙ L .prev-next d in
+        rw same h ]
+
+  around-dart : (t d : ℕ) → Type? t → R .live (around R t d / 2) ≡ R .live d
+  around-dart t d (is-zero e) =
+      let half : 2 * R .next d / 2 ≡ R .next d = omega arith in
+      rw (around-next R t d e, half) (L .live-next d)
+  around-dart t d (is-one e) =
+      let half : (2 * R .prev d + 1) / 2 ≡ R .prev d = omega arith in
+      rw (around-prev R t d e, half) (live-prev d)
+
+  around-low : (t d : ℕ) → Type? t → d < darts → around R t d < steps
+  around-low t d (is-zero e) h = let n = next-dart d h in rw (around-next R t d e) (omega arith)
+  around-low t d (is-one e) h = let n = prev-dart d h in rw (around-prev R t d e) (omega arith)
+
+  pub step-live : (s : ℕ) → R .live (step R s / 2) ≡ R .live (s / 2)
+  unfolding step stepType
+  step-live s = around-dart ((s + R .turns (s / 2)) % 2) (rev (s / 2)) (type? (s + R .turns (s / 2))) ∙ L .live-rev (s / 2)
+
+  pub step-word : (s : ℕ) → s < steps → step R s < steps
+  unfolding step stepType
+  step-word s h = around-low ((s + R .turns (s / 2)) % 2) (rev (s / 2)) (type? (s + R .turns (s / 2))) (rev-low (s / 2) (omega arith))
+
+  pub mirror-live : (s : ℕ) → R .live (mirror R s / 2) ≡ R .live (s / 2)
+  unfolding mirror
+  mirror-live s = around-dart (1 - s % 2) (s / 2) (other (type? s))
+    where
+      other : {t : ℕ} → Type? t → Type? (1 - t)
+      other (is-zero e) = is-one (omega arith)
+      other (is-one e) = is-zero (omega arith)
+
+  pub mirror-word : (s : ℕ) → s < steps → mirror R s < steps
+  mirror-word s h = elim (type? s) [
+      is-zero e ↦ let n = prev-dart (s / 2) (omega arith) in rw (mirror-zero R s e) (omega arith)
+    | is-one e ↦ let n = next-dart (s / 2) (omega arith) in rw (mirror-one R s e) (omega arith) ]

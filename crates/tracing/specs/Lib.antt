@@ -1,3 +1,5 @@
 -- Tracing a rotation system: steps, walks, corners, faces and the listing. A file uses only those above it.
 pub mod Step
 pub mod Place
+pub mod Walk
+pub mod Listing

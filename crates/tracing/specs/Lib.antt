@@ -3,3 +3,4 @@ pub mod Step
 pub mod Place
 pub mod Walk
 pub mod Listing
+pub mod Stands

@@ -1,1 +1,3 @@
-// Tracing: steps, walks, corners and faces of a table.
+// Tracing a good table: steps, walks, faces, the face count and the listing.
+mod layout;
+pub mod step;

@@ -4,3 +4,6 @@ pub mod Place
 pub mod Walk
 pub mod Listing
 pub mod Stands
+pub mod Along
+pub mod Marks
+pub mod Size

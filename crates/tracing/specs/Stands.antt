@@ -10,7 +10,7 @@ use Rattle.table.specs.Layout.{words, darts, edges, edgeOf, prevAt, edgeAt, nex
 use Rattle.table.specs.Good.{Good}
 use Rattle.table.specs.Rotation.{Rotation, Lawful, rotation, live?, nextDart-live, prevDart-live, live-yes, yes-live, turnsOf}
 use Rattle.table.specs.Lawful.{good-lawful}
-use Rattle.tracing.specs.Step.{steps, stepType, around, around-next, around-prev, step, mirror, corner, corner-zero, corner-one, step-live, mirror-live}
+use Rattle.tracing.specs.Step.{steps, type?, is-zero, is-one, next-dart, stepType, around, around-next, around-prev, step, mirror, corner, corner-zero, corner-one, step-live, mirror-live}
 
 pub record LiveDart (t : List ℕ) (d : ℕ) : Type 0 where
   pub good : Good t
@@ -61,3 +61,10 @@ module _ {t : List ℕ} where
   pub around-prev-word : {d : ℕ} → LiveDart t d → (k : ℕ) → (k ≡ 0 → ⊥) → prevWord t d * 2 + 1 ≡ around (rotation t) k d
   unfolding around
   around-prev-word {d} h k e = let w = prevDart-live t d (h .live) in rw (ne-eqb k 0 e, w) (omega arith)
+
+  pub stands-corner : {s : ℕ} → Stands t s → corner (rotation t) s < darts
+  stands-corner {s} h =
+      let n = near (stands-dart h) in
+      elim (type? s) [
+        is-zero e ↦ rw (corner-zero (rotation t) s e) (n .dart)
+      | is-one e ↦ rw (corner-one (rotation t) s e) (next-dart (rotation t) (good-lawful t (h .good)) (s / 2) (n .dart)) ]

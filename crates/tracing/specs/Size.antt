@@ -2,25 +2,25 @@
 use Prim.Native.Nat.{ℕ, zero, suc, _+_, _-_, _*_, _/_, _%_, _<_, _≤_}
 use native.Mathlib.Omega.{arith}
 use native.Mathlib.Numerals.{add-one}
-use mathlib.Core.Path.{_≡_, refl, sym, _∙_, ap}
+use mathlib.Core.Path.{_≡_, refl, sym, _∙_, ap, ap₂}
 use mathlib.Core.Bool.{Bool, true, false, not}
 use mathlib.Core.List.{List, [], _∷_, _++_, map, append-nil}
 use mathlib.Core.Logic.{_≢_}
 use lib.Dec.{eqb}
-use lib.ListN.{length, getD, set, length-append, length-set}
+use lib.ListN.{length, getD, set, length-append, length-set, length-map, length-replicate}
 use borrow.Author.Tests.{eq-eqb, ne-eqb}
-use Rattle.table.specs.Layout.{words, darts, edgeOf, edgeWord, Live}
+use Rattle.table.specs.Layout.{words as table-words, vertices, darts, isolated, edgeOf, edgeWord, vertexWord, Live}
 use Rattle.table.specs.Good.{Good}
-use Rattle.table.specs.Rotation.{Rotation, rotation, live?, yes-live, live-case, Case, holds, fails}
-use Rattle.orbits.specs.Truth.{truth, holds as yes-true, fails as yes-false}
+use Rattle.table.specs.Rotation.{Rotation, rotation, live?, yes-live, live-case, Case, holds, fails, alone?, alone-yes, alone-word}
+use Rattle.orbits.specs.Truth.{truth, holds as yes-true, fails as yes-false, false-unless}
 use Rattle.orbits.specs.Iterate.{iter}
 use Rattle.tracing.specs.declared.count.Size.{Size}
 use Rattle.tracing.specs.Step.{step, corner}
 use Rattle.tracing.specs.Walk.{walk, corners, run, run-length}
-use Rattle.tracing.specs.Listing.{has, only, gather, gather-none, gather-one, gather-append, metBy, fresh, starts, starts-suc, written, written-walk, faceCount, listing}
+use Rattle.tracing.specs.Listing.{has, only, gather, gather-none, gather-one, gather-append, metBy, fresh, starts, starts-suc, written, written-walk, written-lone, lone-yes, lone-no, alones, alones-suc, loneCorner, faces, faceCount, listing}
 use Rattle.tracing.specs.Stands.{Stands, stands-corner}
 use Rattle.tracing.specs.Along.{Walking, walking-none, walking-more, walking-all, walking-few}
-use Rattle.tracing.specs.Marks.{mark, mark-none, mark-append, mark-length, mark-step, mark-reads, bit}
+use Rattle.tracing.specs.Marks.{mark, mark-none, mark-append, mark-length, mark-step, mark-reads, bit, unmarked}
 
 -- the walk from s has n steps, and its corners have been marked
 pub record Marked (t : List ℕ) (s : ℕ) (m : List ℕ) (n : ℕ) (m′ : List ℕ) : Type 0 where
@@ -139,3 +139,105 @@ looked-walk {t} {d} {m} {n} h e f k =
 pub record Measured (t : List ℕ) (r : Size) : Type 0 where
   pub walks : r .walks ≡ faceCount (rotation t)
   pub words : r .words ≡ length (listing (rotation t))
+
+-- the loop over the darts: the walks that start below d
+pub record Counting (t : List ℕ) (d walks words : ℕ) (m : List ℕ) : Type 0 where
+  pub good : Good t
+  pub low : d ≤ darts
+  pub count : walks ≡ length (starts (rotation t) d)
+  pub size : words ≡ length (gather (written (rotation t)) (starts (rotation t) d))
+  pub marks : m ≡ mark unmarked (metBy (rotation t) (starts (rotation t) d))
+  pub few : walks ≤ d
+  pub short : words ≤ 4097 * d
+
+pub counting-none : {t : List ℕ} → Good t → Counting t 0 0 0 unmarked
+unfolding starts gather mark
+counting-none g = record { good = g; low = omega arith; count = refl; size = refl; marks = refl; few = omega arith; short = omega arith }
+
+-- the marks tell the starts
+unmet-fresh : {t : List ℕ} {d walks words : ℕ} {m : List ℕ} → Counting t d walks words m → d < darts → unmet t m d ≡ fresh (rotation t) (starts (rotation t) d) d
+unfolding unmet fresh
+unmet-fresh {t} {d} {m = m} k h = elim (truth (live? t d)) [
+    yes-false l ↦ rw (l, unmet, fresh)
+  | yes-true l ↦
+      let read : getD m d 0 ≡ bit (has d (metBy (rotation t) (starts (rotation t) d))) = rw (k .marks) (mark-reads (metBy (rotation t) (starts (rotation t) d)) d h) in
+      rw (l, unmet, fresh, read) (same (has d (metBy (rotation t) (starts (rotation t) d)))) ]
+  where
+    same : (b : Bool) → only (eqb (bit b) 0) d ≡ only (not b) d
+    same true = refl
+    same false = refl
+
+pub counting-range : {t : List ℕ} {d walks words : ℕ} {m : List ℕ} → Counting t d walks words m → d < darts → InRange t m d
+counting-range {t} {d} {m = m} k h = record {
+  good = k .good;
+  size = rw (k .marks) (mark-length unmarked (metBy (rotation t) (starts (rotation t) d)) ∙ simp length-replicate);
+  low = h;
+}
+
+pub counting-more : {t : List ℕ} {d walks words : ℕ} {m : List ℕ} {r : Size} {m′ : List ℕ} → Counting t d walks words m → d < darts → Looked t d m r m′
+    → Counting t (d + 1) (walks + r .walks) (words + r .words) m′
+counting-more {t} {d} {walks} {words} {m} {r} {m′} k h v =
+    let u = unmet-fresh k h in
+    let R = rotation t in
+    let few = k .few in
+    let short = k .short in
+    let one = v .few in
+    let most = v .low in
+    record {
+      good = k .good;
+      low = omega arith;
+      count = rw (add-one, starts-suc R d, length-append) (ap₂ _+_ (k .count) (v .walks ∙ ap length u));
+      size = rw (add-one, starts-suc R d, gather-append, length-append) (ap₂ _+_ (k .size) (v .words ∙ ap (λ l. length (gather (written R) l)) u));
+      marks = rw (add-one, starts-suc R d, gather-append, mark-append, ← (k .marks)) (v .marks ∙ ap (λ l. mark m (metBy R l)) u);
+      few = omega arith;
+      short = omega arith;
+    }
+
+-- the isolated vertices below v are n
+pub record Lone (t : List ℕ) (v n : ℕ) : Type 0 where
+  pub size : length t ≡ table-words
+  pub low : v ≤ vertices
+  pub count : n ≡ length (alones (rotation t) v)
+  pub few : n ≤ v
+
+pub lone-none : {t : List ℕ} → Good t → Lone t 0 0
+unfolding alones
+lone-none g = record { size = g .size; low = omega arith; count = refl; few = omega arith }
+
+pub lone-more : {t : List ℕ} {v n : ℕ} → Lone t v n → v < vertices → vertexWord t v ≡ isolated → Lone t (v + 1) (n + 1)
+lone-more {t} {v} {n} k h e =
+    let few = k .few in
+    record {
+      size = k .size;
+      low = omega arith;
+      count = rw (add-one v, alones-suc (rotation t) v, length-append, lone-yes (rotation t) v (alone-yes t v h e)) (ap (λ j. j + 1) (k .count));
+      few = omega arith;
+    }
+
+pub lone-skip : {t : List ℕ} {v n : ℕ} → Lone t v n → v < vertices → vertexWord t v ≢ isolated → Lone t (v + 1) n
+lone-skip {t} {v} {n} k h e =
+    let few = k .few in
+    let gone : alone? t v ≡ false = false-unless (alone? t v) (λ p. e (alone-word t v p .1)) in
+    record {
+      size = k .size;
+      low = omega arith;
+      count = rw (add-one v, alones-suc (rotation t) v, lone-no (rotation t) v gone, append-nil) (k .count);
+      few = omega arith;
+    }
+
+-- an empty walk is two words
+lone-words : (R : Rotation) (l : List ℕ) → length (gather (written R) (map loneCorner l)) ≡ 2 * length l
+unfolding gather
+lone-words R [] = refl
+lone-words R (v ∷ l) = let r = lone-words R l in rw (written-lone R v) (omega arith)
+
+pub measured : {t : List ℕ} {walks words n : ℕ} {m : List ℕ} → Counting t 2048 walks words m → Lone t 512 n
+    → Measured t (record { walks = walks + n; words = words + 2 * n })
+unfolding faceCount listing faces
+measured {t} {walks} {words} {n} k a =
+    let R = rotation t in
+    let alone = lone-words R (alones R vertices) in
+    record {
+      walks = rw (length-append, length-map) (ap₂ _+_ (k .count) (a .count));
+      words = rw (gather-append, length-append, alone) (ap₂ (λ x y. x + 2 * y) (k .size) (a .count));
+    }

@@ -6,9 +6,9 @@ ghost use lib.ListN.{length};
 ghost use Rattle.table.specs.Layout.{darts};
 ghost use Rattle.table.specs.Good.{Good};
 ghost use Rattle.table.specs.Rotation.{rotation};
-ghost use Rattle.tracing.specs.Listing.{faceCount, listing};
+ghost use Rattle.tracing.specs.Listing.{faceCount};
 ghost use Rattle.tracing.specs.Stands.{Stands};
-ghost use Rattle.tracing.specs.Size.{Marked, Looked, InRange, Measured};
+ghost use Rattle.tracing.specs.Size.{Marked, Looked, InRange, Lone, Measured};
 
 // So many walks, and so many words of their listing.
 pub struct Size {
@@ -50,4 +50,50 @@ fn look(t: &[u16], met: &mut [u8; 2048], d: usize) -> Size
         walks: 1,
         words: n + 1,
     }
+}
+
+// The number of isolated vertices.
+fn isolated(t: &[u16]) -> u32
+    requires { ⌜ Good (now t) ⌝ }
+    ensures { λ n. ⌜ Lone (now (t .entry)) 512 n ⌝ }
+{
+    let mut n: u32 = 0;
+    let mut v: usize = 0;
+    while v < VERTICES {
+        if t[VERTEX + v] == ISOLATED {
+            n += 1;
+        }
+        v += 1;
+    }
+    n
+}
+
+// How many walks are listed, and how many words their listing has.
+pub fn measure(t: &[u16]) -> Size
+    requires { ⌜ Good (now t) ⌝ }
+    ensures { λ r. ⌜ Measured (now (t .entry)) r ⌝ }
+{
+    let mut met = [0u8; 2048];
+    let mut walks: u32 = 0;
+    let mut words: usize = 0;
+    let mut d: usize = 0;
+    while d < DARTS {
+        let found = look(t, &mut met, d);
+        walks += found.walks;
+        words += found.words;
+        d += 1;
+    }
+    let alone = isolated(t);
+    Size {
+        walks: walks + alone,
+        words: words + 2 * (alone as usize),
+    }
+}
+
+// The face count.
+pub fn face_count(t: &[u16]) -> u32
+    requires { ⌜ Good (now t) ⌝ }
+    ensures { λ n. ⌜ n ≡ faceCount (rotation (now (t .entry))) ⌝ }
+{
+    measure(t).walks
 }

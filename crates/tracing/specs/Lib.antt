@@ -7,3 +7,4 @@ pub mod Stands
 pub mod Along
 pub mod Marks
 pub mod Size
+pub mod Writing

@@ -145,3 +145,9 @@ module _ (R : Rotation) where
   pub written-lone : (v : ℕ) → written R (loneCorner v) ≡ 0 ∷ loneCorner v ∷ []
   unfolding written
   written-lone v = rw (le-ltb (loneCorner v) loneAt (omega arith), written)
+
+  pub written-some : (c : ℕ) → 0 < length (written R c)
+  unfolding written
+  written-some c = elim (truth (ltb c loneAt)) [
+      holds e ↦ rw (e, written) (omega arith)
+    | fails e ↦ rw (e, written) (omega arith) ]

@@ -2,6 +2,7 @@
 use Prim.Native.Nat.{ℕ, zero, suc, _+_, _-_, _*_, _/_, _%_, _<_, _≤_}
 use native.Mathlib.Omega.{arith}
 use native.Mathlib.Numerals.{add-one}
+use native.Mathlib.Decide.{ℕ-discrete}
 use mathlib.Core.Path.{_≡_, refl, sym, _∙_, ap, ap₂}
 use mathlib.Core.Bool.{Bool, true, false, not}
 use mathlib.Core.List.{List, [], _∷_, _++_, map, append-nil}
@@ -98,6 +99,18 @@ unmet-start : (t m : List ℕ) (d : ℕ) → live? t d ≡ true → getD m d 0 �
 unfolding unmet
 unmet-start t m d l e = rw (l, unmet, eq-eqb (getD m d 0) 0 e)
 
+-- either no walk starts at d, or one does
+pub data Unmet (t m : List ℕ) (d : ℕ) : Type 0 where
+  no-start : unmet t m d ≡ [] → Unmet t m d
+  start : live? t d ≡ true → unmet t m d ≡ d ∷ [] → Unmet t m d
+
+pub unmet-case : (t m : List ℕ) (d : ℕ) → Unmet t m d
+unmet-case t m d = elim (truth (live? t d)) [
+    yes-false l ↦ no-start (unmet-dead t m d l)
+  | yes-true l ↦ elim (ℕ-discrete (getD m d 0) 0) [
+      yes e ↦ start l (unmet-start t m d l e)
+    | no e ↦ no-start (unmet-marked t m d e) ] ]
+
 edge-live : {t m : List ℕ} {d : ℕ} → InRange t m d → edgeWord t (edgeOf d) ≢ 0 → live? t d ≡ true
 edge-live {t} {m} {d} h e = yes-live t d (record { low = h .low; on = e })
 
@@ -140,22 +153,18 @@ pub record Measured (t : List ℕ) (r : Size) : Type 0 where
   pub walks : r .walks ≡ faceCount (rotation t)
   pub words : r .words ≡ length (listing (rotation t))
 
--- the loop over the darts: the walks that start below d
-pub record Counting (t : List ℕ) (d walks words : ℕ) (m : List ℕ) : Type 0 where
+-- a loop over the darts: the corners of the walks that start below d are marked
+pub record Seen (t : List ℕ) (d : ℕ) (m : List ℕ) : Type 0 where
   pub good : Good t
   pub low : d ≤ darts
-  pub count : walks ≡ length (starts (rotation t) d)
-  pub size : words ≡ length (gather (written (rotation t)) (starts (rotation t) d))
   pub marks : m ≡ mark unmarked (metBy (rotation t) (starts (rotation t) d))
-  pub few : walks ≤ d
-  pub short : words ≤ 4097 * d
 
-pub counting-none : {t : List ℕ} → Good t → Counting t 0 0 0 unmarked
+pub seen-none : {t : List ℕ} → Good t → Seen t 0 unmarked
 unfolding starts gather mark
-counting-none g = record { good = g; low = omega arith; count = refl; size = refl; marks = refl; few = omega arith; short = omega arith }
+seen-none g = record { good = g; low = omega arith; marks = refl }
 
 -- the marks tell the starts
-unmet-fresh : {t : List ℕ} {d walks words : ℕ} {m : List ℕ} → Counting t d walks words m → d < darts → unmet t m d ≡ fresh (rotation t) (starts (rotation t) d) d
+pub unmet-fresh : {t : List ℕ} {d : ℕ} {m : List ℕ} → Seen t d m → d < darts → unmet t m d ≡ fresh (rotation t) (starts (rotation t) d) d
 unfolding unmet fresh
 unmet-fresh {t} {d} {m = m} k h = elim (truth (live? t d)) [
     yes-false l ↦ rw (l, unmet, fresh)
@@ -167,28 +176,47 @@ unmet-fresh {t} {d} {m = m} k h = elim (truth (live? t d)) [
     same true = refl
     same false = refl
 
-pub counting-range : {t : List ℕ} {d walks words : ℕ} {m : List ℕ} → Counting t d walks words m → d < darts → InRange t m d
-counting-range {t} {d} {m = m} k h = record {
+pub seen-range : {t : List ℕ} {d : ℕ} {m : List ℕ} → Seen t d m → d < darts → InRange t m d
+seen-range {t} {d} {m = m} k h = record {
   good = k .good;
   size = rw (k .marks) (mark-length unmarked (metBy (rotation t) (starts (rotation t) d)) ∙ simp length-replicate);
   low = h;
 }
 
+pub seen-more : {t : List ℕ} {d : ℕ} {m m′ : List ℕ} → Seen t d m → d < darts → m′ ≡ mark m (metBy (rotation t) (unmet t m d)) → Seen t (d + 1) m′
+seen-more {t} {d} {m} k h e =
+    let R = rotation t in
+    record {
+      good = k .good;
+      low = omega arith;
+      marks = rw (add-one, starts-suc R d, gather-append, mark-append, ← (k .marks)) (e ∙ ap (λ l. mark m (metBy R l)) (unmet-fresh k h));
+    }
+
+-- the walks that start below d are counted, and their words
+pub record Counting (t : List ℕ) (d walks words : ℕ) (m : List ℕ) : Type 0 where
+  pub seen : Seen t d m
+  pub count : walks ≡ length (starts (rotation t) d)
+  pub size : words ≡ length (gather (written (rotation t)) (starts (rotation t) d))
+  pub few : walks ≤ d
+  pub short : words ≤ 4097 * d
+
+pub counting-none : {t : List ℕ} → Good t → Counting t 0 0 0 unmarked
+unfolding starts gather
+counting-none g = record { seen = seen-none g; count = refl; size = refl; few = omega arith; short = omega arith }
+
 pub counting-more : {t : List ℕ} {d walks words : ℕ} {m : List ℕ} {r : Size} {m′ : List ℕ} → Counting t d walks words m → d < darts → Looked t d m r m′
     → Counting t (d + 1) (walks + r .walks) (words + r .words) m′
 counting-more {t} {d} {walks} {words} {m} {r} {m′} k h v =
-    let u = unmet-fresh k h in
+    let u = unmet-fresh (k .seen) h in
     let R = rotation t in
     let few = k .few in
     let short = k .short in
     let one = v .few in
     let most = v .low in
     record {
-      good = k .good;
-      low = omega arith;
+      seen = seen-more (k .seen) h (v .marks);
       count = rw (add-one, starts-suc R d, length-append) (ap₂ _+_ (k .count) (v .walks ∙ ap length u));
       size = rw (add-one, starts-suc R d, gather-append, length-append) (ap₂ _+_ (k .size) (v .words ∙ ap (λ l. length (gather (written R) l)) u));
-      marks = rw (add-one, starts-suc R d, gather-append, mark-append, ← (k .marks)) (v .marks ∙ ap (λ l. mark m (metBy R l)) u);
       few = omega arith;
       short = omega arith;
     }

@@ -35,7 +35,7 @@ pub fn mark_walk(t: &[u16], met: &mut [u8; 2048], s: u16) -> usize
 }
 
 // The walk that starts at dart d, if one does: its corner has not been met. Marks its corners.
-fn look(t: &[u16], met: &mut [u8; 2048], d: usize) -> Size
+pub fn look(t: &[u16], met: &mut [u8; 2048], d: usize) -> Size
     requires { ⌜ InRange (now t) (now met) d ⌝ }
     ensures { λ r. ⌜ Looked (now (t .entry)) d (now (met .entry)) r (now (met .exit)) ⌝ }
 {

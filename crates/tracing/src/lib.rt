@@ -2,3 +2,4 @@
 mod layout;
 pub mod step;
 pub mod count;
+pub mod listing;

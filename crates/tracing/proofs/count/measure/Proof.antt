@@ -1,5 +1,5 @@
 -- `count::measure` meets its contract. The invariant: the walks that start below d are counted, and their corners marked.
-use Rattle.tracing.specs.Size.{Counting, counting-none, counting-range, counting-more, measured}
+use Rattle.tracing.specs.Size.{Counting, counting-none, seen-range, counting-more, measured}
 use mathlib.Core.Path.{_≡_}
 use native.Mathlib.Omega.{arith}
 use Prim.Native.Nat.{_-_}
@@ -20,7 +20,7 @@ loop-holds : tie.Need-loop-holds Inv-loop μ-loop
 loop-holds c = counting-none (c .before .pre)
 
 look-requires : tie.Need-look-requires Inv-loop μ-loop
-look-requires c κs = counting-range (c .before .before .loop .inv) (c .before .loop-test .taken)
+look-requires c κs = seen-range (c .before .before .loop .inv .seen) (c .before .loop-test .taken)
 
 add-walks : tie.Need-add-walks Inv-loop μ-loop
 add-walks c = let found = c .before .look .ensures in omega arith
@@ -38,7 +38,7 @@ loop-again : tie.Need-loop-again Inv-loop μ-loop
 loop-again c = counting-more (c .before .before .before .before .before .loop .inv) (c .before .before .before .before .loop-test .taken) (c .before .before .look .ensures)
 
 isolated-requires : tie.Need-isolated-requires Inv-loop μ-loop
-isolated-requires c κs = c .before .loop .inv .good
+isolated-requires c κs = c .before .loop .inv .seen .good
 
 add-t10 : tie.Need-add-t10 Inv-loop μ-loop
 add-t10 c = let alone = c .isolated .ensures in omega arith

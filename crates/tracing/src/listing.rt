@@ -1,0 +1,67 @@
+// The listing, written to a lent slice that is long enough.
+use crate::count::{look, measure};
+use crate::layout::{DARTS, ISOLATED, VERTEX, VERTICES};
+use crate::step::step;
+ghost use mathlib.Core.Path.{_≡_};
+ghost use Prim.Native.Nat.{_+_, _≤_};
+ghost use lib.ListN.{length};
+ghost use lib.Seq.{sets};
+ghost use Rattle.table.specs.Good.{Good};
+ghost use Rattle.table.specs.Rotation.{rotation};
+ghost use Rattle.tracing.specs.Walk.{walk};
+ghost use Rattle.tracing.specs.Listing.{listing};
+ghost use Rattle.tracing.specs.Stands.{Stands};
+ghost use Rattle.tracing.specs.Writing.{RoomAt, Entered, RoomLone, EnteredLone};
+
+// The number of words of the listing.
+pub fn listing_words(t: &[u16]) -> usize
+    requires { ⌜ Good (now t) ⌝ }
+    ensures { λ n. ⌜ n ≡ length (listing (rotation (now (t .entry)))) ⌝ }
+{
+    measure(t).words
+}
+
+// The steps of the walk from s, from index `start` on.
+fn write_walk(t: &[u16], out: &mut [u16], start: usize, s: u16)
+    requires { ⌜ Stands (now t) s × (start + length (walk (rotation (now t)) s) ≤ length (now out)) ⌝ }
+    ensures { λ _. ⌜ now (out .exit) ≡ sets (now (out .entry)) start (walk (rotation (now (t .entry))) s) ⌝ }
+{
+    let mut at = s;
+    let mut n: usize = 0;
+    loop {
+        out[start + n] = at;
+        n += 1;
+        at = step(t, at);
+        if at == s {
+            return;
+        }
+    }
+}
+
+// The walk that starts at dart d, if one does, from index `at` on. The index after it.
+fn write_from(t: &[u16], met: &mut [u8; 2048], out: &mut [u16], at: usize, d: usize) -> usize
+    requires { ⌜ RoomAt (now t) (now met) (now out) at d ⌝ }
+    ensures { λ r. ⌜ Entered (now (t .entry)) (now (met .entry)) (now (out .entry)) at d r (now (met .exit)) (now (out .exit)) ⌝ }
+{
+    let found = look(t, met, d);
+    let words = found.words;
+    if words == 0 {
+        return at;
+    }
+    out[at] = (words - 1) as u16;
+    write_walk(t, out, at + 1, 2 * (d as u16));
+    at + words
+}
+
+// The empty walk at vertex v, if it is isolated, from index `at` on. The index after it.
+fn write_lone(t: &[u16], out: &mut [u16], at: usize, v: usize) -> usize
+    requires { ⌜ RoomLone (now t) (now out) at v ⌝ }
+    ensures { λ r. ⌜ EnteredLone (now (t .entry)) (now (out .entry)) at v r (now (out .exit)) ⌝ }
+{
+    if t[VERTEX + v] != ISOLATED {
+        return at;
+    }
+    out[at] = 0;
+    out[at + 1] = 32768 + (v as u16);
+    at + 2
+}

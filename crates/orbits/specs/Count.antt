@@ -35,7 +35,7 @@ count-one p q a zero h t f e = absurd (lt-zero h)
     lt-zero : a < zero → ⊥
     lt-zero h = omega arith
 count-one p q a (suc n) h t f e = elim (ℕ-discrete a n) [
-    yes s ↦
+  | yes s ↦
       let here : p n ≡ true = rw s at t in
       let gone : q n ≡ false = rw s at f in
       let rest : count p n ≡ count q n = count-same p q n (λ i l. e i (omega arith) (omega arith)) in
@@ -43,7 +43,8 @@ count-one p q a (suc n) h t f e = elim (ℕ-discrete a n) [
   | no s ↦
       let same : p n ≡ q n = e n (omega arith) (λ r. s (sym r)) in
       let rest : count p n ≡ suc (count q n) = count-one p q a n (omega arith) t f (λ i l. e i (omega arith)) in
-      rw (same, rest) (past (q n) (count q n)) ]
+      rw (same, rest) (past (q n) (count q n))
+]
   where
     past : (b : Bool) (k : ℕ) → more b (suc k) ≡ suc (more b k)
     past true k = refl
@@ -105,6 +106,7 @@ count-find p n h = found-in (first (λ i. p i ≡ true) (λ i. Bool-discrete (p 
   where
     positive : count p n ≡ zero → ⊥
     positive z = omega arith
+
     found-in : First (λ i. p i ≡ true) n → Passes p n
     found-in (found k l t least) = record { at = k; low = l; pass = t }
     found-in (none out) = absurd (positive (count-none p n (λ i l. false-unless (p i) (out i l))))
@@ -132,6 +134,7 @@ count-part p q n = count-split p (λ i. p i && q i) (λ i. p i && not (q i)) n (
     parts true false = refl
     parts false true = refl
     parts false false = refl
+
     apart : (a b : Bool) → (a && b) ≡ true → (a && not b) ≡ true → ⊥
     apart true true s t = clash t refl
     apart true false s t = clash s refl
@@ -168,19 +171,20 @@ pub count-into : (G : ℕ → ℕ → Type 0) (p q : ℕ → Bool) (n m : ℕ)
 unfolding count
 count-into G p q zero m total inj = omega arith
 count-into G p q (suc n) m total inj = elim (truth (p n)) [
-    fails f ↦ rw f (count-into G p q n m (λ i h. total i (omega arith)) (λ i j k h l. inj i j k (omega arith) (omega arith)))
+  | fails f ↦ rw f (count-into G p q n m (λ i h. total i (omega arith)) (λ i j k h l. inj i j k (omega arith) (omega arith)))
   | holds t ↦
       let last = total n (omega arith) t in
       let rest : count p n ≤ count (without q (last .to)) m =
-          count-into G p (without q (last .to)) n m
-          (λ i h s.
-            let mine = total i (omega arith) s in
-            let other : mine .to ≢ last .to =
-              λ e. let same : i ≡ n = inj i n (last .to) (omega arith) (omega arith) s t (rw e at (mine .pair)) (last .pair) in omega arith in
-            record { to = mine .to; low = mine .low; pass = without-other q (last .to) (mine .to) other ∙ mine .pass; pair = mine .pair })
-          (λ i j k h l. inj i j k (omega arith) (omega arith)) in
+      count-into G p (without q (last .to)) n m
+      (λ i h s.
+      let mine = total i (omega arith) s in
+      let other : mine .to ≢ last .to =
+      λ e. let same : i ≡ n = inj i n (last .to) (omega arith) (omega arith) s t (rw e at (mine .pair)) (last .pair) in omega arith in
+      record { to = mine .to; low = mine .low; pass = without-other q (last .to) (mine .to) other ∙ mine .pass; pair = mine .pair })
+      (λ i j k h l. inj i j k (omega arith) (omega arith)) in
       let one = count-without q (last .to) m (last .low) (last .pass) in
-      rw (t, one) (omega arith) ]
+      rw (t, one) (omega arith)
+]
 
 -- a test that implies another
 pub count-fewer : (p q : ℕ → Bool) (n : ℕ) → ((i : ℕ) → i < n → p i ≡ true → q i ≡ true) → count p n ≤ count q n

@@ -65,10 +65,12 @@ pub record Period (f : ℕ → ℕ) (i : ℕ) : Type 0 where
 laps-apart : {N : ℕ} {f : ℕ → ℕ} → Inj N f → (i n : ℕ) → i < N → ((k : ℕ) → zero < k → k < n → iter f k i ≢ i)
     → (a b : ℕ) → a < n → b < n → iter f a i ≡ iter f b i → a ≡ b
 laps-apart {N} {f} I i n h out a b l m e = elim (ℕ-discrete a b) [
-    yes s ↦ s
+  | yes s ↦ s
   | no s ↦ elim (decLt a b) [
-      yes r ↦ absurd (early a b r m e)
-    | no r ↦ absurd (early b a (omega arith) l (sym e)) ] ]
+    | yes r ↦ absurd (early a b r m e)
+    | no r ↦ absurd (early b a (omega arith) l (sym e))
+  ]
+]
   where
     early : (a b : ℕ) → a < b → b < n → iter f a i ≡ iter f b i → ⊥
     early a b r m e =
@@ -89,8 +91,8 @@ period {N} {f} I i h = by (first (λ k. iter f (suc k) i ≡ i) (λ k. ℕ-discr
       some = omega arith;
       back = e;
       least = λ j pos m.
-        let back : suc (pred j) ≡ j = omega arith in
-        rw back at (before (pred j) (omega arith));
+          let back : suc (pred j) ≡ j = omega arith in
+          rw back at (before (pred j) (omega arith));
     }
     by (none out) = absurd (lt-irrefl N (crowd fits))
       where
@@ -98,11 +100,13 @@ period {N} {f} I i h = by (first (λ k. iter f (suc k) i ≡ i) (λ k. ℕ-discr
         apart = laps-apart I i (suc N) h (λ j pos m.
             let back : suc (pred j) ≡ j = omega arith in
             rw back at (out (pred j) (omega arith)))
+
         fits : count (λ k. true) (suc N) ≤ count (λ k. true) N
         fits =
             count-into (λ k s. iter f k i ≡ s) (λ k. true) (λ k. true) (suc N) N
             (λ k l t. record { to = iter f k i; low = iter-low I k i h; pass = refl; pair = refl })
             (λ a b s l m t u d e. apart a b l m (d ∙ sym e))
+
         crowd : count (λ k. true) (suc N) ≤ count (λ k. true) N → N < N
         crowd le =
             let all = count-all (λ k. true) (suc N) (λ k l. refl) in
@@ -114,9 +118,9 @@ pub period-on : {N : ℕ} {f : ℕ → ℕ} → Inj N f → (live : ℕ → Bool
 period-on {N} {f} I live keep {i} h on p =
     let all : count (λ k. true) (p .steps) ≡ p .steps = count-all (λ k. true) (p .steps) (λ k l. refl) in
     let into : count (λ k. true) (p .steps) ≤ count live N =
-        count-into (λ k s. iter f k i ≡ s) (λ k. true) live (p .steps) N
-        (λ k l t. record { to = iter f k i; low = stays k .0; pass = stays k .1; pair = refl })
-        (λ a b s l m t u d e. period-apart I h p a b l m (d ∙ sym e)) in
+    count-into (λ k s. iter f k i ≡ s) (λ k. true) live (p .steps) N
+    (λ k l t. record { to = iter f k i; low = stays k .0; pass = stays k .1; pair = refl })
+    (λ a b s l m t u d e. period-apart I h p a b l m (d ∙ sym e)) in
     omega arith
   where
     stays : (k : ℕ) → (iter f k i < N) × (live (iter f k i) ≡ true)

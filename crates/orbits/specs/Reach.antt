@@ -68,15 +68,16 @@ reach-within {f} {i} {j} p r =
     reach-ind f (λ k. Within f i k (p .steps)) i
     (record { steps = zero; few = p .some; lands = iter-zero f i })
     (λ k s w. elim (decLt (suc (w .steps)) (p .steps)) [
-      yes l ↦ record { steps = suc (w .steps); few = l; lands = iter-suc f (w .steps) i ∙ ap f (w .lands) }
-    | no l ↦
-        let few = w .few in
-        let last : p .steps ≡ suc (w .steps) = omega arith in
-        record {
-          steps = zero;
-          few = p .some;
-          lands = iter-zero f i ∙ sym (p .back) ∙ ap (λ k. iter f k i) last ∙ iter-suc f (w .steps) i ∙ ap f (w .lands);
-        } ])
+      | yes l ↦ record { steps = suc (w .steps); few = l; lands = iter-suc f (w .steps) i ∙ ap f (w .lands) }
+      | no l ↦
+          let few = w .few in
+          let last : p .steps ≡ suc (w .steps) = omega arith in
+          record {
+            steps = zero;
+            few = p .some;
+            lands = iter-zero f i ∙ sym (p .back) ∙ ap (λ k. iter f k i) last ∙ iter-suc f (w .steps) i ∙ ap f (w .lands);
+          }
+    ])
     j r
 
 -- the test: one of the first N points from i is j
@@ -99,5 +100,6 @@ reach-says {N} {f} I {i} {j} h r =
 
 pub reach-dec : {N : ℕ} {f : ℕ → ℕ} → Inj N f → (i j : ℕ) → i < N → Dec (Reach f i j)
 reach-dec {N} {f} I i j h = elim (truth (reaches f N i j)) [
-    holds t ↦ yes (says-reach f N i j t)
-  | fails t ↦ no (λ r. clash (reach-says I h r) t) ]
+  | holds t ↦ yes (says-reach f N i j t)
+  | fails t ↦ no (λ r. clash (reach-says I h r) t)
+]

@@ -70,5 +70,6 @@ first P dec (suc n) = step (first P dec n) (dec n)
     step (none out) (yes p) = found n (omega arith) p out
     step (none out) (no q) =
         none (λ j h. elim (ℕ-discrete j n) [
-          yes e ↦ rw e q
-        | no e ↦ out j (omega arith) ])
+          | yes e ↦ rw e q
+          | no e ↦ out j (omega arith)
+        ])

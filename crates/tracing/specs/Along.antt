@@ -26,10 +26,12 @@ along-more {f} {s} {n} {at} a e = record { here = next; early = before }
   where
     next : iter f (suc n) s ≡ f at
     next = iter-suc f n s ∙ ap f (a .here)
+
     before : (k : ℕ) → zero < k → k ≤ suc n → iter f k s ≢ s
     before k p l = elim (ℕ-discrete k (suc n)) [
-        yes q ↦ λ b. e (sym next ∙ ap (λ j. iter f j s) (sym q) ∙ b)
-      | no q ↦ a .early k p (omega arith) ]
+      | yes q ↦ λ b. e (sym next ∙ ap (λ j. iter f j s) (sym q) ∙ b)
+      | no q ↦ a .early k p (omega arith)
+    ]
 
 -- a step that leads back closes the walk: its period
 along-period : {f : ℕ → ℕ} {s n at : ℕ} → Along f s n at → f at ≡ s → Period f s
@@ -43,8 +45,9 @@ along-period {f} {s} {n} {at} a e = record {
 -- fewer steps than the period have been taken
 pub along-few : {f : ℕ → ℕ} {s n at : ℕ} → Along f s n at → (p : Period f s) → n < p .steps
 along-few {f} {s} {n} a p = elim (decLt n (p .steps)) [
-    yes l ↦ l
-  | no l ↦ absurd (a .early (p .steps) (p .some) (omega arith) (p .back)) ]
+  | yes l ↦ l
+  | no l ↦ absurd (a .early (p .steps) (p .some) (omega arith) (p .back))
+]
 
 -- the loop over a walk from s in the table t: the start and the present step stand on live darts
 pub record Walking (t : List ℕ) (s n at : ℕ) : Type 0 where

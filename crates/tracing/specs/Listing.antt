@@ -69,8 +69,9 @@ faceCount R = length (faces R)
 unfoldable pub written : Rotation → ℕ → List ℕ
 written R c =
     elim (ltb c loneAt) [
-      true ↦ let w = walk R (2 * c) in length w ∷ w
-    | false ↦ 0 ∷ c ∷ [] ]
+      | true ↦ let w = walk R (2 * c) in length w ∷ w
+      | false ↦ 0 ∷ c ∷ []
+    ]
 
 -- "A listing is written as 16-bit words"
 unfoldable pub listing : Rotation → List ℕ
@@ -131,8 +132,9 @@ module _ (R : Rotation) where
   pub fresh-met : (before : List ℕ) (d : ℕ) → has d (metBy R before) ≡ true → fresh R before d ≡ []
   unfolding fresh
   fresh-met before d e = elim (truth (R .live d)) [
-      holds l ↦ rw (l, fresh, e)
-    | fails l ↦ fresh-dead before d l ]
+    | holds l ↦ rw (l, fresh, e)
+    | fails l ↦ fresh-dead before d l
+  ]
 
   pub fresh-start : (before : List ℕ) (d : ℕ) → R .live d ≡ true → has d (metBy R before) ≡ false → fresh R before d ≡ d ∷ []
   unfolding fresh
@@ -149,5 +151,6 @@ module _ (R : Rotation) where
   pub written-some : (c : ℕ) → 0 < length (written R c)
   unfolding written
   written-some c = elim (truth (ltb c loneAt)) [
-      holds e ↦ rw (e, written) (omega arith)
-    | fails e ↦ rw (e, written) (omega arith) ]
+    | holds e ↦ rw (e, written) (omega arith)
+    | fails e ↦ rw (e, written) (omega arith)
+  ]

@@ -43,21 +43,23 @@ mark-kept : (m cs : List ℕ) (c : ℕ) → c < length m → getD m c 0 ≡ 1 �
 unfolding mark
 mark-kept m [] c h e = e
 mark-kept m (x ∷ cs) c h e = elim (ℕ-discrete c x) [
-    yes q ↦ mark-kept (set m x 1) cs c (rw length-set h) (rw q (getD-set-same m x 1 0 (rw q at h)))
-  | no q ↦ mark-kept (set m x 1) cs c (rw length-set h) (getD-set-other m x c 1 0 q ∙ e) ]
+  | yes q ↦ mark-kept (set m x 1) cs c (rw length-set h) (rw q (getD-set-same m x 1 0 (rw q at h)))
+  | no q ↦ mark-kept (set m x 1) cs c (rw length-set h) (getD-set-other m x c 1 0 q ∙ e)
+]
 
 pub mark-has : (m cs : List ℕ) (c : ℕ) → c < length m → getD m c 0 ≡ 0 → getD (mark m cs) c 0 ≡ bit (has c cs)
 unfolding mark has
 mark-has m [] c h e = e
 mark-has m (x ∷ cs) c h e = elim (ℕ-discrete c x) [
-    yes q ↦
+  | yes q ↦
       let len : c < length (set m x 1) = rw length-set h in
       let one : getD (set m x 1) c 0 ≡ 1 = rw q (getD-set-same m x 1 0 (rw q at h)) in
       let here : has c (x ∷ cs) ≡ true = rw q (has-here x cs) in
       mark-kept (set m x 1) cs c len one ∙ ap bit (sym here)
   | no q ↦
       let len : c < length (set m x 1) = rw length-set h in
-      mark-has (set m x 1) cs c len (getD-set-other m x c 1 0 q ∙ e) ∙ ap bit (sym (has-there c x cs q)) ]
+      mark-has (set m x 1) cs c len (getD-set-other m x c 1 0 q ∙ e) ∙ ap bit (sym (has-there c x cs q))
+]
 
 -- no mark yet
 abbrev pub unmarked : List ℕ

@@ -38,14 +38,16 @@ pub data Place (s : ℕ) : Type 0 where
 
 pub place : (s : ℕ) → Place s
 place s = elim (truth (ltb s steps)) [
-    holds e ↦ is-step (ltb-true s steps e)
-  | fails e ↦ is-still (ltb-false s steps e) ]
+  | holds e ↦ is-step (ltb-true s steps e)
+  | fails e ↦ is-still (ltb-false s steps e)
+]
 
 -- the two still places of a vertex
 pub rev-vertex : (s : ℕ) → steps ≤ s → (rev s - steps) / 2 ≡ (s - steps) / 2
 rev-vertex s h = elim (type? s) [
-    is-zero e ↦ let d : s ≡ 2 * (s / 2) = omega arith in omega arith
-  | is-one e ↦ let d : s ≡ 2 * (s / 2) + 1 = omega arith in omega arith ]
+  | is-zero e ↦ let d : s ≡ 2 * (s / 2) = omega arith in omega arith
+  | is-one e ↦ let d : s ≡ 2 * (s / 2) + 1 = omega arith in omega arith
+]
 
 module _ (R : Rotation) where
   pub trace-step : (s : ℕ) → s < steps → trace R s ≡ step R s
@@ -75,33 +77,38 @@ module _ (R : Rotation) where
 module _ (R : Rotation) (L : Lawful R) where
   pub trace-low : (s : ℕ) → s < places → trace R s < places
   trace-low s l = elim (place s) [
-      is-step h ↦ let w = step-word R L s h in rw (trace-step R s h) (omega arith)
-    | is-still h ↦ rw (trace-still R s h) l ]
+    | is-step h ↦ let w = step-word R L s h in rw (trace-step R s h) (omega arith)
+    | is-still h ↦ rw (trace-still R s h) l
+  ]
 
   pub flip-low : (s : ℕ) → s < places → flip R s < places
   flip-low s l = elim (place s) [
-      is-step h ↦ let w = mirror-word R L s h in rw (flip-step R s h) (omega arith)
-    | is-still h ↦ rw (flip-still R s h) (omega arith) ]
+    | is-step h ↦ let w = mirror-word R L s h in rw (flip-step R s h) (omega arith)
+    | is-still h ↦ rw (flip-still R s h) (omega arith)
+  ]
 
   pub flip-flip : (s : ℕ) → flip R (flip R s) ≡ s
   flip-flip s = elim (place s) [
-      is-step h ↦ rw (flip-step R s h) (flip-step R (mirror R s) (mirror-word R L s h) ∙ mirror-mirror R L s)
-    | is-still h ↦ rw (flip-still R s h) (flip-still R (rev s) (omega arith) ∙ omega arith) ]
+    | is-step h ↦ rw (flip-step R s h) (flip-step R (mirror R s) (mirror-word R L s h) ∙ mirror-mirror R L s)
+    | is-still h ↦ rw (flip-still R s h) (flip-still R (rev s) (omega arith) ∙ omega arith)
+  ]
 
   pub flip-other : (s : ℕ) → flip R s ≢ s
   flip-other s = elim (place s) [
-      is-step h ↦ rw (flip-step R s h) (mirror-other R s)
-    | is-still h ↦ rw (flip-still R s h) (omega arith) ]
+    | is-step h ↦ rw (flip-step R s h) (mirror-other R s)
+    | is-still h ↦ rw (flip-still R s h) (omega arith)
+  ]
 
   pub trace-other : (s : ℕ) → trace R s ≢ flip R s
   trace-other s = elim (place s) [
-      is-step h ↦ rw (trace-step R s h, flip-step R s h) (step-other R L s)
-    | is-still h ↦ rw (trace-still R s h, flip-still R s h) (omega arith) ]
+    | is-step h ↦ rw (trace-step R s h, flip-step R s h) (step-other R L s)
+    | is-still h ↦ rw (trace-still R s h, flip-still R s h) (omega arith)
+  ]
 
   -- tracing, turned to the other sense, is undone by tracing
   pub trace-turn : (s : ℕ) → flip R (trace R (flip R (trace R s))) ≡ s
   trace-turn s = elim (place s) [
-      is-step h ↦
+    | is-step h ↦
         let a = step-word R L s h in
         let b = mirror-word R L (step R s) a in
         let c = step-word R L (mirror R (step R s)) b in
@@ -109,15 +116,18 @@ module _ (R : Rotation) (L : Lawful R) where
         (step-turn R L s)
     | is-still h ↦
         rw (trace-still R s h, flip-still R s h, trace-still R (rev s) (omega arith), flip-still R (rev s) (omega arith))
-        (omega arith) ]
+        (omega arith)
+  ]
 
   pub on-trace : (s : ℕ) → on R (trace R s) ≡ on R s
   on-trace s = elim (place s) [
-      is-step h ↦ rw (trace-step R s h, on-step R s h, on-step R (step R s) (step-word R L s h)) (step-live R L s)
-    | is-still h ↦ rw (trace-still R s h) ]
+    | is-step h ↦ rw (trace-step R s h, on-step R s h, on-step R (step R s) (step-word R L s h)) (step-live R L s)
+    | is-still h ↦ rw (trace-still R s h)
+  ]
 
   pub on-flip : (s : ℕ) → on R (flip R s) ≡ on R s
   on-flip s = elim (place s) [
-      is-step h ↦ rw (flip-step R s h, on-step R s h, on-step R (mirror R s) (mirror-word R L s h)) (mirror-live R L s)
+    | is-step h ↦ rw (flip-step R s h, on-step R s h, on-step R (mirror R s) (mirror-word R L s h)) (mirror-live R L s)
     | is-still h ↦
-        rw (flip-still R s h, on-still R s h, on-still R (rev s) (omega arith)) (ap (R .alone) (rev-vertex s h)) ]
+        rw (flip-still R s h, on-still R s h, on-still R (rev s) (omega arith)) (ap (R .alone) (rev-vertex s h))
+  ]

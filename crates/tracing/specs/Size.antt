@@ -92,8 +92,9 @@ unmet-dead t m d e = rw (e, unmet)
 unmet-marked : (t m : List ℕ) (d : ℕ) → getD m d 0 ≢ 0 → unmet t m d ≡ []
 unfolding unmet
 unmet-marked t m d e = elim (truth (live? t d)) [
-    yes-true l ↦ rw (l, unmet, ne-eqb (getD m d 0) 0 e)
-  | yes-false l ↦ unmet-dead t m d l ]
+  | yes-true l ↦ rw (l, unmet, ne-eqb (getD m d 0) 0 e)
+  | yes-false l ↦ unmet-dead t m d l
+]
 
 unmet-start : (t m : List ℕ) (d : ℕ) → live? t d ≡ true → getD m d 0 ≡ 0 → unmet t m d ≡ d ∷ []
 unfolding unmet
@@ -102,14 +103,16 @@ unmet-start t m d l e = rw (l, unmet, eq-eqb (getD m d 0) 0 e)
 -- either no walk starts at d, or one does
 pub data Unmet (t m : List ℕ) (d : ℕ) : Type 0 where
   no-start : unmet t m d ≡ [] → Unmet t m d
-  start : live? t d ≡ true → unmet t m d ≡ d ∷ [] → Unmet t m d
+  begins : live? t d ≡ true → unmet t m d ≡ d ∷ [] → Unmet t m d
 
 pub unmet-case : (t m : List ℕ) (d : ℕ) → Unmet t m d
 unmet-case t m d = elim (truth (live? t d)) [
-    yes-false l ↦ no-start (unmet-dead t m d l)
+  | yes-false l ↦ no-start (unmet-dead t m d l)
   | yes-true l ↦ elim (ℕ-discrete (getD m d 0) 0) [
-      yes e ↦ start l (unmet-start t m d l e)
-    | no e ↦ no-start (unmet-marked t m d e) ] ]
+    | yes e ↦ begins l (unmet-start t m d l e)
+    | no e ↦ no-start (unmet-marked t m d e)
+  ]
+]
 
 edge-live : {t m : List ℕ} {d : ℕ} → InRange t m d → edgeWord t (edgeOf d) ≢ 0 → live? t d ≡ true
 edge-live {t} {m} {d} h e = yes-live t d (record { low = h .low; on = e })
@@ -139,7 +142,7 @@ looked-walk {t} {d} {m} {n} h e f k =
     let u = unmet-start t m d (edge-live h e) f in
     let low : d < 32768 = let l = h .low in omega arith in
     let text : gather (written (rotation t)) (d ∷ []) ≡ length (walk (rotation t) (2 * d)) ∷ walk (rotation t) (2 * d) =
-        gather-one (written (rotation t)) d ∙ written-walk (rotation t) d low in
+    gather-one (written (rotation t)) d ∙ written-walk (rotation t) d low in
     let most = k .low in
     record {
       walks = rw u;
@@ -167,10 +170,11 @@ seen-none g = record { good = g; low = omega arith; marks = refl }
 pub unmet-fresh : {t : List ℕ} {d : ℕ} {m : List ℕ} → Seen t d m → d < darts → unmet t m d ≡ fresh (rotation t) (starts (rotation t) d) d
 unfolding unmet fresh
 unmet-fresh {t} {d} {m = m} k h = elim (truth (live? t d)) [
-    yes-false l ↦ rw (l, unmet, fresh)
+  | yes-false l ↦ rw (l, unmet, fresh)
   | yes-true l ↦
       let read : getD m d 0 ≡ bit (has d (metBy (rotation t) (starts (rotation t) d))) = rw (k .marks) (mark-reads (metBy (rotation t) (starts (rotation t) d)) d h) in
-      rw (l, unmet, fresh, read) (same (has d (metBy (rotation t) (starts (rotation t) d)))) ]
+      rw (l, unmet, fresh, read) (same (has d (metBy (rotation t) (starts (rotation t) d))))
+]
   where
     same : (b : Bool) → only (eqb (bit b) 0) d ≡ only (not b) d
     same true = refl

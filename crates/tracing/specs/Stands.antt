@@ -66,5 +66,6 @@ module _ {t : List ℕ} where
   stands-corner {s} h =
       let n = near (stands-dart h) in
       elim (type? s) [
-        is-zero e ↦ rw (corner-zero (rotation t) s e) (n .dart)
-      | is-one e ↦ rw (corner-one (rotation t) s e) (next-dart (rotation t) (good-lawful t (h .good)) (s / 2) (n .dart)) ]
+        | is-zero e ↦ rw (corner-zero (rotation t) s e) (n .dart)
+        | is-one e ↦ rw (corner-one (rotation t) s e) (next-dart (rotation t) (good-lawful t (h .good)) (s / 2) (n .dart))
+      ]

@@ -189,15 +189,17 @@ module _ (R : Rotation) (L : Lawful R) where
 
   pub next-dart : (d : ℕ) → d < darts → R .next d < darts
   next-dart d h = elim (truth (R .live d)) [
-      holds e ↦ L .dart-low (R .next d) (L .live-next d ∙ e)
-    | fails e ↦ rw (L .still d e) h ]
+    | holds e ↦ L .dart-low (R .next d) (L .live-next d ∙ e)
+    | fails e ↦ rw (L .still d e) h
+  ]
 
   pub prev-dart : (d : ℕ) → d < darts → R .prev d < darts
   prev-dart d h = elim (truth (R .live d)) [
-      holds e ↦ L .dart-low (R .prev d) (live-prev d ∙ e)
+    | holds e ↦ L .dart-low (R .prev d) (live-prev d ∙ e)
     | fails e ↦
         let same : R .prev d ≡ d = ap (R .prev) (sym (L .still d e)) ∙ L .prev-next d in
-        rw same h ]
+        rw same h
+  ]
 
   around-dart : (t d : ℕ) → Type? t → R .live (around R t d / 2) ≡ R .live d
   around-dart t d (is-zero e) =
@@ -229,5 +231,6 @@ module _ (R : Rotation) (L : Lawful R) where
 
   pub mirror-word : (s : ℕ) → s < steps → mirror R s < steps
   mirror-word s h = elim (type? s) [
-      is-zero e ↦ let n = prev-dart (s / 2) (omega arith) in rw (mirror-zero R s e) (omega arith)
-    | is-one e ↦ let n = next-dart (s / 2) (omega arith) in rw (mirror-one R s e) (omega arith) ]
+    | is-zero e ↦ let n = prev-dart (s / 2) (omega arith) in rw (mirror-zero R s e) (omega arith)
+    | is-one e ↦ let n = next-dart (s / 2) (omega arith) in rw (mirror-one R s e) (omega arith)
+  ]

@@ -57,14 +57,15 @@ module _ (f : ℕ → ℕ) (s : ℕ) where
   onward-rest : (p : Period f s) (n k : ℕ) → k < p .steps → p .steps ≤ k + n → run f s k ++ onward f s n (iter f k s) ≡ run f s (p .steps)
   onward-rest p zero k h l = absurd (omega arith)
   onward-rest p (suc n) k h l = elim (ℕ-discrete (suc k) (p .steps)) [
-      yes e ↦
+    | yes e ↦
         let back : f (iter f k s) ≡ s = sym (iter-suc f k s) ∙ ap (λ j. iter f j s) e ∙ p .back in
         rw (onward-last n (iter f k s) back) (sym (run-suc f s k) ∙ ap (run f s) e)
     | no e ↦
         let early : f (iter f k s) ≢ s = λ b. p .least (suc k) (omega arith) (omega arith) (iter-suc f k s ∙ b) in
         let rest = onward-rest p n (suc k) (omega arith) (omega arith) in
         rw (onward-more n (iter f k s) early, ← iter-suc f k s)
-        (sym (append-assoc (run f s k) (iter f k s ∷ []) _) ∙ ap (λ l. l ++ onward f s n (iter f (suc k) s)) (sym (run-suc f s k)) ∙ rest) ]
+        (sym (append-assoc (run f s k) (iter f k s ∷ []) _) ∙ ap (λ l. l ++ onward f s n (iter f (suc k) s)) (sym (run-suc f s k)) ∙ rest)
+  ]
 
   pub onward-run : (p : Period f s) (n : ℕ) → p .steps ≤ n → onward f s n s ≡ run f s (p .steps)
   unfolding run iter

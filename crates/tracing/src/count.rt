@@ -1,6 +1,11 @@
 // The listed walks counted: how many they are, and how many words their listing has.
-use crate::layout::{DARTS, EDGE, ISOLATED, VERTEX, VERTICES};
-use crate::step::{corner, step};
+use crate::layout::DARTS;
+use crate::layout::EDGE;
+use crate::layout::ISOLATED;
+use crate::layout::VERTEX;
+use crate::layout::VERTICES;
+use crate::step::corner;
+use crate::step::step;
 ghost use mathlib.Core.Path.{_≡_};
 ghost use lib.ListN.{length};
 ghost use Rattle.table.specs.Layout.{darts};

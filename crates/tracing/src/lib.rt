@@ -1,5 +1,5 @@
 // Tracing a good table: steps, walks, faces, the face count and the listing.
-mod layout;
-pub mod step;
 pub mod count;
+mod layout;
 pub mod listing;
+pub mod step;

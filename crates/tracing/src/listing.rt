@@ -1,6 +1,10 @@
 // The listing, written to a lent slice that is long enough.
-use crate::count::{look, measure};
-use crate::layout::{DARTS, ISOLATED, VERTEX, VERTICES};
+use crate::count::look;
+use crate::count::measure;
+use crate::layout::DARTS;
+use crate::layout::ISOLATED;
+use crate::layout::VERTEX;
+use crate::layout::VERTICES;
 use crate::step::step;
 ghost use mathlib.Core.Path.{_≡_};
 ghost use Prim.Native.Nat.{_+_, _≤_};
@@ -11,7 +15,7 @@ ghost use Rattle.table.specs.Rotation.{rotation};
 ghost use Rattle.tracing.specs.Walk.{walk};
 ghost use Rattle.tracing.specs.Listing.{listing};
 ghost use Rattle.tracing.specs.Stands.{Stands};
-ghost use Rattle.tracing.specs.Writing.{RoomAt, Entered, RoomLone, EnteredLone};
+ghost use Rattle.tracing.specs.Writing.{RoomAt, Entered, RoomLone, EnteredLone, walksText, lonesText, WroteWalks, listed};
 
 // The number of words of the listing.
 pub fn listing_words(t: &[u16]) -> usize
@@ -64,4 +68,41 @@ fn write_lone(t: &[u16], out: &mut [u16], at: usize, v: usize) -> usize
     out[at] = 0;
     out[at + 1] = 32768 + (v as u16);
     at + 2
+}
+
+// The walks that start at a dart, upward, from the front of `out`. The index after them.
+fn write_walks(t: &[u16], out: &mut [u16]) -> usize
+    requires { ⌜ Good (now t) × (length (walksText (rotation (now t)) 2048) ≤ length (now out)) ⌝ }
+    ensures { λ r. ⌜ WroteWalks (now (t .entry)) (now (out .entry)) r (now (out .exit)) ⌝ }
+{
+    let mut met = [0u8; 2048];
+    let mut at: usize = 0;
+    let mut d: usize = 0;
+    while d < DARTS {
+        at = write_from(t, &mut met, out, at, d);
+        d += 1;
+    }
+    at
+}
+
+// The empty walks, upward, from index `start` on.
+fn write_lones(t: &[u16], out: &mut [u16], start: usize)
+    requires { ⌜ Good (now t) × (start + length (lonesText (rotation (now t)) 512) ≤ length (now out)) ⌝ }
+    ensures { λ _. ⌜ now (out .exit) ≡ sets (now (out .entry)) start (lonesText (rotation (now (t .entry))) 512) ⌝ }
+{
+    let mut at = start;
+    let mut v: usize = 0;
+    while v < VERTICES {
+        at = write_lone(t, out, at, v);
+        v += 1;
+    }
+}
+
+// The listing, at the front of a slice that is long enough. The rest keeps its words.
+pub fn write_listing(t: &[u16], out: &mut [u16])
+    requires { ⌜ Good (now t) × (length (listing (rotation (now t))) ≤ length (now out)) ⌝ }
+    ensures { λ _. ⌜ now (out .exit) ≡ listed (rotation (now (t .entry))) (now (out .entry)) ⌝ }
+{
+    let at = write_walks(t, out);
+    write_lones(t, out, at);
 }

@@ -13,7 +13,7 @@ use native.Mathlib.Decide.{ℕ-discrete}
 use native.Mathlib.Omega.{arith}
 use lib.Dec.{eqb}
 use borrow.Author.Tests.{eq-eqb, ne-eqb}
-use Rattle.orbits.specs.Truth.{truth, holds, fails, clash, false-unless, First, first, found, none}
+use Rattle.orbits.specs.Truth.{truth, holds, fails, clash, both-left, false-unless, First, first, found, none}
 
 abbrev pub more : Bool → ℕ → ℕ
 more true n = suc n
@@ -80,6 +80,10 @@ without-at p a = rw (eq-eqb a a refl) (and-false (p a))
 pub without-other : (p : ℕ → Bool) (a i : ℕ) → i ≢ a → without p a i ≡ p i
 unfolding without
 without-other p a i h = rw (ne-eqb i a h) (and-true (p i))
+
+pub without-on : (p : ℕ → Bool) (a i : ℕ) → without p a i ≡ true → p i ≡ true
+unfolding without
+without-on p a i t = both-left (p i) (not (eqb i a)) t
 
 pub count-without : (p : ℕ → Bool) (a n : ℕ) → a < n → p a ≡ true → count p n ≡ suc (count (without p a) n)
 count-without p a n h t = count-one p (without p a) a n h t (without-at p a) (λ i l d. sym (without-other p a i d))
@@ -166,7 +170,7 @@ pub record Partner (G : ℕ → ℕ → Type 0) (q : ℕ → Bool) (m i : ℕ) :
 
 pub count-into : (G : ℕ → ℕ → Type 0) (p q : ℕ → Bool) (n m : ℕ)
     → ((i : ℕ) → i < n → p i ≡ true → Partner G q m i)
-    → ((i j k : ℕ) → i < n → j < n → p i ≡ true → p j ≡ true → G i k → G j k → i ≡ j)
+    → ((i j k : ℕ) → i < n → j < n → k < m → p i ≡ true → p j ≡ true → q k ≡ true → G i k → G j k → i ≡ j)
     → count p n ≤ count q m
 unfolding count
 count-into G p q zero m total inj = omega arith
@@ -179,9 +183,9 @@ count-into G p q (suc n) m total inj = elim (truth (p n)) [
       (λ i h s.
       let mine = total i (omega arith) s in
       let other : mine .to ≢ last .to =
-      λ e. let same : i ≡ n = inj i n (last .to) (omega arith) (omega arith) s t (rw e at (mine .pair)) (last .pair) in omega arith in
+      λ e. let same : i ≡ n = inj i n (last .to) (omega arith) (omega arith) (last .low) s t (last .pass) (rw e at (mine .pair)) (last .pair) in omega arith in
       record { to = mine .to; low = mine .low; pass = without-other q (last .to) (mine .to) other ∙ mine .pass; pair = mine .pair })
-      (λ i j k h l. inj i j k (omega arith) (omega arith)) in
+      (λ i j k h l b s u w. inj i j k (omega arith) (omega arith) b s u (without-on q (last .to) k w)) in
       let one = count-without q (last .to) m (last .low) (last .pass) in
       rw (t, one) (omega arith)
 ]
@@ -189,12 +193,12 @@ count-into G p q (suc n) m total inj = elim (truth (p n)) [
 -- a test that implies another
 pub count-fewer : (p q : ℕ → Bool) (n : ℕ) → ((i : ℕ) → i < n → p i ≡ true → q i ≡ true) → count p n ≤ count q n
 count-fewer p q n h =
-    count-into (λ i j. i ≡ j) p q n n (λ i l t. record { to = i; low = l; pass = h i l t; pair = refl }) (λ i j k l m s t e f. e ∙ sym f)
+    count-into (λ i j. i ≡ j) p q n n (λ i l t. record { to = i; low = l; pass = h i l t; pair = refl }) (λ i j k l m b s t w e f. e ∙ sym f)
 
 pub count-onto : (G : ℕ → ℕ → Type 0) (p q : ℕ → Bool) (n m : ℕ)
     → ((i : ℕ) → i < n → p i ≡ true → Partner G q m i)
     → ((j : ℕ) → j < m → q j ≡ true → Partner (λ j i. G i j) p n j)
-    → ((i j k : ℕ) → i < n → j < n → p i ≡ true → p j ≡ true → G i k → G j k → i ≡ j)
-    → ((i j k : ℕ) → i < m → j < m → q i ≡ true → q j ≡ true → G k i → G k j → i ≡ j)
+    → ((i j k : ℕ) → i < n → j < n → k < m → p i ≡ true → p j ≡ true → q k ≡ true → G i k → G j k → i ≡ j)
+    → ((i j k : ℕ) → i < m → j < m → k < n → q i ≡ true → q j ≡ true → p k ≡ true → G k i → G k j → i ≡ j)
     → count p n ≡ count q m
 count-onto G p q n m total onto inj single = le-antisymm (count-into G p q n m total inj) (count-into (λ j i. G i j) q p m n onto single)

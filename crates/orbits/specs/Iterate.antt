@@ -105,7 +105,7 @@ period {N} {f} I i h = by (first (λ k. iter f (suc k) i ≡ i) (λ k. ℕ-discr
         fits =
             count-into (λ k s. iter f k i ≡ s) (λ k. true) (λ k. true) (suc N) N
             (λ k l t. record { to = iter f k i; low = iter-low I k i h; pass = refl; pair = refl })
-            (λ a b s l m t u d e. apart a b l m (d ∙ sym e))
+            (λ a b s l m c t u w d e. apart a b l m (d ∙ sym e))
 
         crowd : count (λ k. true) (suc N) ≤ count (λ k. true) N → N < N
         crowd le =
@@ -120,7 +120,7 @@ period-on {N} {f} I live keep {i} h on p =
     let into : count (λ k. true) (p .steps) ≤ count live N =
     count-into (λ k s. iter f k i ≡ s) (λ k. true) live (p .steps) N
     (λ k l t. record { to = iter f k i; low = stays k .0; pass = stays k .1; pair = refl })
-    (λ a b s l m t u d e. period-apart I h p a b l m (d ∙ sym e)) in
+    (λ a b s l m c t u w d e. period-apart I h p a b l m (d ∙ sym e)) in
     omega arith
   where
     stays : (k : ℕ) → (iter f k i < N) × (live (iter f k i) ≡ true)

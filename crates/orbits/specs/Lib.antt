@@ -4,3 +4,7 @@ pub mod Truth
 pub mod Count
 pub mod Iterate
 pub mod Reach
+pub mod Classes
+pub mod Merge
+pub mod Orbits
+pub mod Exchange

@@ -2,3 +2,10 @@ pub mod Layout
 pub mod Good
 pub mod Rotation
 pub mod Lawful
+pub mod Answers
+pub mod Counting
+pub mod Darts
+pub mod Cycle
+pub mod Vertices
+pub mod Check
+pub mod Empty

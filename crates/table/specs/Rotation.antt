@@ -1,18 +1,16 @@
 -- A rotation system, with no words in it: tracing, surgery and surfaces are stated over it. `rotation t` reads one off a table, and a good table's is lawful.
 -- A dart that is not live is its own next and its own previous, so that the laws hold for every number.
 -- Assumes nothing.
-use Prim.Native.Nat.{ℕ, zero, suc, _<_}
-use native.Mathlib.Omega.{arith}
-use mathlib.Core.Path.{_≡_, refl, sym, _∙_, ap, subst}
+use Prim.Native.Nat.{ℕ, _<_}
+use mathlib.Core.Path.{_≡_, refl, sym, _∙_}
 use mathlib.Core.Bool.{Bool, true, false, _&&_, not}
 use mathlib.Core.List.{List}
 use mathlib.Core.Logic.{_≢_}
 use lib.Dec.{ltb, eqb}
-use borrow.Author.Tests.{ltb-true, eqb-true, eqb-false, lt-ltb, eq-eqb, ne-eqb}
-use Rattle.orbits.specs.Iterate.{iter}
+use borrow.Author.Tests.{ltb-true, eqb-true, eqb-false, lt-ltb, eq-eqb, ne-eqb, not-true}
+use Rattle.orbits.specs.Truth.{clash, both, both-left, both-right}
 use Rattle.orbits.specs.Reach.{Reach}
 use Rattle.table.specs.Layout.{vertices, darts, nothing, isolated, nextWord, prevWord, leaves, edgeWord, vertexWord, edgeOf, rev, Live}
-use Rattle.table.specs.Good.{Good, Bare, Smallest}
 
 pub record Rotation : Type 0 where
   -- is the dart live
@@ -72,23 +70,8 @@ alone? t v = ltb v vertices && eqb (vertexWord t v) isolated
 abbrev pub rotation : List ℕ → Rotation
 rotation t = record { live = live? t; next = nextDart t; prev = prevDart t; turns = turnsOf t; from = leaves t; there = there? t; alone = alone? t }
 
--- two tests that are both true, and a test that is not
-
-and-both : (a b : Bool) → a && b ≡ true → (a ≡ true) × (b ≡ true)
-and-both true b e = (refl, e)
-and-both false b e = let z : _≡_ {A = ℕ} 0 1 = cc in absurd (omega arith)
-
-and-true : (a b : Bool) → a ≡ true → b ≡ true → a && b ≡ true
-and-true true b p q = q
-and-true false b p q = p
-
 not-yes : (b : Bool) → b ≡ false → not b ≡ true
-not-yes true p = sym p
-not-yes false p = refl
-
-not-no : (b : Bool) → not b ≡ true → b ≡ false
-not-no true p = sym p
-not-no false p = refl
+not-yes b p = rw p
 
 -- a Boolean that says whether P holds is one of two cases
 pub data Case (b : Bool) (P : Type 0) : Type 0 where
@@ -97,7 +80,7 @@ pub data Case (b : Bool) (P : Type 0) : Type 0 where
 
 case-of : {b : Bool} {P : Type 0} → (b ≡ true → P) → (P → b ≡ true) → (c : Bool) → b ≡ c → Case b P
 case-of f g true e = holds e (f e)
-case-of f g false e = fails e (λ p. let z : _≡_ {A = Bool} true false = sym (g p) ∙ e in let y : _≡_ {A = ℕ} 0 1 = cc in omega arith)
+case-of f g false e = fails e (λ p. clash (g p) e)
 
 -- two Booleans that say the same are the same
 pub same-case : {a b : Bool} {P Q : Type 0} → (P → Q) → (Q → P) → Case a P → Case b Q → a ≡ b
@@ -110,13 +93,15 @@ module _ (t : List ℕ) where
   pub live-yes : (d : ℕ) → live? t d ≡ true → Live t d
   unfolding live?
   live-yes d e =
-      let p = and-both (ltb d darts) (not (eqb (edgeWord t (edgeOf d)) 0)) e in
-      record { low = ltb-true d darts (p .0); on = eqb-false (edgeWord t (edgeOf d)) 0 (not-no _ (p .1)) }
+      record {
+        low = ltb-true d darts (both-left (ltb d darts) _ e);
+        on = eqb-false (edgeWord t (edgeOf d)) 0 (not-true _ (both-right (ltb d darts) _ e));
+      }
 
   pub yes-live : (d : ℕ) → Live t d → live? t d ≡ true
   unfolding live?
   yes-live d l =
-      and-true (ltb d darts) (not (eqb (edgeWord t (edgeOf d)) 0)) (lt-ltb d darts (l .low)) (not-yes _ (ne-eqb (edgeWord t (edgeOf d)) 0 (l .on)))
+      both (lt-ltb d darts (l .low)) (not-yes _ (ne-eqb (edgeWord t (edgeOf d)) 0 (l .on)))
 
   pub live-case : (d : ℕ) → Case (live? t d) (Live t d)
   live-case d = case-of (live-yes d) (yes-live d) (live? t d) refl
@@ -139,20 +124,37 @@ module _ (t : List ℕ) where
 
   pub there-yes : (v : ℕ) → v < vertices → vertexWord t v ≢ nothing → there? t v ≡ true
   unfolding there?
-  there-yes v l n = and-true (ltb v vertices) (not (eqb (vertexWord t v) nothing)) (lt-ltb v vertices l) (not-yes _ (ne-eqb (vertexWord t v) nothing n))
+  there-yes v l n = both (lt-ltb v vertices l) (not-yes _ (ne-eqb (vertexWord t v) nothing n))
 
   pub there-word : (v : ℕ) → there? t v ≡ true → (v < vertices) × (vertexWord t v ≢ nothing)
   unfolding there?
   there-word v e =
-      let p = and-both (ltb v vertices) (not (eqb (vertexWord t v) nothing)) e in
-      (ltb-true v vertices (p .0), eqb-false (vertexWord t v) nothing (not-no _ (p .1)))
+      (ltb-true v vertices (both-left (ltb v vertices) _ e), eqb-false (vertexWord t v) nothing (not-true _ (both-right (ltb v vertices) _ e)))
 
   pub alone-yes : (v : ℕ) → v < vertices → vertexWord t v ≡ isolated → alone? t v ≡ true
   unfolding alone?
-  alone-yes v l p = and-true (ltb v vertices) (eqb (vertexWord t v) isolated) (lt-ltb v vertices l) (eq-eqb (vertexWord t v) isolated p)
+  alone-yes v l p = both (lt-ltb v vertices l) (eq-eqb (vertexWord t v) isolated p)
 
   pub alone-word : (v : ℕ) → alone? t v ≡ true → (v < vertices) × (vertexWord t v ≡ isolated)
   unfolding alone?
   alone-word v e =
-      let p = and-both (ltb v vertices) (eqb (vertexWord t v) isolated) e in
-      (ltb-true v vertices (p .0), eqb-true (vertexWord t v) isolated (p .1))
+      (ltb-true v vertices (both-left (ltb v vertices) _ e), eqb-true (vertexWord t v) isolated (both-right (ltb v vertices) _ e))
+
+  pub not-live : (d : ℕ) → (Live t d → ⊥) → live? t d ≡ false
+  not-live d n = elim (live-case d) [
+    | holds e l ↦ absurd (n l)
+    | fails e m ↦ e
+  ]
+
+-- what a Boolean that was seen tells
+pub case-yes : {b : Bool} {P : Type 0} → Case b P → b ≡ true → P
+case-yes (holds e p) t = p
+case-yes (fails e n) t = absurd (clash t e)
+
+pub case-no : {b : Bool} {P : Type 0} → Case b P → b ≡ false → P → ⊥
+case-no (holds e p) f x = clash e f
+case-no (fails e n) f x = n x
+
+pub case-map : {b : Bool} {P Q : Type 0} → (P → Q) → (Q → P) → Case b P → Case b Q
+case-map f g (holds e p) = holds e (f p)
+case-map f g (fails e n) = fails e (λ q. n (g q))

@@ -1,0 +1,74 @@
+-- Two classes become one. Nothing of maps is in it: R and R′ are equivalences below N, and R′ is R with the classes of
+-- x and y joined. Where these were two live classes, there is one class less.
+--     Join          i and j are in one class, or one is in the class of x and the other in that of y
+--     Merge         R′ is Join R x y, and R holds x and y apart
+--     merge-classes the number falls by one
+use mathlib.Core.Path.{_≡_, refl, sym, _∙_, ap}
+use mathlib.Core.Logic.{_≢_}
+use mathlib.Core.Bool.{Bool, true, false, _&&_}
+use Prim.Native.Nat.{ℕ, zero, suc, _<_, _≤_}
+use native.Mathlib.Decide.{ℕ-discrete, decLt}
+use native.Mathlib.Omega.{arith}
+use Rattle.orbits.specs.Truth.{false-unless, same-truth}
+use Rattle.orbits.specs.Count.{count-one}
+use Rattle.orbits.specs.Classes.{Partition, Keeps, least, head, classes, Least, least-of, least-one, least-means, least-says, head-live, head-least, head-says}
+
+pub data Join (R : ℕ → ℕ → Type 0) (x y i j : ℕ) : Type 0 where
+  inside : R i j → Join R x y i j
+  across : R i x → R y j → Join R x y i j
+  back : R i y → R x j → Join R x y i j
+
+pub record Merge (N : ℕ) (R R′ : ℕ → ℕ → Type 0) (x y : ℕ) : Type 0 where
+  pub apart : ¬ R x y
+  pub into : (i j : ℕ) → i < N → j < N → R′ i j → Join R x y i j
+  pub onto : (i j : ℕ) → i < N → j < N → Join R x y i j → R′ i j
+
+pub join-swap : {R : ℕ → ℕ → Type 0} {x y i j : ℕ} → Join R x y i j → Join R y x i j
+join-swap (inside q) = inside q
+join-swap (across p q) = back p q
+join-swap (back p q) = across p q
+
+pub merge-swap : {N : ℕ} {R R′ : ℕ → ℕ → Type 0} {r : ℕ → ℕ → Bool} {x y : ℕ} → Partition N R r → x < N → y < N → Merge N R R′ x y → Merge N R R′ y x
+merge-swap {N} {R} {R′} {r} {x} {y} P h l M = record {
+  apart = λ q. M .apart (P .flip y x l h q);
+  into = λ i j a b q. join-swap (M .into i j a b q);
+  onto = λ i j a b q. M .onto i j a b (join-swap q);
+}
+
+module _ {N : ℕ} {R R′ : ℕ → ℕ → Type 0} {r r′ : ℕ → ℕ → Bool} (P : Partition N R r) (P′ : Partition N R′ r′) (live : ℕ → Bool) (K : Keeps N R live) where
+  -- the least member of y's class is the one that is no longer least
+  lower : (x y : ℕ) → x < N → y < N → live y ≡ true → Merge N R R′ x y → (a : Least N R r x) (b : Least N R r y) → a .at < b .at
+      → classes r N live ≡ suc (classes r′ N live)
+  unfolding classes
+  lower x y h l on M a b lt =
+      count-one (head r live) (head r′ live) (b .at) N (b .low)
+      (head-says r live (b .at) (K .keep y (b .at) l (b .low) (b .meet) on) (b .first))
+      (false-unless (head r′ live (b .at)) (λ t.
+      least-means P′ (b .at) (a .at) (b .low) (head-least r′ live (b .at) t) lt
+      (M .onto (b .at) (a .at) (b .low) (a .low) (back (P .flip y (b .at) l (b .low) (b .meet)) (a .meet)))))
+      (λ i m d. same-truth (head r live i) (head r′ live i)
+      (λ t. head-says r′ live i (head-live r live i t) (still i m d (head-least r live i t)))
+      (λ t. head-says r live i (head-live r′ live i t)
+      (least-says P i m (λ j n q. least-means P′ i j m (head-least r′ live i t) n (M .onto i j m (omega arith) (inside q))))))
+    where
+      still : (i : ℕ) → i < N → i ≢ b .at → least r i ≡ true → least r′ i ≡ true
+      still i m d t = least-says P′ i m (λ j n q. by j (omega arith) n (M .into i j m (omega arith) q))
+        where
+          by : (j : ℕ) → j < N → j < i → Join R x y i j → ⊥
+          by j o n (inside q) = least-means P i j m t n q
+          by j o n (across p q) =
+              let top : i ≡ a .at = least-one P i (a .at) m (a .low) t (a .first) (P .join i x (a .at) m h (a .low) p (a .meet)) in
+              least-means P (b .at) j (b .low) (b .first) (omega arith) (P .join (b .at) y j (b .low) l o (P .flip y (b .at) l (b .low) (b .meet)) q)
+          by j o n (back p q) = d (least-one P i (b .at) m (b .low) t (b .first) (P .join i y (b .at) m l (b .low) p (b .meet)))
+
+  pub merge-classes : (x y : ℕ) → x < N → y < N → live x ≡ true → live y ≡ true → Merge N R R′ x y → classes r N live ≡ suc (classes r′ N live)
+  merge-classes x y h l on on′ M = by (least-of P x h) (least-of P y l)
+    where
+      by : Least N R r x → Least N R r y → classes r N live ≡ suc (classes r′ N live)
+      by a b = elim (ℕ-discrete (a .at) (b .at)) [
+        | yes e ↦ absurd (M .apart (P .join x (a .at) y h (a .low) l (a .meet) (rw (← e) at (P .flip y (b .at) l (b .low) (b .meet)))))
+        | no e ↦ elim (decLt (a .at) (b .at)) [
+          | yes m ↦ lower x y h l on′ M a b m
+          | no m ↦ lower y x l h on (merge-swap P h l M) b a (omega arith)
+        ]
+      ]

@@ -1,0 +1,20 @@
+use Rattle.table.specs.Answers.{codeOf, handed-on}
+use mathlib.Core.Path.{_∙_, ap}
+use borrow.Author.Needs.{needs}
+use Rattle.planner.proofs.planner_empty.Statement.{statement}
+use Rattle.planner.proofs.planner_empty.Tie as tie
+
+empty-requires : tie.Need-empty-requires
+empty-requires c κs = search needs
+
+code-requires : tie.Need-code-requires
+code-requires c κs = search needs
+
+same-length : tie.Need-same-length
+same-length c = search needs
+
+returns : tie.Need-returns
+returns c = (handed-on (c .code .ok) (c .code .ensures ∙ ap codeOf (c .before .before .before .empty .ensures .0)), c .before .before .before .empty .ensures .1)
+
+pub planner-empty-spec : {M : Type 1} → statement M
+planner-empty-spec = tie.close (tie.spec empty-requires code-requires same-length returns)

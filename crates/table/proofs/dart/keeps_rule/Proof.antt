@@ -1,0 +1,29 @@
+use Rattle.table.specs.Darts.{rule-dead, rule-live}
+use Rattle.table.specs.Rotation.{case-map, fails}
+use native.Mathlib.Omega.{arith}
+use mathlib.Core.Path.{refl, sym, _∙_}
+use borrow.Author.Needs.{needs}
+use Rattle.table.proofs.dart.keeps_rule.Statement.{statement}
+use Rattle.table.proofs.dart.keeps_rule.Tie as tie
+
+is-bare-requires : tie.Need-is-bare-requires
+is-bare-requires c κs = search needs
+
+returns : tie.Need-returns
+returns c = let off = sym (c .before .before .before .pre .2) ∙ c .before .if1 .taken in
+    case-map (rule-dead _ _ off) (λ r. r .bare off) (c .is-bare .ensures)
+
+returns-2 : tie.Need-returns-2
+returns-2 c = fails refl (λ r. omega (arith, r .turns, c .before .before .before .pre .2, c .if2 .taken))
+
+is-linked-requires : tie.Need-is-linked-requires
+is-linked-requires c κs = search needs
+
+returns-3 : tie.Need-returns-3
+returns-3 c = let same = c .before .before .before .before .pre .2 in
+    let on = c .before .before .if1 .left in
+    case-map (rule-live _ _ (λ e. on (same ∙ e)) (omega (arith, same, c .before .if2 .left))) (λ r. r .linked (λ e. on (same ∙ e))) (c .is-linked .ensures)
+
+pub keeps-rule-spec : {M : Type 1} → statement M
+keeps-rule-spec =
+    tie.close (tie.spec is-bare-requires returns returns-2 is-linked-requires returns-3)

@@ -1,0 +1,101 @@
+// The rules that a dart's own words keep.
+use crate::layout::DARTS;
+use crate::layout::EDGE;
+use crate::layout::EDGE_WORD_MAX;
+use crate::layout::LEAVES;
+use crate::layout::NOTHING;
+use crate::layout::PREV;
+use crate::layout::VERTICES;
+ghost use mathlib.Core.Path.{_≡_};
+ghost use Prim.Native.Nat.{_<_};
+ghost use lib.ListN.{length};
+ghost use Rattle.table.specs.Layout.{words, darts, edgeWord, edgeOf};
+ghost use Rattle.table.specs.Good.{Bare};
+ghost use Rattle.table.specs.Rotation.{Case};
+ghost use Rattle.table.specs.Darts.{Linked, DartRule, DartsSay};
+
+// How many darts a part of the check went over, or that it met a broken rule.
+pub enum Counted {
+    Broken,
+    Of(usize),
+}
+
+// Are the three words of a dart that is not live 65,535.
+fn is_bare(t: &[u16], d: usize) -> bool
+    requires { ⌜ (length (now t) ≡ words) × (d < darts) ⌝ }
+    ensures { λ r. ⌜ Case r (Bare (now (t .entry)) d) ⌝ }
+{
+    if t[d] != NOTHING {
+        return false;
+    }
+    if t[PREV + d] != NOTHING {
+        return false;
+    }
+    if t[LEAVES + d] != NOTHING {
+        return false;
+    }
+    true
+}
+
+// Does a live dart leave a vertex, and do "next" and "previous" undo each other at it, at one vertex.
+fn is_linked(t: &[u16], d: usize) -> bool
+    requires { ⌜ (length (now t) ≡ words) × (d < darts) ⌝ }
+    ensures { λ r. ⌜ Case r (Linked (now (t .entry)) d) ⌝ }
+{
+    let v = t[LEAVES + d] as usize;
+    if VERTICES <= v {
+        return false;
+    }
+    let n = t[d] as usize;
+    if DARTS <= n {
+        return false;
+    }
+    if t[PREV + n] as usize != d {
+        return false;
+    }
+    if t[LEAVES + n] as usize != v {
+        return false;
+    }
+    let p = t[PREV + d] as usize;
+    if DARTS <= p {
+        return false;
+    }
+    if t[p] as usize != d {
+        return false;
+    }
+    true
+}
+
+// Does dart d keep its rules, by what its edge's word w says.
+fn keeps_rule(t: &[u16], d: usize, w: u16) -> bool
+    requires { ⌜ (length (now t) ≡ words) × (d < darts) × (w ≡ edgeWord (now t) (edgeOf d)) ⌝ }
+    ensures { λ r. ⌜ Case r (DartRule (now (t .entry)) d) ⌝ }
+{
+    if w == 0 {
+        return is_bare(t, d);
+    }
+    if EDGE_WORD_MAX < w {
+        return false;
+    }
+    is_linked(t, d)
+}
+
+// The number of live darts, if each dart keeps its rules.
+pub fn live_darts(t: &[u16]) -> Counted
+    requires { ⌜ length (now t) ≡ words ⌝ }
+    ensures { λ r. ⌜ DartsSay (now (t .entry)) r ⌝ }
+{
+    let mut n: usize = 0;
+    let mut d: usize = 0;
+    while d < DARTS {
+        let w = t[EDGE + d / 2];
+        if !keeps_rule(t, d, w) {
+            return Counted::Broken;
+        }
+        if w != 0 {
+            n += 1;
+        }
+        d += 1;
+    }
+    Counted::Of(n)
+}

@@ -1,0 +1,68 @@
+/*
+ * planner.h: a mesh as a rotation system with signed twist counts, its edits, its faces and its ribbons.
+ *
+ * Every function takes numbers and slices. A slice is a pointer and then its number of elements (not bytes);
+ * an empty slice may be NULL and 0. Two slices of one call must not overlap. Nothing is kept between calls:
+ * the host owns every slice, and no call writes past a slice's length.
+ *
+ * Every function returns int64_t: the answer, 0 or more, or minus the number of the refusal. A declined call
+ * leaves every lent slice as it was.
+ *
+ * Link with libplanner.a.
+ */
+#ifndef PLANNER_H
+#define PLANNER_H
+
+#include <stddef.h>
+#include <stdint.h>
+
+#ifdef __cplusplus
+extern "C" {
+#endif
+
+/* Sizes. */
+#define PLANNER_VERTICES 512
+#define PLANNER_EDGES 1024
+#define PLANNER_DARTS 2048
+#define PLANNER_TABLE_WORDS 7680
+
+/* Where each kind of word begins in a table; edge e has the darts 2e and 2e+1. */
+#define PLANNER_NEXT_AT 0      /* for each dart, the next one counterclockwise at its vertex */
+#define PLANNER_PREV_AT 2048   /* for each dart, the previous one */
+#define PLANNER_LEAVES_AT 4096 /* for each dart, the vertex it leaves */
+#define PLANNER_EDGE_AT 6144   /* for each edge, 0 if not live, else its turns plus 100 */
+#define PLANNER_VERTEX_AT 7168 /* for each vertex, one of the two words below, or its smallest live dart */
+
+#define PLANNER_NOTHING 65535  /* the word of a vertex that is not live; the three words of a dart that is not live */
+#define PLANNER_ISOLATED 65534 /* the word of a vertex that is live and isolated */
+
+/* Refusals: a declined call returns minus one of these. */
+#define PLANNER_TORN 1         /* not PLANNER_TABLE_WORDS words, or not a good table */
+#define PLANNER_NO_SUCH_NAME 2 /* vertex, edge or dart past its range, type above 1, malformed corner */
+#define PLANNER_TAKEN 3        /* vertex or edge to add is live */
+#define PLANNER_ABSENT 4       /* vertex, edge, dart or corner named is not there */
+#define PLANNER_JOINED 5       /* vertex to remove has an edge */
+#define PLANNER_OVERTURNED 6   /* turns would pass 99 either way, or a tally field 32 bits */
+#define PLANNER_SHORT_SLICE 7  /* a lent slice is shorter than the call needs */
+#define PLANNER_MANY_TURNS 8   /* float path over an edge with more than one turn */
+#define PLANNER_FAR 9          /* length, point or lift out of range on an edge of the walk */
+#define PLANNER_BAD_MARK 10    /* job record with an unknown mark */
+#define PLANNER_CUT_RECORD 11  /* fewer bytes than the record needs */
+
+/*
+ * Fills the slice with the empty mesh: no vertex and no edge is live. Answers 0.
+ * Declines: PLANNER_TORN if it is not PLANNER_TABLE_WORDS long; what it holds is not looked at.
+ */
+int64_t planner_empty(uint16_t *table, size_t words);
+
+/*
+ * Answers 0 if the slice is a good table.
+ * Declines: PLANNER_TORN for every other slice, of any length.
+ */
+int64_t planner_check(const uint16_t *table, size_t words);
+
+#ifdef __cplusplus
+}
+#endif
+
+#endif

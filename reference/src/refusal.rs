@@ -1,0 +1,33 @@
+//! The numbered refusals ("When a call declines").
+//!
+//! "Where several hold: 1, 2, 3, 4, 5, 6, 8, 9, with 7 tested after 4." Every call here tests in that order, one
+//! `decline_if` after the other, before it writes anything. (A reader's step alone tests 9 before 6.)
+
+#[derive(Clone, Copy, Debug, PartialEq, Eq)]
+pub enum Refusal {
+    Torn = 1,
+    NoSuchName = 2,
+    Taken = 3,
+    Absent = 4,
+    Joined = 5,
+    Overturned = 6,
+    ShortSlice = 7,
+    ManyTurns = 8,
+    Far = 9,
+    BadMark = 10,
+    CutRecord = 11,
+}
+
+impl Refusal {
+    pub fn number(self) -> u8 {
+        self as u8
+    }
+}
+
+pub fn decline_if(holds: bool, refusal: Refusal) -> Result<(), Refusal> {
+    if holds {
+        Err(refusal)
+    } else {
+        Ok(())
+    }
+}

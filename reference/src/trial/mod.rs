@@ -1,0 +1,6 @@
+//! Tables, edits and damage made from a seed, for tests that compare or that try a claim on many inputs.
+
+pub mod damage;
+pub mod edits;
+pub mod random;
+pub mod tables;

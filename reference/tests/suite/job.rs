@@ -1,0 +1,78 @@
+//! The job program.
+
+use reference::job::job;
+
+fn bytes(hex: &str) -> Vec<u8> {
+    hex.split_whitespace().map(|b| u8::from_str_radix(b, 16).unwrap()).collect()
+}
+
+#[test]
+fn the_printed_example() {
+    let input = bytes("41 56 00 00 49 45 00 00 80 00 80 00 00 01 54 57 00 01 00 01");
+    let output = "no 3 4\nmesh 1 1 1 1 1\npart 0 1 n\nwalk 0 2 0/0:O 0/1:U\nweave plain\n";
+    assert_eq!(job(&input), output);
+}
+
+#[test]
+fn no_input_reports_the_empty_mesh() {
+    assert_eq!(job(&[]), "mesh 0 0 0 0 0\nweave plain\n");
+}
+
+#[test]
+fn one_vertex_is_an_empty_walk() {
+    assert_eq!(job(b"AV\x01\xff"), "mesh 1 0 1 1 2\npart 511 2 o\nwalk 0 0 *511\nweave plain\n");
+}
+
+#[test]
+fn a_lone_byte_is_a_cut_record() {
+    for lone in [b"A", b"x", b"\0"] {
+        assert_eq!(job(lone), "no 1 11\nmesh 0 0 0 0 0\nweave plain\n");
+    }
+    assert_eq!(job(b"AV\0\0A"), "no 2 11\nmesh 1 0 1 1 2\npart 0 2 o\nwalk 0 0 *0\nweave plain\n");
+}
+
+#[test]
+fn a_cut_record_ends_the_reading() {
+    for cut in [&b"AV"[..], b"AV\0", b"RV\0", b"IE\0\0\x80\0\x80\0\0", b"DE", b"DE\0", b"TW\0\0\0", b"TW\0\0"] {
+        assert_eq!(job(cut), "no 1 11\nmesh 0 0 0 0 0\nweave plain\n", "{cut:?}");
+    }
+}
+
+#[test]
+fn a_bad_mark_ends_the_reading_whatever_follows() {
+    for bad in [&b"av\0\0"[..], b"XX", b"VA\0\0AV\0\0", b"A\0\0AV\0\0", b"IL\0\0\0\0\0\0\0\0\0\0", b"ie"] {
+        assert_eq!(job(bad), "no 1 10\nmesh 0 0 0 0 0\nweave plain\n", "{bad:?}");
+    }
+    assert_eq!(job(b"AV\0\0??AV\0\x01"), "no 2 10\nmesh 1 0 1 1 2\npart 0 2 o\nwalk 0 0 *0\nweave plain\n");
+}
+
+#[test]
+fn reading_goes_on_after_a_declined_edit() {
+    let output = job(b"RV\0\0AV\x02\0AV\0\0AV\0\0");
+    assert_eq!(output, "no 1 4\nno 2 2\nno 4 3\nmesh 1 0 1 1 2\npart 0 2 o\nwalk 0 0 *0\nweave plain\n");
+}
+
+#[test]
+fn words_are_high_byte_first_and_turns_in_twos_complement() {
+    // A loop of turns -2 has two walks of one step, under and then over; then an amount of -97 and one of -1.
+    let loop_of_minus_2 = b"AV\0\0IE\x01\x02\x80\0\x80\0\xff\xfe";
+    let output = "mesh 1 1 2 1 2\npart 0 2 o\nwalk 0 1 516/0:UO\nwalk 1 1 517/0:UO\nweave plain\n";
+    assert_eq!(job(loop_of_minus_2), output);
+    let mut further = loop_of_minus_2.to_vec();
+    further.extend(b"TW\x01\x02\xff\x9fTW\x01\x02\xff\xff");
+    assert!(job(&further).starts_with("no 4 6\nmesh 1 1 1 1 1\n"), "-2 - 97 is -99, and -99 - 1 is too far");
+}
+
+#[test]
+fn an_edge_without_turns_has_no_letters() {
+    let output = "mesh 2 1 1 1 2\npart 3 2 o\nwalk 0 2 0/0: 1/0:\nweave plain\n";
+    assert_eq!(job(b"AV\0\x03AV\0\x05IE\0\0\x80\x03\x80\x05\0\0"), output);
+}
+
+#[test]
+fn parts_come_upward_and_isolated_vertices_last_among_the_walks() {
+    let input = b"AV\0\x09AV\0\x01AV\0\x04IE\0\x07\x80\x09\x80\x09\0\x03";
+    let output = "mesh 3 1 3 3 5\npart 1 2 o\npart 4 2 o\npart 9 1 n\n\
+                  walk 0 2 14/0:OUO 14/1:UOU\nwalk 1 0 *1\nwalk 2 0 *4\nweave plain\n";
+    assert_eq!(job(input), output);
+}

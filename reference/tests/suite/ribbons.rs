@@ -1,0 +1,228 @@
+//! One ribbon: its letters, its cut length, its float path.
+
+use crate::*;
+use reference::length::cut_length;
+use reference::path::float_path;
+use reference::refusal::Refusal;
+use reference::table::*;
+use reference::trace::{step, walk_from};
+use reference::trial::random::Random;
+use reference::trial::tables::random_table;
+use reference::weave::{alternate, crossings, ribbon_alternates, ribbon_letters, Letter::*};
+
+#[test]
+fn letters_of_a_step() {
+    assert_eq!(crossings(0, 0), []);
+    assert_eq!(crossings(1, 0), [O]);
+    assert_eq!(crossings(1, 1), [U]);
+    assert_eq!(crossings(-1, 0), [U]);
+    assert_eq!(crossings(-1, 1), [O]);
+    assert_eq!(crossings(3, 0), [O, U, O]);
+    assert_eq!(crossings(-3, 0), [U, O, U]);
+    assert_eq!(crossings(2, 1), [U, O]);
+    assert_eq!(crossings(-99, 1).len(), 99);
+}
+
+#[test]
+fn alternating_letters() {
+    assert!(alternate(&[]));
+    assert!(alternate(&[O, U]) && alternate(&[U, O, U, O]));
+    assert!(!alternate(&[O, O]) && !alternate(&[O, U, U, O]) && !alternate(&[O, U, O]), "neighbours cyclically");
+    assert!(!alternate(&[O]), "its own neighbour");
+}
+
+/// Two vertices, 0 and 1, an edge of turns 1 between them and a loop without turns at 0: one walk from (0,0) passes
+/// darts 0, 1 and one of the loop's.
+fn sample() -> Vec<u16> {
+    made(&[add(0), add(1), insert(0, around(0), around(1), 1), insert(1, 0, 0, 0)])
+}
+
+#[test]
+fn letters_of_a_ribbon_decline_as_they_should() {
+    let table = sample();
+    assert_eq!(ribbon_letters(&table, 2_048, 0), Err(Refusal::NoSuchName));
+    assert_eq!(ribbon_letters(&table, 0, 2), Err(Refusal::NoSuchName));
+    assert_eq!(ribbon_letters(&table, 9, 2), Err(Refusal::NoSuchName));
+    assert_eq!(ribbon_letters(&table, 4, 0), Err(Refusal::Absent));
+    assert_eq!(ribbon_letters(&table[1..], 2_048, 0), Err(Refusal::Torn));
+    assert_eq!(ribbon_alternates(&table, 0, 0), Ok(true));
+}
+
+#[test]
+fn a_cut_length_is_the_sum_over_the_steps() {
+    let table = sample();
+    let mut lengths = vec![0; 1_024];
+    (lengths[0], lengths[1]) = (1_000, 65_535);
+    // Cycle at 0: 0, 2, 3. From (0,0) the type is 1 at the far end, the only dart there is 1; back over edge 0 the
+    // type is 0 again, and next after dart 0 comes dart 2; its reverse is 3, and next after that is 0.
+    assert_eq!(walk_from(&table, step(0, 0)), [step(0, 0), step(1, 1), step(2, 0)]);
+    for (dart, t) in [(0, 0), (1, 1), (2, 0)] {
+        assert_eq!(cut_length(&table, dart, t, &lengths), Ok(1_000 + 1_000 + 65_535));
+    }
+    assert_eq!(cut_length(&table, 3, 0, &lengths), Ok(65_535));
+}
+
+#[test]
+fn a_cut_length_declines() {
+    let table = sample();
+    let good = vec![1; 1_024];
+    let mut far = vec![1; 1_024];
+    far[1] = 65_536;
+    far[900] = 0;
+    assert_eq!(cut_length(&table, 0, 0, &far), Err(Refusal::Far));
+    far[1] = 0;
+    assert_eq!(cut_length(&table, 0, 0, &far), Err(Refusal::Far));
+    far[1] = 1;
+    assert_eq!(cut_length(&table, 0, 0, &far), Ok(3), "only edges on the ribbon count");
+    far[0] = u32::MAX;
+    assert_eq!(cut_length(&table, 3, 0, &far), Ok(1));
+    assert_eq!(cut_length(&table, 0, 0, &far[..1_023]), Err(Refusal::ShortSlice), "7 before 9");
+    assert_eq!(cut_length(&table, 0, 0, &good[..1_023]), Err(Refusal::ShortSlice));
+    assert_eq!(cut_length(&table, 4, 0, &[]), Err(Refusal::Absent), "4 before 7");
+    assert_eq!(cut_length(&table, 4, 2, &[]), Err(Refusal::NoSuchName));
+    assert_eq!(cut_length(&[], 4, 2, &[]), Err(Refusal::Torn));
+    assert_eq!(cut_length(&table, 0, 0, &[vec![1; 1_024], vec![0]].concat()), Ok(3), "a longer slice");
+}
+
+/// The float path with room to spare; what is written, and that nothing past it is.
+fn path(table: &[u16], dart: u16, t: u16, points: &[i32], lifts: &[i32]) -> Result<(Vec<u16>, Vec<f32>), Refusal> {
+    let (mut words, mut floats) = (vec![77; 2_100], vec![0.5; 6_300]);
+    let answer = float_path(table, dart, t, points, lifts, &mut words, &mut floats);
+    let written = *answer.as_ref().unwrap_or(&0);
+    assert!(words[written..].iter().all(|&w| w == 77) && floats[3 * written..].iter().all(|&f| f == 0.5));
+    words.truncate(written);
+    floats.truncate(3 * written);
+    answer.map(|_| (words, floats))
+}
+
+fn places() -> (Vec<i32>, Vec<i32>) {
+    let (mut points, mut lifts) = (vec![0; 1_536], vec![0; 3_072]);
+    points[..6].copy_from_slice(&[16, -32, 65_536, 48, 32, 65_535]);
+    lifts[..6].copy_from_slice(&[8, 1, -4_096, 4_096, 7, 9]);
+    (points, lifts)
+}
+
+#[test]
+fn a_float_path_by_hand() {
+    let (points, lifts) = places();
+    // Over: (16+48+16)/32, (-32+32+2)/32, (131071-8192)/32. Under: the lift taken off. Flat loop: the vertex itself.
+    let over = [2.5, 0.0625, 122_879.0 / 32.0];
+    let under = [1.5, -0.0625, 139_263.0 / 32.0];
+    let flat = [1.0, -2.0, 4_096.0];
+    let (words, floats) = path(&sample(), 0, 0, &points, &lifts).unwrap();
+    assert_eq!(words, [1, 2, 0, 3]);
+    assert_eq!(floats, [over, under, flat, [0.0; 3]].concat());
+    let (words, floats) = path(&sample(), 2, 0, &points, &lifts).unwrap();
+    assert_eq!(words, [0, 1, 2, 3], "it begins at the step that names it");
+    assert_eq!(floats, [flat, over, under, [0.0; 3]].concat());
+}
+
+#[test]
+fn a_negative_hand_exchanges_over_and_under() {
+    let mut table = sample();
+    edit(&mut table, turn(0, -2)).unwrap();
+    let (points, lifts) = places();
+    assert_eq!(path(&table, 0, 0, &points, &lifts).unwrap().0, [2, 1, 0, 3]);
+}
+
+#[test]
+fn zero_is_positive_zero() {
+    let (mut points, lifts) = (vec![0; 1_536], vec![0; 3_072]);
+    (points[0], points[3]) = (-5, 5);
+    let (_, floats) = path(&sample(), 0, 0, &points, &lifts).unwrap();
+    assert_eq!(floats[0].to_bits(), 0);
+    assert_eq!(floats[6], -10.0 / 32.0, "the loop's two ends are one vertex");
+    assert!(floats[9..].iter().all(|f| f.to_bits() == 0), "Close");
+}
+
+#[test]
+fn a_float_path_declines() {
+    let table = sample();
+    let (points, lifts) = places();
+    let declines = |table: &[u16], dart, t, points: &[i32], lifts: &[i32], refusal| {
+        assert_eq!(path(table, dart, t, points, lifts), Err(refusal));
+    };
+    declines(&[], 4_000, 2, &[], &[], Refusal::Torn);
+    declines(&table, 2_048, 0, &[], &[], Refusal::NoSuchName);
+    declines(&table, 4, 2, &[], &[], Refusal::NoSuchName);
+    declines(&table, 4, 0, &[], &[], Refusal::Absent);
+    declines(&table, 0, 0, &points[..1_535], &lifts, Refusal::ShortSlice);
+    declines(&table, 0, 0, &points, &lifts[..3_071], Refusal::ShortSlice);
+    let mut many = table.clone();
+    edit(&mut many, turn(0, 1)).unwrap();
+    declines(&many, 0, 0, &points[..9], &lifts, Refusal::ShortSlice);
+    declines(&many, 0, 0, &points, &lifts, Refusal::ManyTurns);
+    assert!(path(&many, 3, 0, &points, &lifts).is_ok(), "edge 0 is not on that ribbon");
+    for place in 0..6 {
+        for word in [65_537, -65_537, i32::MAX, i32::MIN] {
+            let mut far = points.clone();
+            far[place] = word;
+            declines(&table, 0, 0, &far, &lifts, Refusal::Far);
+            declines(&many, 0, 0, &far, &lifts, Refusal::ManyTurns);
+        }
+        for word in [4_097, -4_097, i32::MAX, i32::MIN] {
+            let mut far = lifts.clone();
+            far[place] = word;
+            declines(&table, 0, 0, &points, &far, Refusal::Far);
+        }
+        for (limit, lift) in [(65_536, 4_096), (-65_536, -4_096)] {
+            let (mut points, mut lifts) = (points.clone(), lifts.clone());
+            (points[place], lifts[place]) = (limit, lift);
+            assert!(path(&table, 0, 0, &points, &lifts).is_ok());
+        }
+    }
+    let (mut points, mut lifts) = (points, lifts);
+    (points[6], lifts[6]) = (i32::MIN, i32::MAX);
+    assert!(path(&table, 0, 0, &points, &lifts).is_ok(), "vertex 2 and edge 2 are not on the walk");
+}
+
+#[test]
+fn a_float_path_needs_its_exact_size() {
+    let (points, lifts) = places();
+    let call = |words: usize, floats: usize| {
+        let (mut w, mut f) = (vec![77; words], vec![0.5; floats]);
+        let answer = float_path(&sample(), 0, 0, &points, &lifts, &mut w, &mut f);
+        assert!(answer.is_ok() || w == vec![77; words] && f == vec![0.5; floats]);
+        answer
+    };
+    assert_eq!(call(4, 12), Ok(4));
+    assert_eq!(call(3, 12), Err(Refusal::ShortSlice));
+    assert_eq!(call(4, 11), Err(Refusal::ShortSlice));
+    assert_eq!(call(0, 0), Err(Refusal::ShortSlice));
+}
+
+/// Each coordinate times 32, in 64-bit floats where all is exact, is the whole number of document 01's rule.
+#[test]
+fn nothing_is_rounded() {
+    let mut random = Random::new(0xf10a);
+    let mut pieces = 0;
+    for _ in 0..400 {
+        let table = random_table(&mut random);
+        let points: Vec<i32> = (0..1_536).map(|_| random.between(-65_536, 65_536)).collect();
+        let lifts: Vec<i32> = (0..3_072).map(|_| random.between(-4_096, 4_096)).collect();
+        let starts: Vec<Dart> = live_darts(&table).take(40).collect();
+        for start in starts {
+            let walk = walk_from(&table, step(start, 0));
+            match path(&table, start, 0, &points, &lifts) {
+                Err(refusal) => {
+                    assert_eq!(refusal, Refusal::ManyTurns);
+                    assert!(walk.iter().any(|s| turns(&table, s.edge()).abs() > 1));
+                }
+                Ok((words, floats)) => {
+                    assert_eq!(words.len(), walk.len() + 1);
+                    for (i, s) in walk.iter().enumerate() {
+                        let times = [0, 2, -2][words[i] as usize];
+                        for axis in 0..3 {
+                            let end = |d: Dart| points[3 * leaves(&table, d) as usize + axis];
+                            let lift = lifts[3 * s.edge() as usize + axis];
+                            let whole = end(s.dart) + end(reverse(s.dart)) + times * lift;
+                            assert_eq!(f64::from(floats[3 * i + axis]) * 32.0, f64::from(whole));
+                        }
+                        pieces += 1;
+                    }
+                }
+            }
+        }
+    }
+    assert!(pieces > 10_000, "{pieces}");
+}

@@ -1,0 +1,109 @@
+/* include/planner.h as a C host uses it. Written so that a C++ compiler takes it too. */
+
+#include "planner.h"
+
+#include <stddef.h>
+#include <stdint.h>
+#include <stdio.h>
+
+enum { DARTS = 2048, EDGES = 1024, VERTICES = 512 };
+enum { LEAVES = 2 * DARTS, TURNS = 3 * DARTS, VERTEX = TURNS + EDGES, WORDS = VERTEX + VERTICES };
+enum { GUARDS = 32, GUARD = 0xa5c3 };
+
+static int failures = 0;
+
+static void check(int holds, const char *claim) {
+    printf("%s: %s\n", holds ? "ok" : "FAILED", claim);
+    if (!holds) {
+        failures++;
+    }
+}
+
+/* The lent slice, with guard words on both sides. */
+static uint16_t words[GUARDS + WORDS + 1 + GUARDS];
+static uint16_t *const table = words + GUARDS;
+
+static void fill(uint16_t word) {
+    size_t i;
+    for (i = 0; i < sizeof words / sizeof words[0]; i++) {
+        words[i] = word;
+    }
+}
+
+static int all(size_t from, size_t to, uint16_t word) {
+    size_t i;
+    for (i = from; i < to; i++) {
+        if (table[i] != word) {
+            return 0;
+        }
+    }
+    return 1;
+}
+
+static int guards_are_whole(void) {
+    size_t i;
+    for (i = 0; i < GUARDS; i++) {
+        if (words[i] != GUARD || table[WORDS + i] != GUARD) {
+            return 0;
+        }
+    }
+    return 1;
+}
+
+/* An edge of turns 1 between vertices 0 and 1, written into the empty mesh. */
+static void write_an_edge(void) {
+    uint16_t d;
+    for (d = 0; d < 2; d++) {
+        table[d] = d;
+        table[DARTS + d] = d;
+        table[LEAVES + d] = d;
+        table[VERTEX + d] = d;
+    }
+    table[TURNS] = 101;
+}
+
+static void try_empty(void) {
+    int64_t answer;
+    fill(GUARD);
+    answer = planner_empty(table, WORDS);
+    check(answer == 0, "planner_empty fills 7,680 words and answers 0");
+    check(all(0, TURNS, 65535) && all(TURNS, VERTEX, 0) && all(VERTEX, WORDS, 65535),
+          "the words are those of the empty mesh");
+    check(guards_are_whole(), "planner_empty writes nothing outside the slice");
+    fill(GUARD);
+    check(planner_empty(table, WORDS - 1) == -1, "planner_empty declines 7,679 words with 1");
+    check(planner_empty(table, WORDS + 1) == -1, "planner_empty declines 7,681 words with 1");
+    check(planner_empty(NULL, 0) == -1, "planner_empty declines no words with 1");
+    check(all(0, WORDS, GUARD) && guards_are_whole(), "a declined planner_empty writes nothing");
+}
+
+static void try_check(void) {
+    const uint16_t *lent = table;
+    fill(GUARD);
+    check(planner_check(lent, WORDS) == -1, "planner_check answers -1 for words that are no table");
+    check(planner_empty(table, WORDS) == 0 && planner_check(lent, WORDS) == 0, "the empty mesh is good");
+    check(planner_check(lent, WORDS - 1) == -1 && planner_check(lent, WORDS + 1) == -1, "other sizes are torn");
+    check(planner_check(NULL, 0) == -1, "no words are torn");
+    write_an_edge();
+    check(planner_check(lent, WORDS) == 0, "two vertices and an edge of turns 1 are good");
+    table[TURNS] = 200;
+    check(planner_check(lent, WORDS) == -1, "turns of 100 are torn");
+    table[TURNS] = 199;
+    check(planner_check(lent, WORDS) == 0, "turns of 99 are good");
+    table[DARTS] = 1;
+    check(planner_check(lent, WORDS) == -1, "a wrong previous dart is torn");
+    table[DARTS] = 0;
+    table[VERTEX + 1] = 65534;
+    check(planner_check(lent, WORDS) == -1, "a joined vertex marked isolated is torn");
+    table[VERTEX + 1] = 1;
+    table[VERTEX + 511] = 65534;
+    check(planner_check(lent, WORDS) == 0, "an isolated vertex more is good");
+    check(guards_are_whole(), "planner_check writes nothing outside the slice");
+}
+
+int main(void) {
+    try_empty();
+    try_check();
+    printf("%d failed\n", failures);
+    return failures == 0 ? 0 : 1;
+}

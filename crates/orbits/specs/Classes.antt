@@ -6,10 +6,9 @@
 --     reps-count                 any system of representatives, indexed as one likes, is as large as there are classes
 --     carry-classes              a map that takes classes to classes, one to one and onto, keeps their number
 --     classes-same, -split, -le  equal live sets; a live set in two exclusive parts; no more classes than live numbers
-use mathlib.Core.Path.{_≡_, refl, sym, _∙_, ap}
-use mathlib.Core.Logic.{_≢_}
-use mathlib.Core.Bool.{Bool, true, false, _&&_, _||_, Bool-discrete, and-or-distrib-right}
-use Prim.Native.Nat.{ℕ, zero, suc, _+_, _<_, _≤_}
+use mathlib.Core.Path.{_≡_}
+use mathlib.Core.Bool.{Bool, true, _&&_, _||_, Bool-discrete, and-or-distrib-right}
+use Prim.Native.Nat.{ℕ, zero, _+_, _<_, _≤_}
 use native.Mathlib.Decide.{ℕ-discrete, decLt}
 use native.Mathlib.Omega.{arith}
 use lib.Dec.{eqb}

@@ -3,7 +3,7 @@
 --     count-none, count-all      no number passes; each does.       count-le, none-counted, count-some, count-find    the ways back
 --     count-split, count-sum     a test in two exclusive parts; a range in two pieces.       count-short    nothing past n passes
 --     count-into                 an injective relation from one counted set into another: the first has no more members
---     count-onto                 the same both ways: as many
+--     count-onto                 the same both ways: as many.       count-bijection    by two maps that undo each other
 use mathlib.Core.Path.{_≡_, refl, sym, _∙_, ap}
 use mathlib.Core.Logic.{_≢_}
 use mathlib.Core.Bool.{Bool, true, false, not, _&&_, _||_, and-true, and-false, Bool-discrete}
@@ -202,3 +202,14 @@ pub count-onto : (G : ℕ → ℕ → Type 0) (p q : ℕ → Bool) (n m : ℕ)
     → ((i j k : ℕ) → i < m → j < m → k < n → q i ≡ true → q j ≡ true → p k ≡ true → G k i → G k j → i ≡ j)
     → count p n ≡ count q m
 count-onto G p q n m total onto inj single = le-antisymm (count-into G p q n m total inj) (count-into (λ j i. G i j) q p m n onto single)
+
+pub count-bijection : (φ ψ : ℕ → ℕ) (p q : ℕ → Bool) (n m : ℕ)
+    → ((i : ℕ) → i < n → p i ≡ true → (φ i < m) × (q (φ i) ≡ true) × (ψ (φ i) ≡ i))
+    → ((j : ℕ) → j < m → q j ≡ true → (ψ j < n) × (p (ψ j) ≡ true) × (φ (ψ j) ≡ j))
+    → count p n ≡ count q m
+count-bijection φ ψ p q n m there back =
+    count-onto (λ i j. φ i ≡ j) p q n m
+    (λ i h t. let c = there i h t in record { to = φ i; low = c .0; pass = c .1; pair = refl })
+    (λ j h t. let c = back j h t in record { to = ψ j; low = c .0; pass = c .1; pair = c .2 })
+    (λ i j k h l b s t w e g. sym (there i h s .2) ∙ ap ψ (e ∙ sym g) ∙ there j l t .2)
+    (λ i j k h l b s t w e g. sym e ∙ g)

@@ -5,7 +5,7 @@
 --     period-on        it is at most the number of points of any set that f stays in, so at most N: period-le
 use mathlib.Core.Path.{_≡_, refl, sym, _∙_, ap}
 use mathlib.Core.Logic.{_≢_}
-use mathlib.Core.Bool.{Bool, true, false}
+use mathlib.Core.Bool.{Bool, true}
 use Prim.Native.Nat.{ℕ, zero, suc, pred, _+_, _-_, _<_, _≤_}
 use native.Mathlib.Nat.{add-zero, add-suc, lt-irrefl}
 use native.Mathlib.Decide.{ℕ-discrete, decLt}

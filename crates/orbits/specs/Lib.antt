@@ -5,6 +5,15 @@ pub mod Count
 pub mod Iterate
 pub mod Reach
 pub mod Classes
+pub mod Swap
 pub mod Merge
 pub mod Orbits
 pub mod Exchange
+pub mod ExchangeParts
+pub mod Mirror
+pub mod Faces
+pub mod MirrorExchange
+pub mod FaceExchange
+pub mod PassThrough
+pub mod Rename
+mod Instances

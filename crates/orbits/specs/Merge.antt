@@ -2,15 +2,18 @@
 -- x and y joined. Where these were two live classes, there is one class less.
 --     Join          i and j are in one class, or one is in the class of x and the other in that of y
 --     Merge         R′ is Join R x y, and R holds x and y apart
+--     join-then, join-tr     what stays inside the joined relation: R, and to exchange one number of x's class and one of y's
+--     join-flat     where x and y were in one class, nothing is joined
 --     merge-classes the number falls by one
-use mathlib.Core.Path.{_≡_, refl, sym, _∙_, ap}
+use mathlib.Core.Path.{_≡_}
 use mathlib.Core.Logic.{_≢_}
-use mathlib.Core.Bool.{Bool, true, false, _&&_}
-use Prim.Native.Nat.{ℕ, zero, suc, _<_, _≤_}
+use mathlib.Core.Bool.{Bool, true}
+use Prim.Native.Nat.{ℕ, suc, _<_}
 use native.Mathlib.Decide.{ℕ-discrete, decLt}
 use native.Mathlib.Omega.{arith}
 use Rattle.orbits.specs.Truth.{false-unless, same-truth}
 use Rattle.orbits.specs.Count.{count-one}
+use Rattle.orbits.specs.Swap.{tr, tr-left, tr-right, tr-off, place, at-left, at-right, off}
 use Rattle.orbits.specs.Classes.{Partition, Keeps, least, head, classes, Least, least-of, least-one, least-means, least-says, head-live, head-least, head-says}
 
 pub data Join (R : ℕ → ℕ → Type 0) (x y i j : ℕ) : Type 0 where
@@ -27,6 +30,43 @@ pub join-swap : {R : ℕ → ℕ → Type 0} {x y i j : ℕ} → Join R x y i j 
 join-swap (inside q) = inside q
 join-swap (across p q) = back p q
 join-swap (back p q) = across p q
+
+pub join-map : {N : ℕ} {R R′ : ℕ → ℕ → Type 0} {x y i j : ℕ} → x < N → y < N → i < N → j < N → ((i j : ℕ) → i < N → j < N → R i j → R′ i j)
+    → Join R x y i j → Join R′ x y i j
+join-map a b c d s (inside q) = inside (s _ _ c d q)
+join-map a b c d s (across p q) = across (s _ _ c a p) (s _ _ b d q)
+join-map a b c d s (back p q) = back (s _ _ c b p) (s _ _ a d q)
+
+module _ {N : ℕ} {R : ℕ → ℕ → Type 0} {r : ℕ → ℕ → Bool} (P : Partition N R r) {x y : ℕ} (h : x < N) (l : y < N) where
+  pub join-then : {i j k : ℕ} → i < N → j < N → k < N → Join R x y i j → R j k → Join R x y i k
+  join-then {i} {j} {k} a b c (inside p) s = inside (P .join i j k a b c p s)
+  join-then {i} {j} {k} a b c (across p q) s = across p (P .join y j k l b c q s)
+  join-then {i} {j} {k} a b c (back p q) s = back p (P .join x j k h b c q s)
+
+  -- where x and y are in one class nothing new is joined
+  pub join-flat : {i j : ℕ} → i < N → j < N → R x y → Join R x y i j → R i j
+  join-flat a b e (inside p) = p
+  join-flat {i} {j} a b e (across p q) = P .join i x j a h b p (P .join x y j h l b e q)
+  join-flat {i} {j} a b e (back p q) = P .join i y j a l b p (P .join y x j l h b (P .flip x y h l e) q)
+
+  -- what is joined to x is joined to y, and the other way
+  join-over : {i : ℕ} → Join R x y i x → Join R x y i y
+  join-over (inside p) = across p (P .self y l)
+  join-over (across p q) = across p (P .self y l)
+  join-over (back p q) = inside p
+
+  join-home : {i : ℕ} → Join R x y i y → Join R x y i x
+  join-home (inside p) = back p (P .self x h)
+  join-home (across p q) = inside p
+  join-home (back p q) = back p (P .self x h)
+
+  -- so an exchange of one number of x's class and one of y's stays inside
+  pub join-tr : {u v i k : ℕ} → u < N → v < N → i < N → R x u → R y v → Join R x y i k → Join R x y i (tr u v k)
+  join-tr {u} {v} {i} {k} a b c p q t = elim (place u v k) [
+    | at-left e ↦ rw (e, tr-left u v) (join-then c l b (join-over (join-then c a h (rw e at t) (P .flip x u h a p))) q)
+    | at-right e ↦ rw (e, tr-right u v) (join-then c h a (join-home (join-then c b l (rw e at t) (P .flip y v l b q))) p)
+    | off d e ↦ rw (tr-off u v k d e) t
+  ]
 
 pub merge-swap : {N : ℕ} {R R′ : ℕ → ℕ → Type 0} {r : ℕ → ℕ → Bool} {x y : ℕ} → Partition N R r → x < N → y < N → Merge N R R′ x y → Merge N R R′ y x
 merge-swap {N} {R} {R′} {r} {x} {y} P h l M = record {

@@ -2,11 +2,11 @@
 -- equivalence, and it is decided by trying fewer than N steps.
 --     reach-here, reach-one, reach-trans, reach-sym      it is an equivalence, and each step stays in it
 --     reach-ind        what holds at i and is kept by a step along the orbit holds on the whole orbit
---     reach-within     fewer steps than the period are enough
+--     reach-within     fewer steps than the period are enough;     reach-below    so fewer than N
 --     reaches          the test; reach-says and says-reach: it passes exactly if i reaches j; reach-dec
 use mathlib.Core.Path.{_≡_, refl, sym, _∙_, ap}
-use mathlib.Core.Bool.{Bool, true, false}
-use Prim.Native.Nat.{ℕ, zero, suc, _+_, _-_, _<_, _≤_, pred}
+use mathlib.Core.Bool.{Bool, true}
+use Prim.Native.Nat.{ℕ, zero, suc, _+_, _<_, pred}
 use native.Mathlib.Nat.{lt-of-lt-of-le}
 use native.Mathlib.Decide.{decLt}
 use native.Mathlib.Omega.{arith}
@@ -80,6 +80,12 @@ reach-within {f} {i} {j} p r =
     ])
     j r
 
+pub reach-below : {N : ℕ} {f : ℕ → ℕ} → Inj N f → {i j : ℕ} → i < N → Reach f i j → Within f i j N
+reach-below I {i} h r =
+    let p = period I i h in
+    let w = reach-within p r in
+    record { steps = w .steps; few = lt-of-lt-of-le (w .few) (period-le I h p); lands = w .lands }
+
 -- the test: one of the first N points from i is j
 unfoldable pub reaches : (ℕ → ℕ) → ℕ → ℕ → ℕ → Bool
 reaches f N i j = ltb zero (count (λ k. eqb (iter f k i) j) N)
@@ -93,10 +99,8 @@ says-reach f N i j e =
 pub reach-says : {N : ℕ} {f : ℕ → ℕ} → Inj N f → {i j : ℕ} → i < N → Reach f i j → reaches f N i j ≡ true
 unfolding reaches
 reach-says {N} {f} I {i} {j} h r =
-    let p = period I i h in
-    let w = reach-within p r in
-    let low : w .steps < N = lt-of-lt-of-le (w .few) (period-le I h p) in
-    lt-ltb _ _ (count-some (λ k. eqb (iter f k i) j) N (w .steps) low (eq-eqb _ _ (w .lands)))
+    let w = reach-below I h r in
+    lt-ltb _ _ (count-some (λ k. eqb (iter f k i) j) N (w .steps) (w .few) (eq-eqb _ _ (w .lands)))
 
 pub reach-dec : {N : ℕ} {f : ℕ → ℕ} → Inj N f → (i j : ℕ) → i < N → Dec (Reach f i j)
 reach-dec {N} {f} I i j h = elim (truth (reaches f N i j)) [

@@ -1,9 +1,9 @@
 // The listed walks counted: how many they are, and how many words their listing has.
-use crate::layout::DARTS;
-use crate::layout::EDGE;
-use crate::layout::ISOLATED;
-use crate::layout::VERTEX;
-use crate::layout::VERTICES;
+use table::layout::DARTS;
+use table::layout::EDGE;
+use table::layout::ISOLATED;
+use table::layout::VERTEX;
+use table::layout::VERTICES;
 use crate::step::corner;
 use crate::step::step;
 ghost use mathlib.Core.Path.{_≡_};

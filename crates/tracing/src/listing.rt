@@ -1,10 +1,10 @@
 // The listing, written to a lent slice that is long enough.
 use crate::count::look;
 use crate::count::measure;
-use crate::layout::DARTS;
-use crate::layout::ISOLATED;
-use crate::layout::VERTEX;
-use crate::layout::VERTICES;
+use table::layout::DARTS;
+use table::layout::ISOLATED;
+use table::layout::VERTEX;
+use table::layout::VERTICES;
 use crate::step::step;
 ghost use mathlib.Core.Path.{_≡_};
 ghost use Prim.Native.Nat.{_+_, _≤_};

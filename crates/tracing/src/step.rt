@@ -1,6 +1,6 @@
 // One step of a walk, its corner and its mirror. A step is the word 2d+t: dart d with trace type t.
-use crate::layout::EDGE;
-use crate::layout::PREV;
+use table::layout::EDGE;
+use table::layout::PREV;
 ghost use mathlib.Core.Path.{_≡_};
 ghost use Prim.Native.Nat.{_<_};
 ghost use Rattle.table.specs.Rotation.{rotation};

@@ -122,13 +122,13 @@ module _ (R : Rotation) where
       bit false = omega arith
   one-more q false x k = omega arith
 
-  starts-count : (q : ℕ → Bool) (n : ℕ) → countIn q (starts R n) ≡ count (λ d. start? R d && q d) n
+  pub starts-count : (q : ℕ → Bool) (n : ℕ) → countIn q (starts R n) ≡ count (λ d. start? R d && q d) n
   unfolding count countIn starts
   starts-count q zero = refl
   starts-count q (suc n) =
       rw (starts-more R n, countIn-append q (starts R n) (only (start? R n) n), starts-count q n) (one-more q (start? R n) n (count (λ d. start? R d && q d) n))
 
-  alones-count : (q : ℕ → Bool) (n : ℕ) → countIn q (alones R n) ≡ count (λ v. R .alone v && q v) n
+  pub alones-count : (q : ℕ → Bool) (n : ℕ) → countIn q (alones R n) ≡ count (λ v. R .alone v && q v) n
   unfolding count countIn alones lone
   alones-count q zero = refl
   alones-count q (suc n) =
@@ -206,6 +206,15 @@ module _ (R : Rotation) (L : Lawful R) where
       (has-gather (λ d. corners R (2 * d)) (starts R b) a b (start-has R b a h s) (corners-has R L (2 * a) b (omega arith) l f))
       (start-unmet R b t)
 
+  pub starts-one : (a b : ℕ) → a < darts → b < darts → start? R a ≡ true → start? R b ≡ true → Face (trace R) (flip R) (2 * a) (2 * b) → a ≡ b
+  starts-one a b h l s t f = elim (ℕ-discrete a b) [
+    | yes e ↦ e
+    | no e ↦ elim (decLt a b) [
+      | yes m ↦ absurd (starts-apart a b m l s t f)
+      | no m ↦ absurd (starts-apart b a (omega arith) h t s (face-flip (tracing-mirror R L (on R) (whole R L)) (omega arith) (omega arith) f))
+    ]
+  ]
+
   -- no face has both darts and an isolated vertex
   lone-apart : (a b : ℕ) → a < darts → darts ≤ b → Face (trace R) (flip R) (2 * a) (2 * b) → ⊥
   lone-apart a b h l (along r) = let low = trace-reach R L {s = 2 * a} (omega arith) r .low in omega arith
@@ -222,13 +231,7 @@ module _ (R : Rotation) (L : Lawful R) where
       absurd (omega arith)
 
   named-apart : (P : ℕ → Bool) → Part R P → (i j : ℕ) → i < 2560 → j < 2560 → Named R P i → Named R P j → Face (trace R) (flip R) (2 * i) (2 * j) → i ≡ j
-  named-apart P K i j h l (dart-named a s p) (dart-named b t q) f = elim (ℕ-discrete i j) [
-    | yes e ↦ e
-    | no e ↦ elim (decLt i j) [
-      | yes m ↦ absurd (starts-apart i j m b s t f)
-      | no m ↦ absurd (starts-apart j i (omega arith) a t s (face-flip (tracing-mirror R L P K) (omega arith) (omega arith) f))
-    ]
-  ]
+  named-apart P K i j h l (dart-named a s p) (dart-named b t q) f = starts-one i j a b s t f
   named-apart P K i j h l (dart-named a s p) (lone-named b t q) f = absurd (lone-apart i j a b f)
   named-apart P K i j h l (lone-named a s p) (dart-named b t q) f =
       absurd (lone-apart j i b a (face-flip (tracing-mirror R L P K) (omega arith) (omega arith) f))
@@ -294,7 +297,7 @@ module _ (R : Rotation) (L : Lawful R) where
   all-pass q [] h = refl
   all-pass q (x ∷ l) h = rw (h x (has-here x l), all-pass q l (λ c e. h c (has-tail c x l e)))
 
-  lone-there : (n v : ℕ) → has v (alones R n) ≡ true → R .alone v ≡ true
+  pub lone-there : (n v : ℕ) → has v (alones R n) ≡ true → R .alone v ≡ true
   unfolding lone
   lone-there zero v e = absurd (has-empty v (rw (alones-zero R) at e))
   lone-there (suc n) v e = elim (has-parts v (alones R n) (only (R .alone n) n) (rw (alones-suc R n) at e)) [

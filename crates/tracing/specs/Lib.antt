@@ -12,3 +12,4 @@ pub mod Has
 pub mod Mirrored
 pub mod Meets
 pub mod FaceCount
+pub mod Once

@@ -238,7 +238,7 @@ module _ (R : Rotation) (L : Lawful R) where
   named-apart P K i j h l (lone-named a s p) (lone-named b t q) f = lones-apart i j a b f
 
   -- each place is on the face of its corner's type-0 place
-  corner-face : (s : ℕ) → s < steps → Face (trace R) (flip R) s (2 * corner R s)
+  pub corner-face : (s : ℕ) → s < steps → Face (trace R) (flip R) s (2 * corner R s)
   corner-face s h = elim (at-corner R L (corner R s) s refl) [
     | plain q ↦ rw (← q) (along reach-here)
     | turned q ↦

@@ -13,3 +13,4 @@ pub mod Mirrored
 pub mod Meets
 pub mod FaceCount
 pub mod Once
+pub mod Twice

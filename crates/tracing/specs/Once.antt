@@ -47,7 +47,7 @@ run-count q f s (suc n) =
     last false k = omega arith
 
 module _ (R : Rotation) (L : Lawful R) where
-  step-on : (s : ℕ) → s < steps → R .live (s / 2) ≡ true → On places (on R) s
+  pub step-on : (s : ℕ) → s < steps → R .live (s / 2) ≡ true → On places (on R) s
   step-on s h l = record { lt = omega arith; on = on-step R s h ∙ l }
 
   -- a walk passes a step at most once

@@ -14,3 +14,5 @@ pub mod Meets
 pub mod FaceCount
 pub mod Once
 pub mod Twice
+pub mod Edges
+pub mod Length

@@ -16,3 +16,4 @@ pub mod Once
 pub mod Twice
 pub mod Edges
 pub mod Length
+pub mod Search

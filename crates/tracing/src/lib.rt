@@ -2,3 +2,4 @@
 pub mod count;
 pub mod listing;
 pub mod step;
+pub mod meeting;

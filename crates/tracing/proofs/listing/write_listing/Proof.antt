@@ -1,0 +1,25 @@
+-- `listing::write_listing` meets its contract: the walks, then the empty walks.
+use Rattle.tracing.specs.Writing.{walks-room, lones-room, listed-parts}
+use borrow.Author.Needs.{needs}
+use Rattle.tracing.proofs.listing.write_listing.Statement.{statement}
+use Rattle.tracing.proofs.listing.write_listing.Tie as tie
+use Rattle.tracing.proofs.listing.write_listing.Reads as reads
+use Rattle.tracing.proofs.listing.write_listing.Lts as lts
+use Rattle.tracing.proofs.listing.write_lones.Reads as write-lones-reads
+use Rattle.tracing.proofs.listing.write_walks.Reads as write-walks-reads
+
+write-walks-requires : tie.Need-write-walks-requires
+write-walks-requires c κs = (c .before .before .before .pre .0, walks-room _ _ (c .before .before .before .pre .1))
+
+write-lones-requires : tie.Need-write-lones-requires
+write-lones-requires c κs = (c .before .before .before .before .before .before .before .pre .0, lones-room (c .before .before .before .before .before .before .before .pre .1) (c .before .before .before .write-walks .ensures))
+
+same-length : tie.Need-same-length
+same-length c = search needs
+
+returns : tie.Need-returns
+returns c = listed-parts (c .before .before .before .before .before .before .before .before .before .before .pre .1) (c .before .before .before .before .before .before .write-walks .ensures) (c .before .before .write-lones .ensures)
+
+pub write-listing-spec : {M : Type 1} → statement M
+write-listing-spec =
+    tie.close (tie.spec write-walks-requires write-lones-requires same-length returns)

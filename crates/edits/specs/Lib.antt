@@ -2,3 +2,4 @@ pub mod Held
 pub mod Splice
 pub mod Link
 pub mod Unlink
+pub mod Edge

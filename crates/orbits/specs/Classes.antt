@@ -106,22 +106,30 @@ pub record Reps (M N : ℕ) (R : ℕ → ℕ → Type 0) (t live : ℕ → Bool)
 pub reps-count : {M N : ℕ} {R : ℕ → ℕ → Type 0} {r : ℕ → ℕ → Bool} {t live : ℕ → Bool} {φ : ℕ → ℕ} → Partition N R r → Keeps N R live
     → Reps M N R t live φ → count t M ≡ classes r N live
 unfolding classes
-reps-count {M} {N} {R} {r} {t} {live} {φ} P K S =
-    count-onto (λ j i. R (φ j) i) t (head r live) M N
-    (λ j h p.
-    let low = S .low j h p in
-    let l = least-of P (φ j) low in
-    record { to = l .at; low = l .low; pass = head-says r live (l .at) (K .keep (φ j) (l .at) low (l .low) (l .meet) (S .on j h p)) (l .first); pair = l .meet })
-    (λ i h p.
-    let q = S .hit i h (head-live r live i p) in
-    record { to = q .to; low = q .low; pass = q .pass; pair = P .flip i (φ (q .to)) h (S .low (q .to) (q .low) (q .pass)) (q .pair) })
-    (λ i j k h l m p q u a b.
-    let li = S .low i h p in
-    let lj = S .low j l q in
-    S .one i j h l p q (P .join (φ i) k (φ j) li m lj a (P .flip (φ j) k lj m b)))
-    (λ i j k h l m p q u a b.
-    let lk = S .low k m u in
-    least-one P i j h l (head-least r live i p) (head-least r live j q) (P .join i (φ k) j h lk l (P .flip (φ k) i lk h a) b))
+reps-count {M} {N} {R} {r} {t} {live} {φ} P K S = count-onto (λ j i. R (φ j) i) t (head r live) M N least-named named one-name one-least
+  where
+    least-named : (j : ℕ) → j < M → t j ≡ true → Partner (λ j i. R (φ j) i) (head r live) N j
+    least-named j h p =
+        let low = S .low j h p in
+        let l = least-of P (φ j) low in
+        let on = K .keep (φ j) (l .at) low (l .low) (l .meet) (S .on j h p) in
+        record { to = l .at; low = l .low; pass = head-says r live (l .at) on (l .first); pair = l .meet }
+
+    named : (i : ℕ) → i < N → head r live i ≡ true → Partner (λ i j. R (φ j) i) t M i
+    named i h p =
+        let q = S .hit i h (head-live r live i p) in
+        record { to = q .to; low = q .low; pass = q .pass; pair = P .flip i (φ (q .to)) h (S .low (q .to) (q .low) (q .pass)) (q .pair) }
+
+    one-name : (i j k : ℕ) → i < M → j < M → k < N → t i ≡ true → t j ≡ true → head r live k ≡ true → R (φ i) k → R (φ j) k → i ≡ j
+    one-name i j k h l m p q u a b =
+        let li = S .low i h p in
+        let lj = S .low j l q in
+        S .one i j h l p q (P .join (φ i) k (φ j) li m lj a (P .flip (φ j) k lj m b))
+
+    one-least : (i j k : ℕ) → i < N → j < N → k < M → head r live i ≡ true → head r live j ≡ true → t k ≡ true → R (φ k) i → R (φ k) j → i ≡ j
+    one-least i j k h l m p q u a b =
+        let lk = S .low k m u in
+        least-one P i j h l (head-least r live i p) (head-least r live j q) (P .join i (φ k) j h lk l (P .flip (φ k) i lk h a) b)
 
 -- φ takes the live classes of S below M to those of R below N, one to one and onto
 pub record Carry (M N : ℕ) (S R : ℕ → ℕ → Type 0) (on live : ℕ → Bool) (φ : ℕ → ℕ) : Type 0 where

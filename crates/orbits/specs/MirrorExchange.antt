@@ -2,6 +2,7 @@
 -- mirror is then a mirror of the new map. The number of orbits changes by -2, +2 or 0, as y lies to the orbit of x.
 --     exch2            the exchange
 --     exch2-mirror     the mirror stays
+--     Lies, lies       which of the three cases it is
 --     exch2-less       y neither on the orbit of x nor on its mirror: two orbits less
 --     exch2-more       y on the orbit of x, and not x: two orbits more
 --     exch2-same       y on the mirror of the orbit of x: as many orbits
@@ -11,7 +12,7 @@ use mathlib.Core.Logic.{_≢_}
 use mathlib.Core.Bool.{Bool}
 use Prim.Native.Nat.{ℕ, suc, _<_}
 use native.Mathlib.Decide.{ℕ-discrete}
-use Rattle.orbits.specs.Reach.{Reach, reach-here, reach-trans, reach-sym}
+use Rattle.orbits.specs.Reach.{Reach, reach-here, reach-trans, reach-sym, reach-dec}
 use Rattle.orbits.specs.Swap.{tr, tr-left, tr-right, tr-off, tr-twice, tr-keeps, place, at-left, at-right, off}
 use Rattle.orbits.specs.Merge.{Join, inside, across, back, Merge}
 use Rattle.orbits.specs.Orbits.{orbits, World, On}
@@ -25,6 +26,18 @@ exch2 f m x y = exch (exch f x y) (m (f x)) (m (f y))
 pub exch2-at : (f m : ℕ → ℕ) (x y i : ℕ) → exch2 f m x y i ≡ f (tr x y (tr (m (f x)) (m (f y)) i))
 unfolding exch2 exch
 exch2-at f m x y i = refl
+
+-- where y lies to the orbit of x
+pub data Lies (f m : ℕ → ℕ) (x y : ℕ) : Type 0 where
+  elsewhere : ¬ Reach f x y → ¬ Reach f x (m y) → Lies f m x y
+  on-orbit : Reach f x y → Lies f m x y
+  on-mirror : Reach f x (m y) → Lies f m x y
+
+pub lies : {N : ℕ} {f m : ℕ → ℕ} {live : ℕ → Bool} → Mirror N f m live → (x y : ℕ) → x < N → Lies f m x y
+lies {m = m} E x y h = elim (reach-dec (mirror-world E .perm) x y h) [
+  | yes r ↦ on-orbit r
+  | no n ↦ elim (reach-dec (mirror-world E .perm) x (m y) h) [ yes r ↦ on-mirror r | no k ↦ elsewhere n k ]
+]
 
 module _ {N : ℕ} {f m : ℕ → ℕ} {live : ℕ → Bool} (E : Mirror N f m live) {x y : ℕ} (a : On N live x) (b : On N live y) where
   pub exch2-world : World N (exch2 f m x y) live

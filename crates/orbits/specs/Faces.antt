@@ -2,16 +2,17 @@
 --     Face, faced, faces     on one orbit or on mirror orbits; the test; how many live classes
 --     orbits-pair            twice as many orbits
 --     faces-live, faces-split     equal live sets; a live set in two exclusive parts
+--     faces-none, faces-some, faces-one     no live number; some live number; all live numbers on one face
 --     reps-faces             one number for each live face: as many as there are faces
 use mathlib.Core.Path.{_≡_, sym, _∙_, ap, subst}
 use mathlib.Core.Bool.{Bool, true, false, not, _&&_, _||_, true-or, or-true, false-or}
-use Prim.Native.Nat.{ℕ, _+_, _*_, _<_}
+use Prim.Native.Nat.{ℕ, zero, _+_, _*_, _<_}
 use native.Mathlib.Omega.{arith}
 use borrow.Author.Tests.{not-true}
 use Rattle.orbits.specs.Truth.{Truth, truth, holds, fails, clash, both, both-left, both-right, same-truth, false-unless}
 use Rattle.orbits.specs.Count.{count, count-same, count-part, Partner}
 use Rattle.orbits.specs.Reach.{Reach, reaches, reach-here, reach-trans, reach-sym, reach-says, says-reach}
-use Rattle.orbits.specs.Classes.{Partition, Keeps, least, head, classes, classes-same, classes-split, Least, least-of, least-one, least-means, least-says, head-live, head-least, head-says, Reps, reps-count}
+use Rattle.orbits.specs.Classes.{Partition, Keeps, least, head, classes, classes-same, classes-split, classes-none, classes-some, classes-one, Least, least-of, least-one, least-means, least-says, head-live, head-least, head-says, Reps, reps-count}
 use Rattle.orbits.specs.Orbits.{orbits, On, reach-partition, reach-live, reach-on}
 use Rattle.orbits.specs.Mirror.{Mirror, mirror-world, mirror-on, reach-mirror, mirror-reach, no-self}
 
@@ -158,3 +159,17 @@ pub faces-split : (f m : ℕ → ℕ) (N : ℕ) (live a b : ℕ → Bool) → ((
     → ((i : ℕ) → i < N → a i ≡ true → b i ≡ true → ⊥) → faces f m N live ≡ faces f m N a + faces f m N b
 unfolding faces
 faces-split f m N = classes-split (faced f m N) N
+
+-- no live number, no face; a live number, a face; all live numbers on one face, one
+pub faces-none : (f m : ℕ → ℕ) (N : ℕ) (live : ℕ → Bool) → ((i : ℕ) → i < N → live i ≡ false) → faces f m N live ≡ zero
+unfolding faces
+faces-none f m N = classes-none (faced f m N) N
+
+pub faces-some : {N : ℕ} {f m : ℕ → ℕ} {live : ℕ → Bool} → Mirror N f m live → {x : ℕ} → On N live x → zero < faces f m N live
+unfolding faces
+faces-some E o = classes-some (face-partition E) (face-keeps E) (o .lt) (o .on)
+
+pub faces-one : {N : ℕ} {f m : ℕ → ℕ} {live : ℕ → Bool} → Mirror N f m live → {x : ℕ} → On N live x → ((i : ℕ) → On N live i → Face f m i x)
+    → faces f m N live ≡ 1
+unfolding faces
+faces-one E o all = classes-one (face-partition E) (face-keeps E) (o .lt) (o .on) (λ i h t. all i (record { lt = h; on = t }))

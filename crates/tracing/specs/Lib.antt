@@ -8,3 +8,7 @@ pub mod Along
 pub mod Marks
 pub mod Size
 pub mod Writing
+pub mod Has
+pub mod Mirrored
+pub mod Meets
+pub mod FaceCount

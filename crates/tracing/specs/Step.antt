@@ -234,3 +234,15 @@ module _ (R : Rotation) (L : Lawful R) where
     | is-zero e ↦ let n = prev-dart (s / 2) (omega arith) in rw (mirror-zero R s e) (omega arith)
     | is-one e ↦ let n = next-dart (s / 2) (omega arith) in rw (mirror-one R s e) (omega arith)
   ]
+
+  pub corner-live : (s : ℕ) → R .live (corner R s) ≡ R .live (s / 2)
+  corner-live s = elim (type? s) [
+    | is-zero e ↦ rw (corner-zero R s e)
+    | is-one e ↦ rw (corner-one R s e) (L .live-next (s / 2))
+  ]
+
+  pub corner-dart : (s : ℕ) → s < steps → corner R s < darts
+  corner-dart s h = elim (type? s) [
+    | is-zero e ↦ rw (corner-zero R s e) (omega arith)
+    | is-one e ↦ rw (corner-one R s e) (next-dart (s / 2) (omega arith))
+  ]

@@ -1,11 +1,11 @@
 // The listed walks counted: how many they are, and how many words their listing has.
+use crate::step::corner;
+use crate::step::step;
 use table::layout::DARTS;
 use table::layout::EDGE;
 use table::layout::ISOLATED;
 use table::layout::VERTEX;
 use table::layout::VERTICES;
-use crate::step::corner;
-use crate::step::step;
 ghost use mathlib.Core.Path.{_≡_};
 ghost use lib.ListN.{length};
 ghost use Rattle.table.specs.Layout.{darts};

@@ -1,11 +1,11 @@
 // The listing, written to a lent slice that is long enough.
 use crate::count::look;
 use crate::count::measure;
+use crate::step::step;
 use table::layout::DARTS;
 use table::layout::ISOLATED;
 use table::layout::VERTEX;
 use table::layout::VERTICES;
-use crate::step::step;
 ghost use mathlib.Core.Path.{_≡_};
 ghost use Prim.Native.Nat.{_+_, _≤_};
 ghost use lib.ListN.{length};

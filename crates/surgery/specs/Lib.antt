@@ -1,0 +1,5 @@
+-- Surgery on a rotation system: an edge taken out, put in or turned, a vertex added, and what each does to the number of faces.
+-- A file uses only those above it.
+pub mod Bypass
+pub mod Spin
+pub mod Without

@@ -3,3 +3,5 @@
 pub mod Bypass
 pub mod Spin
 pub mod Without
+pub mod Exchanged
+pub mod Through

@@ -5,3 +5,4 @@ pub mod Spin
 pub mod Without
 pub mod Exchanged
 pub mod Through
+pub mod Seat

@@ -2,17 +2,18 @@
 --     spin                 the map;     around-spin    the step around a dart is the spun dart with that type
 --     spin-inj, spin-live, spin-from     it is injective, and keeps live darts and the vertex
 --     spin-reach           the live darts of a vertex are one cycle of it
---     mirror-spin          the mirror of a step is the spin the other way
+--     trace-spin, flip-spin     tracing and the mirror, by the spin
 use mathlib.Core.Path.{_≡_, sym, _∙_, ap, fun-ext}
 use mathlib.Core.Bool.{Bool, true}
 use Prim.Native.Nat.{ℕ, suc, _+_, _-_, _*_, _/_, _%_, _<_}
 use native.Mathlib.Omega.{arith}
 use lib.Dec.{eqb}
 use borrow.Author.Tests.{eq-eqb, ne-eqb}
-use Rattle.table.specs.Layout.{darts}
+use Rattle.table.specs.Layout.{rev}
 use Rattle.table.specs.Rotation.{Rotation, Lawful, choose}
 use Rattle.orbits.specs.Reach.{Reach, reach-here, reach-one, reach-trans, reach-ind}
-use Rattle.tracing.specs.Step.{Type?, is-zero, is-one, type?, around, around-next, around-prev, mirror}
+use Rattle.tracing.specs.Step.{steps, Type?, is-zero, is-one, type?, stepType, step, around, around-next, around-prev, mirror}
+use Rattle.tracing.specs.Place.{trace, flip, trace-step, flip-step}
 
 unfoldable pub spin : Rotation → ℕ → ℕ → ℕ
 spin R t d = choose (eqb t 0) (R .next d) (R .prev d)
@@ -34,9 +35,17 @@ module _ (R : Rotation) where
   around-spin {t} (is-zero e) d = rw (around-next R t d e, spin-next e) (omega arith)
   around-spin {t} (is-one e) d = rw (around-prev R t d e, spin-prev e) (omega arith)
 
-  pub mirror-spin : (s : ℕ) → mirror R s ≡ 2 * spin R (1 - s % 2) (s / 2) + (1 - s % 2)
+  pub step-type? : (s : ℕ) → Type? (stepType R s)
+  unfolding stepType
+  step-type? s = type? (s + R .turns (s / 2))
+
+  pub trace-spin : (s : ℕ) → s < steps → trace R s ≡ 2 * spin R (stepType R s) (rev (s / 2)) + stepType R s
+  unfolding step
+  trace-spin s h = trace-step R s h ∙ around-spin (step-type? s) (rev (s / 2))
+
+  pub flip-spin : (s : ℕ) → s < steps → flip R s ≡ 2 * spin R (1 - s % 2) (s / 2) + (1 - s % 2)
   unfolding mirror
-  mirror-spin s = around-spin (other-type (type? s)) (s / 2)
+  flip-spin s h = flip-step R s h ∙ around-spin (other-type (type? s)) (s / 2)
 
 module _ {R : Rotation} (L : Lawful R) {t : ℕ} (T : Type? t) where
   pub spin-inj : (i j : ℕ) → spin R t i ≡ spin R t j → i ≡ j

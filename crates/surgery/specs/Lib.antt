@@ -6,3 +6,4 @@ pub mod Without
 pub mod Exchanged
 pub mod Through
 pub mod Seat
+pub mod SeatFollows

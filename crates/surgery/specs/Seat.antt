@@ -1,9 +1,9 @@
 -- Where the places of a rotation system without an edge lie among those with it. A step stays where it is, and so does a vertex
 -- that is alone in both. A vertex that only the edge's darts left is alone without the edge: its two still places lie
--- at the two steps of such a dart. Around these places, tracing without the edge follows tracing past it.
+-- at the two steps of such a dart.
 --     seat                 where a place lies;     Seated, seated    which of the three it is
---     seat-follows         tracing without the edge follows tracing past it
---     seat-flip            the mirror of a place lies with the mirror of where the place lies
+--     past                 past the edge: what a step of its darts leads to
+--     skip-around, reach-around, skip-bare     around a vertex past the edge's darts, where others are left, and where none is
 use mathlib.Core.Path.{_≡_, refl, sym, _∙_, ap}
 use mathlib.Core.Logic.{_≢_, _⊎_, inl, inr, ⊎-elim}
 use mathlib.Core.Bool.{Bool, true, false, _&&_, _||_, or-true, true-or}
@@ -71,11 +71,11 @@ module _ (R : Rotation) (e : ℕ) where
   ]
 
 module _ (R : Rotation) (e : ℕ) (R′ : Rotation) where
-  taken-other : (s d : ℕ) → s / 2 ≡ d → apart e d ≡ true → taken R e R′ s ≡ true
+  pub taken-other : (s d : ℕ) → s / 2 ≡ d → apart e d ≡ true → taken R e R′ s ≡ true
   unfolding taken
   taken-other s d q a = rw (q, a)
 
-  taken-bare : (s d : ℕ) → s / 2 ≡ d → R′ .alone (R .from d) ≡ true → dartAt R e (R .from d) ≡ d → taken R e R′ s ≡ true
+  pub taken-bare : (s d : ℕ) → s / 2 ≡ d → R′ .alone (R .from d) ≡ true → dartAt R e (R .from d) ≡ d → taken R e R′ s ≡ true
   unfolding taken
   taken-bare s d q a p = rw (q, a, eq-eqb (dartAt R e (R .from d)) d p) (or-true (apart e d))
 
@@ -88,7 +88,7 @@ module _ (R : Rotation) (e : ℕ) (R′ : Rotation) where
   taken-second s d q a f n = rw (q, a, f, ne-eqb (dartAt R e (R .from d)) d n)
 
 -- the step by dart d with type t
-halves : (d t : ℕ) → Type? t → ((2 * d + t) / 2 ≡ d) × ((2 * d + t) % 2 ≡ t)
+pub halves : (d t : ℕ) → Type? t → ((2 * d + t) / 2 ≡ d) × ((2 * d + t) % 2 ≡ t)
 halves d t (is-zero z) = (omega arith, omega arith)
 halves d t (is-one z) = (omega arith, omega arith)
 
@@ -117,7 +117,7 @@ module _ {R R′ : Rotation} {e : ℕ} (L : Lawful R) (L′ : Lawful R′) (W : 
       through-own R e (2 * d + t) (rw (p .0) q) ∙ rw (p .0, p .1) (around-spin R T d)
 
   -- around a vertex that keeps a dart: past the edge's darts to the next dart
-  skip-around : {t : ℕ} → Type? t → {d k : ℕ} → Skip (spin R t) (apart e) d k → R′ .alone (R .from d) ≡ false
+  pub skip-around : {t : ℕ} → Type? t → {d k : ℕ} → Skip (spin R t) (apart e) d k → R′ .alone (R .from d) ≡ false
       → (s : ℕ) → through R e s ≡ 2 * spin R t d + t → Skip (through R e) (taken R e R′) s (2 * k + t)
   skip-around {t} T {d} {k} (land on q) f s p =
       land (taken-other R e R′ (2 * k + t) k (halves k t T .0) on) (p ∙ rw q)
@@ -126,13 +126,13 @@ module _ {R R′ : Rotation} {e : ℕ} (L : Lawful R) (L′ : Lawful R′) (W : 
       skip-over p (taken-full R e R′ (2 * spin R t d + t) (spin R t d) (halves (spin R t d) t T .0) off f′)
       (skip-around T w f′ (2 * spin R t d + t) (past T (spin R t d) (own-apart e (spin R t d) off)))
 
-  reach-around : {t : ℕ} → Type? t → {d k : ℕ} → Skip (spin R t) (apart e) d k → Reach (through R e) (2 * spin R t d + t) (2 * k + t)
+  pub reach-around : {t : ℕ} → Type? t → {d k : ℕ} → Skip (spin R t) (apart e) d k → Reach (through R e) (2 * spin R t d + t) (2 * k + t)
   reach-around {t} T {d} {k} (land on q) = rw q reach-here
   reach-around {t} T {d} {k} (pass off w) =
       reach-trans (reach-one (2 * spin R t d + t)) (rw (past T (spin R t d) (own-apart e (spin R t d) off)) (reach-around T w))
 
   -- a vertex with the edge's darts alone: around it and back
-  skip-bare : {t : ℕ} → Type? t → (d : ℕ) → edgeOf d ≡ e → R′ .alone (R .from d) ≡ true → dartAt R e (R .from d) ≡ d
+  pub skip-bare : {t : ℕ} → Type? t → (d : ℕ) → edgeOf d ≡ e → R′ .alone (R .from d) ≡ true → dartAt R e (R .from d) ≡ d
       → Skip (through R e) (taken R e R′) (2 * d + t) (2 * d + t)
   skip-bare {t} T d q a p = elim (ℕ-discrete (spin R t d) d) [
     | yes s ↦ land here (past T d q ∙ rw s)
@@ -153,6 +153,6 @@ module _ {R R′ : Rotation} {e : ℕ} (L : Lawful R) (L′ : Lawful R′) (W : 
       own : (i : ℕ) → edgeOf i ≡ e → R′ .alone (R .from i) ≡ true → edgeOf (spin R t i) ≡ e
       own i o b = bare-edge L L′ W (spin R t i) (rw (spin-from L T i) b) (spin-live L T i ∙ here-both L L′ W i o)
 
-  same-type : (s : ℕ) → R′ .live (s / 2) ≡ true → stepType R′ s ≡ stepType R s
+  pub same-type : (s : ℕ) → R′ .live (s / 2) ≡ true → stepType R′ s ≡ stepType R s
   unfolding stepType
   same-type s l = omega (arith, W .turns (s / 2) l)

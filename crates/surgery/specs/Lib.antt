@@ -7,3 +7,5 @@ pub mod Exchanged
 pub mod Through
 pub mod Seat
 pub mod SeatFollows
+pub mod Past
+pub mod Delete

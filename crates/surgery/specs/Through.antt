@@ -52,6 +52,10 @@ near e = 2 * (2 * e)
 unfoldable pub far : Rotation → ℕ → ℕ
 far R e = 2 * (2 * e + 1) + parity R e
 
+pub near-far : (R : Rotation) (e : ℕ) → near e ≢ far R e
+unfolding near far
+near-far R e = omega arith
+
 unfoldable pub through : Rotation → ℕ → ℕ → ℕ
 through R e s = choose (apart e (s / 2)) (trace R s) (around R (s % 2) (s / 2))
 
@@ -75,6 +79,14 @@ module _ (R : Rotation) (L : Lawful R) (e : ℕ) (live : R .live (2 * e) ≡ tru
 
   own-low : (s : ℕ) → edgeOf (s / 2) ≡ e → s < steps
   own-low s q = let l = L .dart-low (2 * e) live in omega arith
+
+  pub near-low : near e < places
+  unfolding near
+  near-low = let l = L .dart-low (2 * e) live in omega arith
+
+  pub far-low : far R e < places
+  unfolding far
+  far-low = let l = L .dart-low (2 * e) live in let p = parity-low R e in omega arith
 
   -- the step by dart d with type t, which arrives with type k at the dart r
   record Own (s d t k r : ℕ) : Type 0 where

@@ -6,7 +6,7 @@ use native.Mathlib.Decide.{ℕ-discrete, decLt}
 use mathlib.Core.Path.{_≡_, refl, sym, _∙_, ap}
 use mathlib.Core.Bool.{Bool, true, false, _||_}
 use mathlib.Core.List.{List}
-use mathlib.Core.Logic.{_≢_}
+use mathlib.Core.Logic.{_≢_, _↔_}
 use lib.Dec.{eqb, ltb}
 use borrow.Author.Tests.{eq-eqb, ne-eqb, lt-ltb, le-ltb}
 use Rattle.orbits.specs.Truth.{clash, truth, holds, fails}
@@ -15,7 +15,8 @@ use Rattle.table.specs.Layout.{vertices, edges, darts, words, nothing, isolated
 use Rattle.table.specs.Good.{Bare}
 use Rattle.table.specs.Rotation.{choose}
 use Rattle.table.specs.Writes.{upd, upd-at, upd-off}
-use Rattle.edits.specs.Held.{Held, SmallestIn}
+use Rattle.surgery.specs.Bypass.{bypass, bypass-self, bypass-into, bypass-off}
+use Rattle.edits.specs.Held.{Held, SmallestIn, nextIn, next-in, next-out}
 use Rattle.edits.specs.Splice.{splice, Reads, reads-splice}
 
 -- the darts of L and x
@@ -43,6 +44,14 @@ plus-case L x d e = elim (ℕ-discrete d x) [
 -- the smaller of a vertex's word and a dart
 abbrev pub lesser : ℕ → ℕ → ℕ
 lesser w x = choose (ltb x w) x w
+
+-- t with dart x more: the rules hold, and leaving x out again gives the rotation and the words of t
+pub record Grown (t u : List ℕ) (L : ℕ → Bool) (x : ℕ) : Type 0 where
+  pub held : Held u (plus L x)
+  pub next : (d : ℕ) → nextIn t L d ≡ bypass (nextIn u (plus L x)) x d
+  pub from : (d : ℕ) → d < darts → d ≢ x → leaves u d ≡ leaves t d
+  pub edge : (e : ℕ) → e < edges → edgeWord u e ≡ edgeWord t e
+  pub there : (v : ℕ) → v < vertices → (vertexWord u v ≡ nothing) ↔ (vertexWord t v ≡ nothing)
 
 -- Just before dart d: x comes between d and the dart p before it.
 module _ (t u : List ℕ) (L : ℕ → Bool) (H : Held t L) (x d p v w : ℕ) (free : L x ≡ false) (low : x < darts) (on : L d ≡ true)
@@ -245,7 +254,7 @@ module _ (t u : List ℕ) (L : ℕ → Bool) (H : Held t L) (x d p v w : ℕ) (f
         })
   ]
 
-  pub before-held : Held u (plus L x)
+  before-held : Held u (plus L x)
   before-held = record {
     size = r .size;
     low = λ j e. elim (plus-case L x j e) [ new a ↦ rw a low | old n a ↦ H .low j a ];
@@ -269,6 +278,37 @@ module _ (t u : List ℕ) (L : ℕ → Bool) (H : Held t L) (x d p v w : ℕ) (f
     alone = λ b h i j e. alone-new b h i j (plus-case L x j e);
     smallest = smallest-new;
   }
+
+  before-next : (j : ℕ) → nextIn t L j ≡ bypass (nextIn u (plus L x)) x j
+  before-next j = elim (ℕ-discrete j x) [
+      | yes q ↦ rw q (next-out t L x free ∙ sym (bypass-self (nextIn u (plus L x)) x))
+      | no n ↦ elim (truth (L j)) [
+        | fails f ↦
+            let e = next-out u (plus L x) j (plus-old L x j n ∙ f) in
+            next-out t L j f ∙ sym (bypass-off (nextIn u (plus L x)) x j n (rw e n) ∙ e)
+        | holds l ↦ elim (ℕ-discrete j p) [
+          | yes q ↦
+              let e : nextIn u (plus L x) p ≡ x = next-in u (plus L x) p (grow p p-on) ∙ next-p in
+              rw q (next-in t L p p-on ∙ p-next ∙ sym (bypass-into (nextIn u (plus L x)) x p (not-x p p-on) e ∙ next-in u (plus L x) x (plus-new L x) ∙ next-x))
+          | no m ↦
+              let e : nextIn u (plus L x) j ≡ nextWord t j = next-in u (plus L x) j (grow j l) ∙ next-other j (H .low j l) n m in
+              next-in t L j l ∙ sym (bypass-off (nextIn u (plus L x)) x j n (rw e (not-x _ (H .next-live j l))) ∙ e) ] ] ]
+
+  -- where x stands
+  pub before-seat : (leaves u x ≡ v) × (nextWord u x ≡ d)
+  before-seat = (leaves-x, next-x)
+
+  pub before-grown : Grown t u L x
+  before-grown = record {
+      held = before-held;
+      next = before-next;
+      from = leaves-other;
+      edge = r .edge-is;
+      there = λ b h. elim (ℕ-discrete b v) [
+        | yes q ↦ (
+            λ z. let e : w ≡ nothing = sym vertex-v ∙ ap (vertexWord u) (sym q) ∙ z in let l = w-low in absurd (omega arith),
+            λ z. absurd (rw at at (H .leaves-live d on) (ap (vertexWord t) (sym q) ∙ z)))
+        | no m ↦ let e = vertex-other b h m in (λ z. sym e ∙ z, λ z. e ∙ z) ] }
 
 -- Alone at an isolated vertex v.
 module _ (t u : List ℕ) (L : ℕ → Bool) (H : Held t L) (x v : ℕ) (free : L x ≡ false) (low : x < darts) (v-low : v < vertices) (bare : vertexWord t v ≡ isolated)
@@ -368,7 +408,7 @@ module _ (t u : List ℕ) (L : ℕ → Bool) (H : Held t L) (x v : ℕ) (free : 
   lone-there j (old n a) z =
       H .leaves-live j a (sym (vertex-off (leaves t j) (H .leaves-low j a) (elsewhere j a)) ∙ ap (vertexWord u) (sym (on-leaves j a)) ∙ z)
 
-  pub alone-held : Held u (plus L x)
+  alone-held : Held u (plus L x)
   alone-held = record {
     size = r .size;
     low = λ j e. elim (plus-case L x j e) [ new a ↦ rw a low | old n a ↦ H .low j a ];
@@ -409,3 +449,29 @@ module _ (t u : List ℕ) (L : ℕ → Bool) (H : Held t L) (x v : ℕ) (free : 
     alone = λ b h i j e. lone-alone b h i j (plus-case L x j e);
     smallest = lone-smallest;
   }
+
+  alone-next : (j : ℕ) → nextIn t L j ≡ bypass (nextIn u (plus L x)) x j
+  alone-next j = elim (ℕ-discrete j x) [
+      | yes q ↦ rw q (next-out t L x free ∙ sym (bypass-self (nextIn u (plus L x)) x))
+      | no n ↦ elim (truth (L j)) [
+        | fails f ↦
+            let e = next-out u (plus L x) j (plus-old L x j n ∙ f) in
+            next-out t L j f ∙ sym (bypass-off (nextIn u (plus L x)) x j n (rw e n) ∙ e)
+        | holds l ↦
+            let e : nextIn u (plus L x) j ≡ nextWord t j = next-in u (plus L x) j (keep j l) ∙ on-next j l in
+            next-in t L j l ∙ sym (bypass-off (nextIn u (plus L x)) x j n (rw e (lone-not-x _ (H .next-live j l))) ∙ e) ] ]
+
+  pub alone-seat : (leaves u x ≡ v) × (nextWord u x ≡ x)
+  alone-seat = (lone-leaves, lone-next)
+
+  pub alone-grown : Grown t u L x
+  alone-grown = record {
+      held = alone-held;
+      next = alone-next;
+      from = leaves-off;
+      edge = r .edge-is;
+      there = λ b h. elim (ℕ-discrete b v) [
+        | yes q ↦ (
+            λ z. let e : x ≡ nothing = sym lone-vertex ∙ ap (vertexWord u) (sym q) ∙ z in absurd (omega arith),
+            λ z. let e : isolated ≡ nothing = sym bare ∙ ap (vertexWord t) (sym q) ∙ z in absurd (omega arith))
+        | no m ↦ let e = vertex-off b h m in (λ z. sym e ∙ z, λ z. e ∙ z) ] }

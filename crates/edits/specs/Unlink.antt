@@ -6,7 +6,7 @@ use native.Mathlib.Decide.{ℕ-discrete, decLt}
 use mathlib.Core.Path.{_≡_, refl, sym, _∙_, ap}
 use mathlib.Core.Bool.{Bool, true, false}
 use mathlib.Core.List.{List}
-use mathlib.Core.Logic.{_≢_}
+use mathlib.Core.Logic.{_≢_, _↔_}
 use lib.Dec.{eqb}
 use borrow.Author.Tests.{eq-eqb, ne-eqb}
 use Rattle.orbits.specs.Truth.{clash, truth, holds, fails}
@@ -15,7 +15,8 @@ use Rattle.orbits.specs.Reach.{Reach, reach-here, reach-one, reach-step, reach-
 use Rattle.table.specs.Layout.{vertices, edges, darts, words, nothing, isolated, nextWord, prevWord, leaves, edgeWord, vertexWord}
 use Rattle.table.specs.Rotation.{choose}
 use Rattle.table.specs.Writes.{setVertex, upd, upd-at, upd-off}
-use Rattle.edits.specs.Held.{Held, SmallestIn}
+use Rattle.surgery.specs.Bypass.{bypass, bypass-self, bypass-into, bypass-off}
+use Rattle.edits.specs.Held.{Held, SmallestIn, nextIn, next-in, next-out}
 use Rattle.edits.specs.Splice.{cut, Reads, reads-cut, reads-vertex}
 
 -- the first of k darts from d on that leaves v, or the word of an isolated vertex
@@ -68,6 +69,14 @@ taken t x = cut t x (nextWord t x) (prevWord t x)
 
 abbrev pub unlink : List ℕ → ℕ → List ℕ
 unlink t x = setVertex (taken t x) (leaves t x) (successor (taken t x) (leaves t x) x (vertexWord t (leaves t x)))
+
+-- t with dart x less: the rules hold, and the rotation and the words are those of t with x left out
+pub record Shrunk (t u : List ℕ) (L : ℕ → Bool) (x : ℕ) : Type 0 where
+  pub held : Held u (without L x)
+  pub next : (d : ℕ) → nextIn u (without L x) d ≡ bypass (nextIn t L) x d
+  pub from : (d : ℕ) → d < darts → d ≢ x → leaves u d ≡ leaves t d
+  pub edge : (e : ℕ) → e < edges → edgeWord u e ≡ edgeWord t e
+  pub there : (v : ℕ) → v < vertices → (vertexWord u v ≡ nothing) ↔ (vertexWord t v ≡ nothing)
 
 -- x is out: n comes next after p, and v's word is w
 module _ (t u : List ℕ) (L : ℕ → Bool) (H : Held t L) (x n p v w : ℕ) (on : L x ≡ true) (after : nextWord t x ≡ n) (before : prevWord t x ≡ p) (at : leaves t x ≡ v)
@@ -312,7 +321,7 @@ module _ (t u : List ℕ) (L : ℕ → Bool) (H : Held t L) (x n p v w : ℕ) (o
       here-some (leads _ d) e = omega arith
       here-some (bared i _) e = omega arith
 
-  pub out-held : Held u (without L x)
+  out-held : Held u (without L x)
   out-held = record {
     size = r .size;
     low = λ j e. H .low j (without-on L x j e);
@@ -342,3 +351,39 @@ module _ (t u : List ℕ) (L : ℕ → Bool) (H : Held t L) (x n p v w : ℕ) (o
     alone = λ b h i j e. alone-left b h i j (left-of j e);
     smallest = smallest-left;
   }
+
+  out-next : (j : ℕ) → nextIn u (without L x) j ≡ bypass (nextIn t L) x j
+  out-next j = elim (ℕ-discrete j x) [
+      | yes q ↦ rw q (next-out u (without L x) x (without-at L x) ∙ sym (bypass-self (nextIn t L) x))
+      | no a ↦ elim (truth (L j)) [
+        | fails f ↦
+            let e = next-out t L j f in
+            next-out u (without L x) j (without-other L x j a ∙ f) ∙ sym (bypass-off (nextIn t L) x j a (rw e a) ∙ e)
+        | holds l ↦
+            let left : Left j = record { live = l; other = a } in
+            let s = next-in u (without L x) j (of-left j left) in
+            elim (ℕ-discrete j p) [
+            | yes q ↦
+                let m : p ≢ x = rw q at a in
+                let e : nextIn t L j ≡ x = next-in t L j l ∙ ap (nextWord t) q ∙ p-next in
+                s ∙ ap (nextWord u) q ∙ next-p m ∙ sym (bypass-into (nextIn t L) x j a e ∙ next-in t L x on ∙ after)
+            | no b ↦
+                let e = next-in t L j l in
+                let n-x : nextWord t j ≢ x = λ q. b (sym (H .prev-next j l) ∙ ap (prevWord t) q ∙ before) in
+                s ∙ next-other j (H .low j l) a b ∙ sym (bypass-off (nextIn t L) x j a (rw e n-x) ∙ e) ] ] ]
+
+  pub out-shrunk : Shrunk t u L x
+  out-shrunk = record {
+      held = out-held;
+      next = out-next;
+      from = leaves-other;
+      edge = r .edge-is;
+      there = λ b h. elim (ℕ-discrete b v) [
+        | yes q ↦ (
+            λ z. absurd (word-there word-after (sym vertex-v ∙ ap (vertexWord u) (sym q) ∙ z)),
+            λ z. absurd (rw at at (H .leaves-live x on) (ap (vertexWord t) (sym q) ∙ z)))
+        | no m ↦ let e = vertex-other b h m in (λ z. sym e ∙ z, λ z. e ∙ z) ] }
+    where
+      word-there : After → w ≡ nothing → ⊥
+      word-there (leads _ d) e = omega arith
+      word-there (bared i _) e = omega arith

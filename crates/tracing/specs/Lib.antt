@@ -17,3 +17,4 @@ pub mod Twice
 pub mod Edges
 pub mod Length
 pub mod Search
+pub mod Corner

@@ -1,5 +1,6 @@
 // Whether two corners are on one face, and how the two sides of an edge lie: each by one walk.
-use crate::step::{mirror, step};
+use crate::step::mirror;
+use crate::step::step;
 ghost use mathlib.Core.Path.{_≡_};
 ghost use Rattle.table.specs.Rotation.{rotation};
 ghost use Rattle.tracing.specs.Stands.{Stands};

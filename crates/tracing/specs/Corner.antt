@@ -85,11 +85,11 @@ record TypeAt (R : Rotation) (c : ℕ) (l : List ℕ) : Type 0 where
   type : typeAmong R c l ≡ step % 2
 
 module _ (R : Rotation) where
-  present-dart : (c : ℕ) → c < loneAt → present R c ≡ R .live c
+  pub present-dart : (c : ℕ) → c < loneAt → present R c ≡ R .live c
   unfolding present
   present-dart c h = rw (lt-ltb c loneAt h)
 
-  present-lone : (c : ℕ) → loneAt ≤ c → present R c ≡ R .alone (c - loneAt)
+  pub present-lone : (c : ℕ) → loneAt ≤ c → present R c ≡ R .alone (c - loneAt)
   unfolding present
   present-lone c h = rw (le-ltb c loneAt h)
 

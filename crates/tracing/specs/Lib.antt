@@ -18,3 +18,5 @@ pub mod Edges
 pub mod Length
 pub mod Search
 pub mod Corner
+pub mod Present
+pub mod Meeting

@@ -20,3 +20,5 @@ pub mod Search
 pub mod Corner
 pub mod Present
 pub mod Meeting
+pub mod EdgeSteps
+pub mod Sides

@@ -18,7 +18,7 @@ use Rattle.orbits.specs.Classes.{Reps, reps-count}
 use Rattle.orbits.specs.Orbits.{orbits}
 use Rattle.orbits.specs.Faces.{Face, along, mirrored, faces as faceClasses, face-flip, face-trans, face-partition, face-keeps, orbits-pair}
 use Rattle.tracing.specs.Step.{steps, type?, is-zero, is-one, corner, corner-live, corner-dart}
-use Rattle.tracing.specs.Place.{places, trace, flip, on, place, is-step, is-still, flip-flip, flip-low, flip-step, flip-still, on-step, on-still}
+use Rattle.tracing.specs.Place.{places, either, trace, flip, on, place, is-step, is-still, flip-flip, flip-low, flip-step, flip-still, on-step, on-still}
 use Rattle.tracing.specs.Walk.{corners}
 use Rattle.tracing.specs.Listing.{has, has-here, metBy, only, fresh, fresh-dead, fresh-met, fresh-start, starts, starts-zero, starts-suc, lone, alones, alones-zero, alones-suc, loneAt, loneCorner, faces, faceCount}
 use Rattle.tracing.specs.Has.{has-empty, has-parts, left, right, has-left, has-right, has-cons, here, later, has-tail, has-mapped, has-gathered, has-gather, countIn, countIn-append, countIn-map}
@@ -84,11 +84,7 @@ only-has false x c e = absurd (has-empty c e)
 
 -- which of a corner's numbers name a listed walk: dart d for a start, 2048+v for an isolated vertex
 unfoldable named : Rotation → (ℕ → Bool) → ℕ → Bool
-named R P j = pick (ltb j darts) (start? R j) (R .alone (j - darts)) && P (2 * j)
-  where
-    pick : Bool → Bool → Bool → Bool
-    pick true a b = a
-    pick false a b = b
+named R P j = either (ltb j darts) (start? R j) (R .alone (j - darts)) && P (2 * j)
 
 module _ (R : Rotation) where
   pub has-start : (n d : ℕ) → has d (starts R n) ≡ true → StartBelow R n d
@@ -216,14 +212,14 @@ module _ (R : Rotation) (L : Lawful R) where
   ]
 
   -- no face has both darts and an isolated vertex
-  lone-apart : (a b : ℕ) → a < darts → darts ≤ b → Face (trace R) (flip R) (2 * a) (2 * b) → ⊥
+  pub lone-apart : (a b : ℕ) → a < darts → darts ≤ b → Face (trace R) (flip R) (2 * a) (2 * b) → ⊥
   lone-apart a b h l (along r) = let low = trace-reach R L {s = 2 * a} (omega arith) r .low in omega arith
   lone-apart a b h l (mirrored r) =
       let low = trace-reach R L {s = 2 * a} (omega arith) r .low in
       let turn = flip-still R (2 * b) (omega arith) in
       omega arith
 
-  lones-apart : (a b : ℕ) → darts ≤ a → darts ≤ b → Face (trace R) (flip R) (2 * a) (2 * b) → a ≡ b
+  pub lones-apart : (a b : ℕ) → darts ≤ a → darts ≤ b → Face (trace R) (flip R) (2 * a) (2 * b) → a ≡ b
   lones-apart a b h l (along r) = let same = still-reach R L {s = 2 * a} (omega arith) r in omega arith
   lones-apart a b h l (mirrored r) =
       let same = still-reach R L {s = 2 * a} (omega arith) r in

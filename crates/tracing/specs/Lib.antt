@@ -17,3 +17,8 @@ pub mod Twice
 pub mod Edges
 pub mod Length
 pub mod Search
+pub mod Corner
+pub mod Present
+pub mod Meeting
+pub mod EdgeSteps
+pub mod Sides

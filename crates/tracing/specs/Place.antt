@@ -24,7 +24,7 @@ trace R s = choose (ltb s steps) (step R s) s
 unfoldable pub flip : Rotation → ℕ → ℕ
 flip R s = choose (ltb s steps) (mirror R s) (rev s)
 
-abbrev either : Bool → Bool → Bool → Bool
+abbrev pub either : Bool → Bool → Bool → Bool
 either true a b = a
 either false a b = b
 

@@ -41,11 +41,12 @@ searching-more {t} {s} {p} {q} {at} {next} k e np nq ns = record {
   so-far = k .so-far + 1;
   walking = walking-more (k .walking) e ns;
   missed = λ j a b. elim (ℕ-discrete j (suc (k .so-far))) [
-      yes z ↦
+    | yes z ↦
         let here : iter (step (rotation t)) j s ≡ next =
-            ap (λ i. iter (step (rotation t)) i s) z ∙ iter-suc (step (rotation t)) (k .so-far) s ∙ ap (step (rotation t)) (k .walking .along .here) ∙ sym e in
+        ap (λ i. iter (step (rotation t)) i s) z ∙ iter-suc (step (rotation t)) (k .so-far) s ∙ ap (step (rotation t)) (k .walking .along .here) ∙ sym e in
         rw here (np, nq)
-    | no z ↦ k .missed j a (omega arith) ];
+    | no z ↦ k .missed j a (omega arith)
+  ];
 }
 
 found-reach : {t : List ℕ} {s p q at next : ℕ} → Searching t s p q at → next ≡ step (rotation t) at → Reach (step (rotation t)) s next
@@ -72,13 +73,14 @@ found-neither {t} {s} {p} {q} {at} {next} k e np nq h = record {
   first = λ x. absurd (np x);
   second = λ x. absurd (nq x);
   neither = λ x y z r.
-    let w = reach-within (along-period (k .walking .along) (sym e ∙ h)) r in
-    let few = w .few in
-    elim (ℕ-discrete (w .steps) zero) [
-      yes a ↦
-        let start : s ≡ z = sym (iter-zero (step (rotation t)) s) ∙ ap (λ i. iter (step (rotation t)) i s) (sym a) ∙ w .lands in
-        rw (← start, ← h) (np, nq)
-    | no a ↦ rw (w .lands) at (k .missed (w .steps) (omega arith) (omega arith)) ];
+      let w = reach-within (along-period (k .walking .along) (sym e ∙ h)) r in
+      let few = w .few in
+      elim (ℕ-discrete (w .steps) zero) [
+        | yes a ↦
+            let start : s ≡ z = sym (iter-zero (step (rotation t)) s) ∙ ap (λ i. iter (step (rotation t)) i s) (sym a) ∙ w .lands in
+            rw (← start, ← h) (np, nq)
+        | no a ↦ rw (w .lands) at (k .missed (w .steps) (omega arith) (omega arith))
+      ];
 }
 
 -- the measure

@@ -114,7 +114,7 @@ module _ (R : Rotation) (L : Lawful R) where
   ]
 
   -- with a step, the step after it is listed
-  step-times : (x : ℕ) → x < steps → R .live (x / 2) ≡ true → times (step R x) (listedSteps R) ≡ times x (listedSteps R)
+  pub step-times : (x : ℕ) → x < steps → R .live (x / 2) ≡ true → times (step R x) (listedSteps R) ≡ times x (listedSteps R)
   step-times x h l = let p = passed x h l in go (p .at) (p .low) (p .start) (p .face)
     where
       next : trace R x ≡ step R x

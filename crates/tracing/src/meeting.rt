@@ -1,7 +1,11 @@
 // Whether two corners are on one face, and how the two sides of an edge lie: each by one walk.
-use crate::step::{mirror, step};
+use crate::corner::LONE;
+use crate::step::mirror;
+use crate::step::step;
 ghost use mathlib.Core.Path.{_≡_};
 ghost use Rattle.table.specs.Rotation.{rotation};
+ghost use Rattle.tracing.specs.Corner.{meetingOf};
+ghost use Rattle.tracing.specs.Meeting.{Corners};
 ghost use Rattle.tracing.specs.Stands.{Stands};
 ghost use Rattle.tracing.specs.Search.{Found};
 
@@ -37,4 +41,29 @@ fn find(t: &[u16], s: u16, p: u16, q: u16) -> u16
             return at;
         }
     }
+}
+
+// Are the corners a and b on one face, and do their types agree.
+pub fn meet(t: &[u16], a: u16, b: u16) -> Meeting
+    requires { ⌜ Corners (now t) a b ⌝ }
+    ensures { λ r. ⌜ r ≡ meetingOf (rotation (now (t .entry))) a b ⌝ }
+{
+    if a == b {
+        return Meeting::SameType;
+    }
+    if LONE <= a {
+        return Meeting::Apart;
+    }
+    if LONE <= b {
+        return Meeting::Apart;
+    }
+    let turned = mirror(t, 2 * b);
+    let r = find(t, 2 * a, 2 * b, turned);
+    if r == 2 * b {
+        return Meeting::SameType;
+    }
+    if r == turned {
+        return Meeting::OtherType;
+    }
+    Meeting::Apart
 }

@@ -81,10 +81,9 @@ module _ {R R′ : Rotation} {e : ℕ} (L : Lawful R) (L′ : Lawful R′) (W : 
 
   -- the far side goes on to q, or to its mirror
   far-goes : Reach (through R e) (far R e) (seat R e (bend R′ (parity R e) q))
-  unfolding far
   far-goes = elim (parity-type R e) [
     | is-zero z ↦
-        let s : 2 * (2 * e + 1) + parity R e ≡ 2 * (2 * e + 1) = omega arith in
+        let s : far R e ≡ 2 * (2 * e + 1) = omega arith in
         rw (bend-zero R′ q z, s) (T .second)
     | is-one z ↦
         let low : 2 * (2 * e + 1) < steps = second-low in
@@ -92,7 +91,8 @@ module _ {R R′ : Rotation} {e : ℕ} (L : Lawful R) (L′ : Lawful R′) (W : 
         let type : 1 - 2 * (2 * e + 1) % 2 ≡ 1 = omega arith in
         let once : through R e (2 * (2 * e + 1) + 1) ≡ flip R (2 * (2 * e + 1)) =
         past L L′ W (is-one refl) (2 * e + 1) (omega arith) ∙ sym (flip-spin R (2 * (2 * e + 1)) low ∙ rw (half, type)) in
-        rw (bend-one R′ q z, z)
+        let s : far R e ≡ 2 * (2 * e + 1) + 1 = omega arith in
+        rw (bend-one R′ q z, s)
         (reach-trans (reach-one (2 * (2 * e + 1) + 1)) (rw once (mirror-goes (omega arith) oq (T .second))))
   ]
     where

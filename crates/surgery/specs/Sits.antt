@@ -75,5 +75,6 @@ module _ {R R′ : Rotation} {e : ℕ} (L : Lawful R) (L′ : Lawful R′) (W : 
       (rw (here, f) at (meet-bare L L′ W (is-zero refl) x q (rw f a)))
 
   pub enters : {c₁ c₂ : ℕ} → Inserted R e R′ c₁ c₂ → Enters R e (placeOf c₁) (placeOf c₂)
-  unfolding near
-  enters N = record { first = sits-reach (2 * e) (omega arith) (N .first); second = sits-reach (2 * e + 1) (omega arith) (N .second) }
+  enters N =
+      let s : 4 * e ≡ 2 * (2 * e) = omega arith in
+      record { first = rw s (sits-reach (2 * e) (omega arith) (N .first)); second = sits-reach (2 * e + 1) (omega arith) (N .second) }

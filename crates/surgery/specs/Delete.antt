@@ -9,10 +9,10 @@ use Prim.Native.Nat.{ℕ, suc, _+_, _-_, _*_, _/_, _%_, _<_, _≤_}
 use native.Mathlib.Omega.{arith}
 use Rattle.table.specs.Rotation.{Rotation, Lawful}
 use Rattle.orbits.specs.Reach.{Reach}
-use Rattle.orbits.specs.Faces.{faces}
+use Rattle.orbits.specs.Faces.{Face, along, mirrored, faces}
 use Rattle.orbits.specs.FaceExchange.{faces-less, faces-more, faces-same}
 use Rattle.tracing.specs.Place.{places, trace, flip, on}
-use Rattle.tracing.specs.Mirrored.{Part, mirrored}
+use Rattle.tracing.specs.Mirrored.{Part, mirrored as tracing-mirror}
 use Rattle.surgery.specs.Without.{Without}
 use Rattle.surgery.specs.Exchanged.{exchanged-is}
 use Rattle.surgery.specs.Through.{near, far, through, through-exchanged, near-far}
@@ -23,17 +23,17 @@ module _ {R R′ : Rotation} {e : ℕ} (L : Lawful R) (L′ : Lawful R′) (W : 
     after : facesOf R′ P′ ≡ faces (through R e) (flip R) places P
     after = past-faces L L′ W K (through-mirror L (W .here) (K .before) i)
 
-    pub delete-less : ¬ Reach (trace R) (near e) (far R e) → ¬ Reach (trace R) (near e) (flip R (far R e)) → facesOf R P ≡ suc (facesOf R′ P′)
-    delete-less p q =
+    pub delete-less : ¬ Face (trace R) (flip R) (near e) (far R e) → facesOf R P ≡ suc (facesOf R′ P′)
+    delete-less n =
         rw (after, ← (exchanged-is (through-exchanged R L e (W .here))))
-        (faces-less (mirrored R L P (K .before)) (near-on L (W .here) i) (far-on L (W .here) i) p q)
+        (faces-less (tracing-mirror R L P (K .before)) (near-on L (W .here) i) (far-on L (W .here) i) (λ r. n (along r)) (λ r. n (mirrored r)))
 
     pub delete-more : Reach (trace R) (near e) (far R e) → facesOf R′ P′ ≡ suc (facesOf R P)
     delete-more r =
         rw (after, ← (exchanged-is (through-exchanged R L e (W .here))))
-        (faces-more (mirrored R L P (K .before)) (near-on L (W .here) i) (far-on L (W .here) i) (near-far R e) r)
+        (faces-more (tracing-mirror R L P (K .before)) (near-on L (W .here) i) (far-on L (W .here) i) (near-far R e) r)
 
     pub delete-same : Reach (trace R) (near e) (flip R (far R e)) → facesOf R′ P′ ≡ facesOf R P
     delete-same r =
         rw (after, ← (exchanged-is (through-exchanged R L e (W .here))))
-        (faces-same (mirrored R L P (K .before)) (near-on L (W .here) i) (far-on L (W .here) i) r)
+        (faces-same (tracing-mirror R L P (K .before)) (near-on L (W .here) i) (far-on L (W .here) i) r)

@@ -9,3 +9,5 @@ pub mod Seat
 pub mod SeatFollows
 pub mod Past
 pub mod Delete
+pub mod Insert
+pub mod Sits

@@ -94,7 +94,7 @@ module _ {R R′ : Rotation} {e : ℕ} (L : Lawful R) (L′ : Lawful R′) (W : 
   seat-skip s b (a-bare h d o v a p q) = rw (trace-still R′ s h, q) (skip-bare L L′ W (type? s) d o a p)
 
   -- from a step of the edge: to the vertex that it bares, or to the first dart of another edge
-  meet-bare : {t : ℕ} → Type? t → (d : ℕ) → edgeOf d ≡ e → R′ .alone (R .from d) ≡ true
+  pub meet-bare : {t : ℕ} → Type? t → (d : ℕ) → edgeOf d ≡ e → R′ .alone (R .from d) ≡ true
       → Reach (through R e) (2 * d + t) (2 * dartAt R e (R .from d) + t)
   meet-bare {t} T d o a =
       reach-ind (spin R t) On-way d (record { live = here-both L L′ W d o; from = refl; way = reach-here }) step (dartAt R e v)

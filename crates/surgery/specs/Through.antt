@@ -18,15 +18,13 @@ use Rattle.surgery.specs.Without.{apart, apart-own, apart-other}
 use Rattle.surgery.specs.Exchanged.{Exchanged}
 
 -- the parity of the turns of edge e
-unfoldable pub parity : Rotation → ℕ → ℕ
+abbrev pub parity : Rotation → ℕ → ℕ
 parity R e = R .turns (2 * e) % 2
 
 pub parity-low : (R : Rotation) (e : ℕ) → parity R e < 2
-unfolding parity
 parity-low R e = omega arith
 
 pub parity-type : (R : Rotation) (e : ℕ) → Type? (parity R e)
-unfolding parity
 parity-type R e = type? (R .turns (2 * e))
 
 -- sums of two types
@@ -46,14 +44,13 @@ bit-odd : {p : ℕ} → Type? p → (1 - p + p) % 2 ≡ 1
 bit-odd (is-zero z) = omega arith
 bit-odd (is-one z) = omega arith
 
-unfoldable pub near : ℕ → ℕ
-near e = 2 * (2 * e)
+abbrev pub near : ℕ → ℕ
+near e = 4 * e
 
-unfoldable pub far : Rotation → ℕ → ℕ
-far R e = 2 * (2 * e + 1) + parity R e
+abbrev pub far : Rotation → ℕ → ℕ
+far R e = 4 * e + 2 + parity R e
 
 pub near-far : (R : Rotation) (e : ℕ) → near e ≢ far R e
-unfolding near far
 near-far R e = omega arith
 
 unfoldable pub through : Rotation → ℕ → ℕ → ℕ
@@ -81,11 +78,9 @@ module _ (R : Rotation) (L : Lawful R) (e : ℕ) (live : R .live (2 * e) ≡ tru
   own-low s q = let l = L .dart-low (2 * e) live in omega arith
 
   pub near-low : near e < places
-  unfolding near
   near-low = let l = L .dart-low (2 * e) live in omega arith
 
   pub far-low : far R e < places
-  unfolding far
   far-low = let l = L .dart-low (2 * e) live in let p = parity-low R e in omega arith
 
   -- the step by dart d with type t, which arrives with type k at the dart r
@@ -97,7 +92,7 @@ module _ (R : Rotation) (L : Lawful R) (e : ℕ) (live : R .live (2 * e) ≡ tru
     end : rev d ≡ r
 
   own-type : {s d t k r : ℕ} → Own s d t k r → stepType R s ≡ k
-  unfolding stepType parity
+  unfolding stepType
   own-type {s} {d} {t} o =
       let p = o .place in
       let l = o .type in
@@ -133,10 +128,9 @@ module _ (R : Rotation) (L : Lawful R) (e : ℕ) (live : R .live (2 * e) ≡ tru
       let type : s % 2 ≡ t = omega arith in
       through-own R e s (omega arith) ∙ rw (half, type)
 
-  pub through-exchanged : Exchanged (trace R) (flip R) (through R e) (near e) (far R e) (2 * (2 * e + 1) + (1 - parity R e)) (near e + 1)
-  unfolding near far
+  pub through-exchanged : Exchanged (trace R) (flip R) (through R e) (near e) (far R e) (4 * e + 2 + (1 - parity R e)) (near e + 1)
   through-exchanged = record {
-    over = own-back x;
+    over = own-back x ∙ omega arith;
     home = own-back y ∙ omega arith;
     x-u = omega arith;
     x-v = omega arith;
@@ -152,14 +146,14 @@ module _ (R : Rotation) (L : Lawful R) (e : ℕ) (live : R .live (2 * e) ≡ tru
       p : ℕ
       p = parity R e
 
-      x : Own (2 * (2 * e)) (2 * e) 0 p (2 * e + 1)
+      x : Own (4 * e) (2 * e) 0 p (2 * e + 1)
       x = record { place = omega arith; edge = omega arith; type = omega arith; new = bit-same (parity-type R e); end = omega arith }
 
-      y : Own (2 * (2 * e + 1) + p) (2 * e + 1) p 0 (2 * e)
-      y = record { place = refl; edge = omega arith; type = parity-low R e; new = bit-even (parity-type R e); end = omega arith }
+      y : Own (4 * e + 2 + p) (2 * e + 1) p 0 (2 * e)
+      y = record { place = omega arith; edge = omega arith; type = parity-low R e; new = bit-even (parity-type R e); end = omega arith }
 
-      u : Own (2 * (2 * e + 1) + (1 - p)) (2 * e + 1) (1 - p) 1 (2 * e)
-      u = record { place = refl; edge = omega arith; type = omega arith; new = bit-odd (parity-type R e); end = omega arith }
+      u : Own (4 * e + 2 + (1 - p)) (2 * e + 1) (1 - p) 1 (2 * e)
+      u = record { place = omega arith; edge = omega arith; type = omega arith; new = bit-odd (parity-type R e); end = omega arith }
 
-      v : Own (2 * (2 * e) + 1) (2 * e) 1 (1 - p) (2 * e + 1)
-      v = record { place = refl; edge = omega arith; type = omega arith; new = bit-other (parity-type R e); end = omega arith }
+      v : Own (4 * e + 1) (2 * e) 1 (1 - p) (2 * e + 1)
+      v = record { place = omega arith; edge = omega arith; type = omega arith; new = bit-other (parity-type R e); end = omega arith }

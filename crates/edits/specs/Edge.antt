@@ -49,9 +49,15 @@ module _ (t : List ℕ) where
   unfolding link
   link-dart x c h = rw (lt-ltb c darts h)
 
-  link-lone : (x v : ℕ) → link t x (loneAt + v) ≡ splice t x x x v x
+  pub dart-link : (x c w : ℕ) → c < darts → w ≡ lesser (vertexWord t (leaves t c)) x → splice t x c (prevWord t c) (leaves t c) w ≡ link t x c
+  dart-link x c w h e = ap (splice t x c (prevWord t c) (leaves t c)) e ∙ sym (link-dart x c h)
+
+  pub link-past : (x c : ℕ) → darts ≤ c → link t x c ≡ splice t x x x (c - loneAt) x
   unfolding link
-  link-lone x v = let s : loneAt + v - loneAt ≡ v = omega arith in rw (le-ltb (loneAt + v) darts (omega arith), s)
+  link-past x c h = rw (le-ltb c darts h)
+
+  link-lone : (x v : ℕ) → link t x (loneAt + v) ≡ splice t x x x v x
+  link-lone x v = let s : loneAt + v - loneAt ≡ v = omega arith in link-past x (loneAt + v) (omega arith) ∙ ap (λ u. splice t x x x u x) s
 
 module _ (t : List ℕ) (L : ℕ → Bool) (H : Held t L) (x : ℕ) where
   pub link-grown : (c : ℕ) → L x ≡ false → x < darts → Corner t L c → Grown t (link t x c) L x

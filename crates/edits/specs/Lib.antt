@@ -1,8 +1,10 @@
+pub mod Turns
 pub mod Held
 pub mod Splice
 pub mod Link
 pub mod Unlink
 pub mod Edge
+pub mod Ready
 pub mod Deleted
 pub mod Inserted
 pub mod RoundTrip

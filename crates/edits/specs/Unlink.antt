@@ -3,6 +3,7 @@
 use Prim.Native.Nat.{ℕ, zero, suc, _+_, _-_, _≤_, _<_}
 use native.Mathlib.Omega.{arith}
 use native.Mathlib.Decide.{ℕ-discrete, decLt}
+use native.Mathlib.Numerals.{add-one}
 use mathlib.Core.Path.{_≡_, refl, sym, _∙_, ap}
 use mathlib.Core.Bool.{Bool, true, false}
 use mathlib.Core.List.{List}
@@ -69,6 +70,10 @@ taken t x = cut t x (nextWord t x) (prevWord t x)
 
 abbrev pub unlink : List ℕ → ℕ → List ℕ
 unlink t x = setVertex (taken t x) (leaves t x) (successor (taken t x) (leaves t x) x (vertexWord t (leaves t x)))
+
+-- the last of the writes, once the word is known
+pub unlink-last : (t u : List ℕ) (x w : ℕ) → u ≡ taken t x → w ≡ successor u (leaves t x) x (vertexWord t (leaves t x)) → setVertex u (leaves t x) w ≡ unlink t x
+unlink-last t u x w e f = rw (f, e)
 
 -- t with dart x less: the rules hold, and the rotation and the words are those of t with x left out
 pub record Shrunk (t u : List ℕ) (L : ℕ → Bool) (x : ℕ) : Type 0 where
@@ -387,3 +392,29 @@ module _ (t u : List ℕ) (L : ℕ → Bool) (H : Held t L) (x n p v w : ℕ) (o
       word-there : After → w ≡ nothing → ⊥
       word-there (leads _ d) e = omega arith
       word-there (bared i _) e = omega arith
+
+-- The search's loop: nothing before d was found.
+pub record Seeking (t : List ℕ) (v x d : ℕ) : Type 0 where
+  pub from : x ≤ d
+  pub low : d ≤ darts
+  pub same : seek t v x (darts - x) ≡ seek t v d (darts - d)
+
+module _ (t : List ℕ) (v x : ℕ) where
+  pub seeking-none : x < darts → Seeking t v x x
+  seeking-none h = record { from = omega arith; low = omega arith; same = refl }
+
+  pub seeking-more : (d : ℕ) → Seeking t v x d → d < darts → leaves t d ≢ v → Seeking t v x (d + 1)
+  seeking-more d s h n =
+      let k : darts - d ≡ suc (darts - (d + 1)) = omega arith in
+      record { from = omega (arith, s .from); low = omega arith; same = s .same ∙ ap (seek t v d) k ∙ seek-on t v d (darts - (d + 1)) n ∙ ap (λ j. seek t v j (darts - (d + 1))) (sym (add-one d)) }
+
+  pub seeking-here : (d : ℕ) → Seeking t v x d → d < darts → leaves t d ≡ v → d ≡ seek t v x (darts - x)
+  seeking-here d s h e =
+      let k : darts - d ≡ suc (darts - (d + 1)) = omega arith in
+      sym (s .same ∙ ap (seek t v d) k ∙ seek-here t v d (darts - (d + 1)) e)
+
+  pub seeking-all : (d : ℕ) → Seeking t v x d → darts ≤ d → isolated ≡ seek t v x (darts - x)
+  unfolding seek
+  seeking-all d s h =
+      let k : darts - d ≡ 0 = omega arith in
+      sym (s .same ∙ ap (seek t v d) k)

@@ -3,6 +3,7 @@ pub mod Good
 pub mod Rotation
 pub mod Lawful
 pub mod Writes
+pub mod Signed
 pub mod Answers
 pub mod Counting
 pub mod Darts

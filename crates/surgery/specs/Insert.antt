@@ -28,7 +28,7 @@ use Rattle.surgery.specs.Exchanged.{exchanged-is, exchanged-back}
 use Rattle.surgery.specs.Through.{parity, parity-type, near, far, through, through-exchanged, near-far}
 use Rattle.surgery.specs.Seat.{seat, past}
 use Rattle.surgery.specs.SeatFollows.{seat-follows, seat-flip}
-use Rattle.surgery.specs.Past.{facesOf, Parts, Inside, near-on, far-on, through-mirror, past-faces, past-reach}
+use Rattle.surgery.specs.Past.{facesOf, Parts, Inside, level-in, near-on, far-on, through-mirror, past-faces, past-reach}
 
 -- the place itself for type 0, its mirror for type 1
 unfoldable pub bend : Rotation → ℕ → ℕ → ℕ
@@ -54,7 +54,7 @@ reach-shift I h l r s w = reach-trans r (reach-trans w (reach-sym I l s))
 module _ {R R′ : Rotation} {e : ℕ} (L : Lawful R) (L′ : Lawful R′) (W : Without R e R′) {P P′ : ℕ → Bool} (K : Parts R e R′ P P′) (i : Inside R e P)
     {p q : ℕ} (op : On places P′ p) (oq : On places P′ q) (T : Enters R e p q) where
   G : Mirror places (through R e) (flip R) P
-  G = through-mirror L (W .here) (K .before) i
+  G = through-mirror L (W .here) (K .before) (level-in i)
 
   G′ : Mirror places (trace R′) (flip R′) P′
   G′ = tracing-mirror R′ L′ P′ (K .after)

@@ -11,3 +11,5 @@ pub mod Past
 pub mod Delete
 pub mod Insert
 pub mod Sits
+pub mod Turn
+pub mod Vertex

@@ -11,5 +11,6 @@ pub mod Past
 pub mod Delete
 pub mod Insert
 pub mod Sits
+pub mod Alike
 pub mod Turn
 pub mod Vertex

@@ -1,6 +1,6 @@
 -- An edge turned. An even amount changes no walk. An odd amount exchanges where the edge's first dart leads with type 0 and with type 1.
 -- Its two sides on different faces: one face less. On one walk by the same dart twice, one face more. By both darts: as many faces.
---     Turned               the two rotation systems;     turned-flip, turned-on    the same mirror, the same places
+--     Turned               the two rotation systems;     turned-on    the same places
 --     turn-even            the same tracing, so the same faces
 --     turn-less, turn-more, turn-same     an odd amount, in a part that has the edge;     turn-part    which stays a part
 --     turn-elsewhere       in any other part as many
@@ -24,6 +24,7 @@ use Rattle.tracing.specs.Step.{steps, Type?, is-zero, is-one, type?, stepType, 
 use Rattle.tracing.specs.Place.{places, trace, flip, on, place, is-step, is-still, trace-step, trace-still, flip-step, flip-still, on-step, on-still, flip-flip}
 use Rattle.tracing.specs.Mirrored.{Part, mirrored as tracing-mirror}
 use Rattle.surgery.specs.Spin.{step-type?, other-type}
+use Rattle.surgery.specs.Alike.{Alike, alike-around, alike-flip, alike-trace}
 use Rattle.surgery.specs.Exchanged.{Exchanged, exchanged-is, exchanged-keeps}
 use Rattle.surgery.specs.Through.{parity, parity-low, parity-type, near, far, near-low, far-low, own-four, trace-near, trace-far, trace-near-back, trace-far-back, near-back, far-back, far-back-back}
 use Rattle.surgery.specs.Past.{facesOf, Inside, Outside, Level, level-in, level-out, own-level, near-on}
@@ -31,43 +32,19 @@ use Rattle.surgery.specs.Past.{facesOf, Inside, Outside, Level, level-in
 pub record Turned (R : Rotation) (e : ℕ) (R₁ : Rotation) : Type 0 where
   pub here : R .live (2 * e) ≡ true
   pub live : (d : ℕ) → R₁ .live d ≡ R .live d
-  pub next : (d : ℕ) → R₁ .next d ≡ R .next d
+  pub next : Alike R R₁
   pub turns : (d : ℕ) → edgeOf d ≢ e → R₁ .turns d % 2 ≡ R .turns d % 2
   pub alone : (v : ℕ) → R₁ .alone v ≡ R .alone v
 
 module _ {R R₁ : Rotation} {e : ℕ} (L : Lawful R) (L₁ : Lawful R₁) (W : Turned R e R₁) where
-  same-prev : (d : ℕ) → R₁ .prev d ≡ R .prev d
-  same-prev d = ap (R₁ .prev) (sym (W .next (R .prev d) ∙ L .next-prev d)) ∙ L₁ .prev-next (R .prev d)
-
-  same-around : {t : ℕ} → Type? t → (d : ℕ) → around R₁ t d ≡ around R t d
-  same-around {t} (is-zero z) d = rw (around-next R₁ t d z, around-next R t d z, W .next d)
-  same-around {t} (is-one z) d = rw (around-prev R₁ t d z, around-prev R t d z, same-prev d)
-
-  pub turned-flip : flip R₁ ≡ flip R
-  unfolding mirror
-  turned-flip = fun-ext (λ s. elim (place s) [
-    | is-step h ↦ rw (flip-step R₁ s h, flip-step R s h) (same-around (other-type (type? s)) (s / 2))
-    | is-still h ↦ rw (flip-still R₁ s h, flip-still R s h)
-  ])
-
   pub turned-on : on R₁ ≡ on R
   turned-on = fun-ext (λ s. elim (place s) [
     | is-step h ↦ rw (on-step R₁ s h, on-step R s h) (W .live (s / 2))
     | is-still h ↦ rw (on-still R₁ s h, on-still R s h) (W .alone ((s - steps) / 2))
   ])
 
-  -- where the turns have the same parity, tracing is the same
-  same-trace : (s : ℕ) → R₁ .turns (s / 2) % 2 ≡ R .turns (s / 2) % 2 → trace R₁ s ≡ trace R s
-  unfolding step stepType
-  same-trace s q = elim (place s) [
-    | is-step h ↦
-        let type : (s + R₁ .turns (s / 2)) % 2 ≡ (s + R .turns (s / 2)) % 2 = omega arith in
-        rw (trace-step R₁ s h, trace-step R s h, type) (same-around (type? (s + R .turns (s / 2))) (rev (s / 2)))
-    | is-still h ↦ rw (trace-still R₁ s h, trace-still R s h)
-  ]
-
   pub turn-even : parity R₁ e ≡ parity R e → trace R₁ ≡ trace R
-  turn-even q = fun-ext (λ s. same-trace s (elim (ℕ-discrete (edgeOf (s / 2)) e) [
+  turn-even q = fun-ext (λ s. alike-trace L L₁ (W .next) s (elim (ℕ-discrete (edgeOf (s / 2)) e) [
     | yes o ↦ own (s / 2) o
     | no n ↦ W .turns (s / 2) n
   ]))
@@ -96,11 +73,11 @@ module _ {R R₁ : Rotation} {e : ℕ} (L : Lawful R) (L₁ : Lawful R₁) (W : 
           x-v = omega arith;
           y-u = omega arith;
           y-v = omega arith;
-          at-x = trace-near R₁ L₁ e here₁ ∙ rw odd (same-around (other-type p) (2 * e + 1)) ∙ sym (trace-far-back R L e (W .here));
-          at-y = trace-far-back R₁ L₁ e here₁ ∙ rw again (same-around p (2 * e + 1)) ∙ sym (trace-near R L e (W .here));
-          at-u = (rw odd at (trace-far R₁ L₁ e here₁)) ∙ same-around (is-zero refl) (2 * e) ∙ sym (trace-far R L e (W .here));
-          at-v = (rw again at (trace-near-back R₁ L₁ e here₁)) ∙ same-around (is-one refl) (2 * e) ∙ sym (trace-near-back R L e (W .here));
-          beside = λ s a b c d. same-trace s (W .turns (s / 2) (own-four R L e (W .here) s a d c b));
+          at-x = trace-near R₁ L₁ e here₁ ∙ rw odd (alike-around L L₁ (W .next) (other-type p) (2 * e + 1)) ∙ sym (trace-far-back R L e (W .here));
+          at-y = trace-far-back R₁ L₁ e here₁ ∙ rw again (alike-around L L₁ (W .next) p (2 * e + 1)) ∙ sym (trace-near R L e (W .here));
+          at-u = (rw odd at (trace-far R₁ L₁ e here₁)) ∙ alike-around L L₁ (W .next) (is-zero refl) (2 * e) ∙ sym (trace-far R L e (W .here));
+          at-v = (rw again at (trace-near-back R₁ L₁ e here₁)) ∙ alike-around L L₁ (W .next) (is-one refl) (2 * e) ∙ sym (trace-near-back R L e (W .here));
+          beside = λ s a b c d. alike-trace L L₁ (W .next) s (W .turns (s / 2) (own-four R L e (W .here) s a d c b));
         }
 
     turned-is : exch2 (trace R) (flip R) (near e) (near e + 1) ≡ trace R₁
@@ -119,7 +96,7 @@ module _ {R R₁ : Rotation} {e : ℕ} (L : Lawful R) (L₁ : Lawful R₁) (W : 
         traced =
             exchanged-keeps E (near-low R L e (W .here)) second-low turned-exchanged P (K .traced) (K .flipped)
             (sym (own-level L (W .here) K level (near e + 1) (omega arith)));
-        flipped = rw turned-flip (K .flipped);
+        flipped = rw (alike-flip L L₁ (W .next)) (K .flipped);
         within = rw turned-on (K .within);
       }
 
@@ -127,7 +104,7 @@ module _ {R R₁ : Rotation} {e : ℕ} (L : Lawful R) (L₁ : Lawful R₁) (W : 
       turn-elsewhere o =
           let level = level-out o in
           faces-agree (tracing-mirror R₁ L₁ P (turn-part level)) E
-          (λ s p. same-trace s (W .turns (s / 2) (λ q. clash (p .on) (own-level L (W .here) K level s q ∙ o .near-out))))
+          (λ s p. alike-trace L L₁ (W .next) s (W .turns (s / 2) (λ q. clash (p .on) (own-level L (W .here) K level s q ∙ o .near-out))))
 
       module _ (i : Inside R e P) where
         second-on : On places P (near e + 1)
@@ -154,11 +131,11 @@ module _ {R R₁ : Rotation} {e : ℕ} (L : Lawful R) (L₁ : Lawful R₁) (W : 
 
         pub turn-less : ¬ Face (trace R) (flip R) (near e) (far R e) → facesOf R P ≡ suc (facesOf R₁ P)
         turn-less n =
-            rw (turned-flip, ← turned-is)
+            rw (alike-flip L L₁ (W .next), ← turned-is)
             (faces-less E (near-on L (W .here) i) second-on (λ r. n (mirrored (from-second r))) (λ r. n (along (from-flip r))))
 
         pub turn-more : Reach (trace R) (near e) (flip R (far R e)) → facesOf R₁ P ≡ suc (facesOf R P)
-        turn-more r = rw (turned-flip, ← turned-is) (faces-more E (near-on L (W .here) i) second-on (omega arith) (to-second r))
+        turn-more r = rw (alike-flip L L₁ (W .next), ← turned-is) (faces-more E (near-on L (W .here) i) second-on (omega arith) (to-second r))
 
         pub turn-same : Reach (trace R) (near e) (far R e) → facesOf R₁ P ≡ facesOf R P
-        turn-same r = rw (turned-flip, ← turned-is) (faces-same E (near-on L (W .here) i) second-on (to-flip r))
+        turn-same r = rw (alike-flip L L₁ (W .next), ← turned-is) (faces-same E (near-on L (W .here) i) second-on (to-flip r))

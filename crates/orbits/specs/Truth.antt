@@ -37,6 +37,12 @@ both-right true false e = e
 both-right false false e = e
 
 -- a Boolean that is not true
+pub not-both : (a b : Bool) → ((a ≡ true) → (b ≡ true) → ⊥) → (a && b) ≡ false
+not-both true true h = absurd (h refl refl)
+not-both true false h = refl
+not-both false true h = refl
+not-both false false h = refl
+
 pub false-unless : (b : Bool) → (b ≡ true → ⊥) → b ≡ false
 false-unless true h = absurd (h refl)
 false-unless false h = refl

@@ -34,7 +34,7 @@ along-more {f} {s} {n} {at} a e = record { here = next; early = before }
     ]
 
 -- a step that leads back closes the walk: its period
-along-period : {f : ℕ → ℕ} {s n at : ℕ} → Along f s n at → f at ≡ s → Period f s
+unfoldable pub along-period : {f : ℕ → ℕ} {s n at : ℕ} → Along f s n at → f at ≡ s → Period f s
 along-period {f} {s} {n} {at} a e = record {
   steps = suc n;
   some = omega arith;

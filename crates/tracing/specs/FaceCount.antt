@@ -18,7 +18,7 @@ use Rattle.orbits.specs.Classes.{Reps, reps-count}
 use Rattle.orbits.specs.Orbits.{orbits}
 use Rattle.orbits.specs.Faces.{Face, along, mirrored, faces as faceClasses, face-flip, face-trans, face-partition, face-keeps, orbits-pair}
 use Rattle.tracing.specs.Step.{steps, type?, is-zero, is-one, corner, corner-live, corner-dart}
-use Rattle.tracing.specs.Place.{places, trace, flip, on, place, is-step, is-still, flip-flip, flip-low, flip-step, flip-still, on-step, on-still}
+use Rattle.tracing.specs.Place.{places, either, trace, flip, on, place, is-step, is-still, flip-flip, flip-low, flip-step, flip-still, on-step, on-still}
 use Rattle.tracing.specs.Walk.{corners}
 use Rattle.tracing.specs.Listing.{has, has-here, metBy, only, fresh, fresh-dead, fresh-met, fresh-start, starts, starts-zero, starts-suc, lone, alones, alones-zero, alones-suc, loneAt, loneCorner, faces, faceCount}
 use Rattle.tracing.specs.Has.{has-empty, has-parts, left, right, has-left, has-right, has-cons, here, later, has-tail, has-mapped, has-gathered, has-gather, countIn, countIn-append, countIn-map}
@@ -84,11 +84,7 @@ only-has false x c e = absurd (has-empty c e)
 
 -- which of a corner's numbers name a listed walk: dart d for a start, 2048+v for an isolated vertex
 unfoldable named : Rotation → (ℕ → Bool) → ℕ → Bool
-named R P j = pick (ltb j darts) (start? R j) (R .alone (j - darts)) && P (2 * j)
-  where
-    pick : Bool → Bool → Bool → Bool
-    pick true a b = a
-    pick false a b = b
+named R P j = either (ltb j darts) (start? R j) (R .alone (j - darts)) && P (2 * j)
 
 module _ (R : Rotation) where
   pub has-start : (n d : ℕ) → has d (starts R n) ≡ true → StartBelow R n d
@@ -122,13 +118,13 @@ module _ (R : Rotation) where
       bit false = omega arith
   one-more q false x k = omega arith
 
-  starts-count : (q : ℕ → Bool) (n : ℕ) → countIn q (starts R n) ≡ count (λ d. start? R d && q d) n
+  pub starts-count : (q : ℕ → Bool) (n : ℕ) → countIn q (starts R n) ≡ count (λ d. start? R d && q d) n
   unfolding count countIn starts
   starts-count q zero = refl
   starts-count q (suc n) =
       rw (starts-more R n, countIn-append q (starts R n) (only (start? R n) n), starts-count q n) (one-more q (start? R n) n (count (λ d. start? R d && q d) n))
 
-  alones-count : (q : ℕ → Bool) (n : ℕ) → countIn q (alones R n) ≡ count (λ v. R .alone v && q v) n
+  pub alones-count : (q : ℕ → Bool) (n : ℕ) → countIn q (alones R n) ≡ count (λ v. R .alone v && q v) n
   unfolding count countIn alones lone
   alones-count q zero = refl
   alones-count q (suc n) =
@@ -206,15 +202,24 @@ module _ (R : Rotation) (L : Lawful R) where
       (has-gather (λ d. corners R (2 * d)) (starts R b) a b (start-has R b a h s) (corners-has R L (2 * a) b (omega arith) l f))
       (start-unmet R b t)
 
+  pub starts-one : (a b : ℕ) → a < darts → b < darts → start? R a ≡ true → start? R b ≡ true → Face (trace R) (flip R) (2 * a) (2 * b) → a ≡ b
+  starts-one a b h l s t f = elim (ℕ-discrete a b) [
+    | yes e ↦ e
+    | no e ↦ elim (decLt a b) [
+      | yes m ↦ absurd (starts-apart a b m l s t f)
+      | no m ↦ absurd (starts-apart b a (omega arith) h t s (face-flip (tracing-mirror R L (on R) (whole R L)) (omega arith) (omega arith) f))
+    ]
+  ]
+
   -- no face has both darts and an isolated vertex
-  lone-apart : (a b : ℕ) → a < darts → darts ≤ b → Face (trace R) (flip R) (2 * a) (2 * b) → ⊥
+  pub lone-apart : (a b : ℕ) → a < darts → darts ≤ b → Face (trace R) (flip R) (2 * a) (2 * b) → ⊥
   lone-apart a b h l (along r) = let low = trace-reach R L {s = 2 * a} (omega arith) r .low in omega arith
   lone-apart a b h l (mirrored r) =
       let low = trace-reach R L {s = 2 * a} (omega arith) r .low in
       let turn = flip-still R (2 * b) (omega arith) in
       omega arith
 
-  lones-apart : (a b : ℕ) → darts ≤ a → darts ≤ b → Face (trace R) (flip R) (2 * a) (2 * b) → a ≡ b
+  pub lones-apart : (a b : ℕ) → darts ≤ a → darts ≤ b → Face (trace R) (flip R) (2 * a) (2 * b) → a ≡ b
   lones-apart a b h l (along r) = let same = still-reach R L {s = 2 * a} (omega arith) r in omega arith
   lones-apart a b h l (mirrored r) =
       let same = still-reach R L {s = 2 * a} (omega arith) r in
@@ -222,20 +227,14 @@ module _ (R : Rotation) (L : Lawful R) where
       absurd (omega arith)
 
   named-apart : (P : ℕ → Bool) → Part R P → (i j : ℕ) → i < 2560 → j < 2560 → Named R P i → Named R P j → Face (trace R) (flip R) (2 * i) (2 * j) → i ≡ j
-  named-apart P K i j h l (dart-named a s p) (dart-named b t q) f = elim (ℕ-discrete i j) [
-    | yes e ↦ e
-    | no e ↦ elim (decLt i j) [
-      | yes m ↦ absurd (starts-apart i j m b s t f)
-      | no m ↦ absurd (starts-apart j i (omega arith) a t s (face-flip (tracing-mirror R L P K) (omega arith) (omega arith) f))
-    ]
-  ]
+  named-apart P K i j h l (dart-named a s p) (dart-named b t q) f = starts-one i j a b s t f
   named-apart P K i j h l (dart-named a s p) (lone-named b t q) f = absurd (lone-apart i j a b f)
   named-apart P K i j h l (lone-named a s p) (dart-named b t q) f =
       absurd (lone-apart j i b a (face-flip (tracing-mirror R L P K) (omega arith) (omega arith) f))
   named-apart P K i j h l (lone-named a s p) (lone-named b t q) f = lones-apart i j a b f
 
   -- each place is on the face of its corner's type-0 place
-  corner-face : (s : ℕ) → s < steps → Face (trace R) (flip R) s (2 * corner R s)
+  pub corner-face : (s : ℕ) → s < steps → Face (trace R) (flip R) s (2 * corner R s)
   corner-face s h = elim (at-corner R L (corner R s) s refl) [
     | plain q ↦ rw (← q) (along reach-here)
     | turned q ↦
@@ -294,7 +293,7 @@ module _ (R : Rotation) (L : Lawful R) where
   all-pass q [] h = refl
   all-pass q (x ∷ l) h = rw (h x (has-here x l), all-pass q l (λ c e. h c (has-tail c x l e)))
 
-  lone-there : (n v : ℕ) → has v (alones R n) ≡ true → R .alone v ≡ true
+  pub lone-there : (n v : ℕ) → has v (alones R n) ≡ true → R .alone v ≡ true
   unfolding lone
   lone-there zero v e = absurd (has-empty v (rw (alones-zero R) at e))
   lone-there (suc n) v e = elim (has-parts v (alones R n) (only (R .alone n) n) (rw (alones-suc R n) at e)) [

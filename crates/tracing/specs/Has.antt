@@ -5,8 +5,11 @@ use native.Mathlib.Decide.{ℕ-discrete}
 use mathlib.Core.Path.{_≡_, refl, sym, _∙_, ap}
 use mathlib.Core.Bool.{Bool, true, false, _||_}
 use mathlib.Core.List.{List, [], _∷_, _++_, map}
-use Rattle.orbits.specs.Truth.{clash}
-use Rattle.orbits.specs.Count.{more}
+use mathlib.Core.Logic.{_≢_}
+use lib.Dec.{eqb}
+use borrow.Author.Tests.{eq-eqb, ne-eqb}
+use Rattle.orbits.specs.Truth.{clash, false-unless}
+use Rattle.orbits.specs.Count.{more, count, count-one, count-none}
 use Rattle.tracing.specs.Listing.{has, has-here, has-there, gather}
 
 has-nil : (c : ℕ) → has c [] ≡ false
@@ -125,3 +128,45 @@ has-map f (y ∷ l) x e = elim (has-cons x y l e) [
   | here q ↦ has-head (map f l) (ap f q)
   | later h ↦ has-tail (f x) (f y) (map f l) (has-map f l x h)
 ]
+
+-- how often x is among these
+abbrev pub times : ℕ → List ℕ → ℕ
+times x l = countIn (λ y. eqb x y) l
+
+pub times-none : (x : ℕ) (l : List ℕ) → has x l ≡ false → times x l ≡ 0
+unfolding countIn
+times-none x [] e = refl
+times-none x (y ∷ l) e = elim (ℕ-discrete x y) [
+  | yes q ↦ absurd (clash (has-head l q) e)
+  | no q ↦ rw (ne-eqb x y q) (times-none x l (sym (has-there x y l q) ∙ e))
+]
+
+-- a number that exactly one member a gives, and once, is gathered as often as a stands in the list
+pub times-gather : (f : ℕ → List ℕ) (c a : ℕ) (l : List ℕ) → times c (f a) ≡ 1 → ((x : ℕ) → has x l ≡ true → x ≢ a → times c (f x) ≡ 0)
+    → times c (gather f l) ≡ times a l
+unfolding gather countIn
+times-gather f c a [] one other = refl
+times-gather f c a (x ∷ l) one other =
+    let rest = times-gather f c a l one (λ y h. other y (has-tail y x l h)) in
+    countIn-append (λ y. eqb c y) (f x) (gather f l) ∙ (elim (ℕ-discrete x a) [
+      | yes q ↦
+          let here : times c (f x) ≡ 1 = rw q one in
+          rw (here, rest, eq-eqb a x (sym q)) (omega arith)
+      | no q ↦
+          let none : times c (f x) ≡ 0 = other x (has-here x l) q in
+          rw (none, rest, ne-eqb a x (λ e. q (sym e))) (omega arith)
+    ])
+
+-- a number that no member gives is not gathered
+pub times-gather-none : (f : ℕ → List ℕ) (c : ℕ) (l : List ℕ) → ((x : ℕ) → has x l ≡ true → times c (f x) ≡ 0) → times c (gather f l) ≡ 0
+unfolding gather countIn
+times-gather-none f c [] none = refl
+times-gather-none f c (x ∷ l) none =
+    countIn-append (λ y. eqb c y) (f x) (gather f l)
+    ∙ rw (none x (has-here x l), times-gather-none f c l (λ y h. none y (has-tail y x l h)))
+
+-- a test that exactly one number passes
+pub count-single : (p : ℕ → Bool) (n a : ℕ) → a < n → p a ≡ true → ((i : ℕ) → i < n → p i ≡ true → i ≡ a) → count p n ≡ 1
+count-single p n a h t only =
+    count-one p (λ i. false) a n h t refl (λ i l d. false-unless (p i) (λ e. d (only i l e)))
+    ∙ ap suc (count-none (λ i. false) n (λ i l. refl))

@@ -12,3 +12,14 @@ pub mod Has
 pub mod Mirrored
 pub mod Meets
 pub mod FaceCount
+pub mod Once
+pub mod Twice
+pub mod Edges
+pub mod Length
+pub mod Search
+pub mod Corner
+pub mod Present
+pub mod Meeting
+pub mod EdgeSteps
+pub mod Sides
+pub mod SidesFound

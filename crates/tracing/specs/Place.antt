@@ -24,7 +24,7 @@ trace R s = choose (ltb s steps) (step R s) s
 unfoldable pub flip : Rotation → ℕ → ℕ
 flip R s = choose (ltb s steps) (mirror R s) (rev s)
 
-abbrev either : Bool → Bool → Bool → Bool
+abbrev pub either : Bool → Bool → Bool → Bool
 either true a b = a
 either false a b = b
 
@@ -43,6 +43,9 @@ place s = elim (truth (ltb s steps)) [
 ]
 
 -- the two still places of a vertex
+pub rev-still : (s : ℕ) → steps ≤ s → steps ≤ rev s
+rev-still s h = omega arith
+
 pub rev-vertex : (s : ℕ) → steps ≤ s → (rev s - steps) / 2 ≡ (s - steps) / 2
 rev-vertex s h = elim (type? s) [
   | is-zero e ↦ let d : s ≡ 2 * (s / 2) = omega arith in omega arith
@@ -90,7 +93,7 @@ module _ (R : Rotation) (L : Lawful R) where
   pub flip-flip : (s : ℕ) → flip R (flip R s) ≡ s
   flip-flip s = elim (place s) [
     | is-step h ↦ rw (flip-step R s h) (flip-step R (mirror R s) (mirror-word R L s h) ∙ mirror-mirror R L s)
-    | is-still h ↦ rw (flip-still R s h) (flip-still R (rev s) (omega arith) ∙ omega arith)
+    | is-still h ↦ rw (flip-still R s h) (flip-still R (rev s) (rev-still s h) ∙ omega arith)
   ]
 
   pub flip-other : (s : ℕ) → flip R s ≢ s
@@ -115,7 +118,7 @@ module _ (R : Rotation) (L : Lawful R) where
         rw (trace-step R s h, flip-step R (step R s) a, trace-step R (mirror R (step R s)) b, flip-step R (step R (mirror R (step R s))) c)
         (step-turn R L s)
     | is-still h ↦
-        rw (trace-still R s h, flip-still R s h, trace-still R (rev s) (omega arith), flip-still R (rev s) (omega arith))
+        rw (trace-still R s h, flip-still R s h, trace-still R (rev s) (rev-still s h), flip-still R (rev s) (rev-still s h))
         (omega arith)
   ]
 
@@ -129,5 +132,5 @@ module _ (R : Rotation) (L : Lawful R) where
   on-flip s = elim (place s) [
     | is-step h ↦ rw (flip-step R s h, on-step R s h, on-step R (mirror R s) (mirror-word R L s h)) (mirror-live R L s)
     | is-still h ↦
-        rw (flip-still R s h, on-still R s h, on-still R (rev s) (omega arith)) (ap (R .alone) (rev-vertex s h))
+        rw (flip-still R s h, on-still R s h, on-still R (rev s) (rev-still s h)) (ap (R .alone) (rev-vertex s h))
   ]

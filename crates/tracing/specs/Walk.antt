@@ -54,7 +54,7 @@ module _ (f : ℕ → ℕ) (s : ℕ) where
   unfolding onward
   onward-more n i e = rw (ne-eqb (f i) s e)
 
-  onward-rest : (p : Period f s) (n k : ℕ) → k < p .steps → p .steps ≤ k + n → run f s k ++ onward f s n (iter f k s) ≡ run f s (p .steps)
+  pub onward-rest : (p : Period f s) (n k : ℕ) → k < p .steps → p .steps ≤ k + n → run f s k ++ onward f s n (iter f k s) ≡ run f s (p .steps)
   onward-rest p zero k h l = absurd (omega arith)
   onward-rest p (suc n) k h l = elim (ℕ-discrete (suc k) (p .steps)) [
     | yes e ↦

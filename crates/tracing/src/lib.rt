@@ -1,4 +1,6 @@
 // Tracing a good table: steps, walks, faces, the face count and the listing.
+pub mod corner;
 pub mod count;
 pub mod listing;
+pub mod meeting;
 pub mod step;

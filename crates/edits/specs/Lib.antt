@@ -1,0 +1,8 @@
+pub mod Held
+pub mod Splice
+pub mod Link
+pub mod Unlink
+pub mod Edge
+pub mod Deleted
+pub mod Inserted
+pub mod RoundTrip

@@ -14,3 +14,4 @@ pub mod Sits
 pub mod Alike
 pub mod Turn
 pub mod Vertex
+pub mod PartOf

@@ -1,0 +1,153 @@
+-- The places of a set of vertices that is closed under edges, such as a connected part: a part of the tracing. The same set of
+-- vertices is a part before an edit and after it, and it has the edge exactly if it has the edge's first vertex.
+--     vertexOf, partOf     the vertex of a place; the places that are there at these vertices
+--     Closed, part-of      closed under edges: then it is a part
+--     without-closed, without-parts     with an edge and without it
+--     inside-of, outside-of     the edge's steps are there, or none is
+--     part-alike           a rotation system with the same darts and vertices has the same places
+use mathlib.Core.Path.{_≡_, refl, sym, _∙_, ap, ap₂}
+use mathlib.Core.Bool.{Bool, true, false, _&&_, and-false}
+use Prim.Native.Nat.{ℕ, suc, _+_, _-_, _*_, _/_, _%_, _<_, _≤_}
+use native.Mathlib.Omega.{arith}
+use lib.Dec.{ltb}
+use borrow.Author.Tests.{lt-ltb, le-ltb}
+use Rattle.table.specs.Layout.{rev}
+use Rattle.table.specs.Rotation.{Rotation, Lawful, choose}
+use Rattle.orbits.specs.Truth.{truth, holds, fails, both-left}
+use Rattle.orbits.specs.Orbits.{On}
+use Rattle.tracing.specs.Step.{steps, Type?, type?, stepType, step-word, mirror-word}
+use Rattle.tracing.specs.Place.{places, trace, flip, on, place, is-step, is-still, trace-step, trace-still, flip-step, flip-still, on-step, on-still, on-trace, on-flip, rev-vertex}
+use Rattle.tracing.specs.Mirrored.{Part}
+use Rattle.surgery.specs.Spin.{spin, spin-from, step-type?, trace-spin, flip-spin, other-type}
+use Rattle.surgery.specs.Without.{Without, were, here-both}
+use Rattle.surgery.specs.Through.{near, far, parity-low}
+use Rattle.surgery.specs.Seat.{seat, halves, Seated, a-step, a-vertex, a-bare, seated}
+use Rattle.surgery.specs.SeatFollows.{seat-follows}
+use Rattle.surgery.specs.Past.{Parts, Inside, Outside, inside-whole}
+
+unfoldable pub vertexOf : Rotation → ℕ → ℕ
+vertexOf R s = choose (ltb s steps) (R .from (s / 2)) ((s - steps) / 2)
+
+unfoldable pub partOf : Rotation → (ℕ → Bool) → ℕ → Bool
+partOf R Q s = on R s && Q (vertexOf R s)
+
+pub record Closed (R : Rotation) (Q : ℕ → Bool) : Type 0 where
+  pub edges : (d : ℕ) → R .live d ≡ true → Q (R .from (rev d)) ≡ Q (R .from d)
+
+module _ (R : Rotation) where
+  pub vertex-step : (s : ℕ) → s < steps → vertexOf R s ≡ R .from (s / 2)
+  unfolding vertexOf
+  vertex-step s h = rw (lt-ltb s steps h)
+
+  pub vertex-still : (s : ℕ) → steps ≤ s → vertexOf R s ≡ (s - steps) / 2
+  unfolding vertexOf
+  vertex-still s h = rw (le-ltb s steps h)
+
+  module _ (Q : ℕ → Bool) where
+    pub part-on : (s : ℕ) → on R s ≡ true → partOf R Q s ≡ Q (vertexOf R s)
+    unfolding partOf
+    part-on s e = rw e
+
+    pub part-off : (s : ℕ) → on R s ≡ false → partOf R Q s ≡ false
+    unfolding partOf
+    part-off s e = rw e
+
+    pub part-within : (s : ℕ) → partOf R Q s ≡ true → on R s ≡ true
+    unfolding partOf
+    part-within s e = both-left (on R s) (Q (vertexOf R s)) e
+
+    -- two places that are there together, at vertices that the set has together
+    part-same : (s k : ℕ) → on R k ≡ on R s → (on R s ≡ true → Q (vertexOf R k) ≡ Q (vertexOf R s)) → partOf R Q k ≡ partOf R Q s
+    part-same s k same q = elim (truth (on R s)) [
+      | holds e ↦ part-on k (same ∙ e) ∙ q e ∙ sym (part-on s e)
+      | fails e ↦ part-off k (same ∙ e) ∙ sym (part-off s e)
+    ]
+
+module _ {R : Rotation} (L : Lawful R) {Q : ℕ → Bool} (C : Closed R Q) where
+  at-step : {t : ℕ} → Type? t → (s d : ℕ) → s < steps → s ≡ 2 * spin R t d + t → vertexOf R s ≡ R .from d
+  at-step {t} T s d h q = vertex-step R s h ∙ rw (q, halves (spin R t d) t T .0) (spin-from L T d)
+
+  pub part-of : Part R (partOf R Q)
+  part-of = record {
+    traced = λ s l. part-same R Q s (trace R s) (on-trace R L s) (λ e. traced s e);
+    flipped = λ s l. part-same R Q s (flip R s) (on-flip R L s) (λ e. ap Q (flipped s));
+    within = λ s l. part-within R Q s;
+  }
+    where
+      traced : (s : ℕ) → on R s ≡ true → Q (vertexOf R (trace R s)) ≡ Q (vertexOf R s)
+      traced s e = elim (place s) [
+        | is-step h ↦
+            let w : trace R s < steps = rw (trace-step R s h) (step-word R L s h) in
+            ap Q (at-step (step-type? R s) (trace R s) (rev (s / 2)) w (trace-spin R s h))
+            ∙ C .edges (s / 2) (rw (on-step R s h) at e) ∙ ap Q (sym (vertex-step R s h))
+        | is-still h ↦ rw (trace-still R s h)
+      ]
+
+      flipped : (s : ℕ) → vertexOf R (flip R s) ≡ vertexOf R s
+      flipped s = elim (place s) [
+        | is-step h ↦
+            let w : flip R s < steps = rw (flip-step R s h) (mirror-word R L s h) in
+            at-step (other-type (type? s)) (flip R s) (s / 2) w (flip-spin R s h) ∙ sym (vertex-step R s h)
+        | is-still h ↦ rw (flip-still R s h) (vertex-still R (rev s) (omega arith) ∙ rev-vertex s h ∙ sym (vertex-still R s h))
+      ]
+
+module _ {R R′ : Rotation} {e : ℕ} (L : Lawful R) (L′ : Lawful R′) (W : Without R e R′) {Q : ℕ → Bool} (C : Closed R Q) where
+  pub without-closed : Closed R′ Q
+  without-closed = record {
+    edges = λ d l.
+        rw (W .from (rev d) (L′ .live-rev d ∙ l), W .from d l) (C .edges d (were L L′ W d l));
+  }
+
+  -- a place and its seat are at one vertex
+  pub seat-vertexOf : (s : ℕ) → On places (on R′) s → vertexOf R (seat R e s) ≡ vertexOf R′ s
+  seat-vertexOf s o = by (seated L L′ W s o)
+    where
+      by : Seated R e R′ s → vertexOf R (seat R e s) ≡ vertexOf R′ s
+      by (a-step h l q) = rw q (vertex-step R s h ∙ sym (W .from (s / 2) l) ∙ sym (vertex-step R′ s h))
+      by (a-vertex h a q) = rw q (vertex-still R s h ∙ sym (vertex-still R′ s h))
+      by (a-bare h d x v a p q) =
+          let low = L .dart-low d (here-both L L′ W d x) in
+          let half = halves d (s % 2) (type? s) .0 in
+          rw q (vertex-step R (2 * d + s % 2) (omega arith) ∙ rw half v ∙ sym (vertex-still R′ s h))
+
+  pub without-parts : Parts R e R′ (partOf R Q) (partOf R′ Q)
+  without-parts = record {
+    before = part-of L C;
+    after = part-of L′ without-closed;
+    seats = λ s o.
+        part-on R′ Q s (o .on) ∙ ap Q (sym (seat-vertexOf s o)) ∙ sym (part-on R Q (seat R e s) (seat-follows L L′ W .lives s o .on));
+  }
+
+module _ {R : Rotation} (L : Lawful R) (e : ℕ) (live : R .live (2 * e) ≡ true) {Q : ℕ → Bool} (C : Closed R Q) where
+  at-near : partOf R Q (near e) ≡ Q (R .from (2 * e))
+  at-near =
+      let low = L .dart-low (2 * e) live in
+      let first : near e / 2 ≡ 2 * e = omega arith in
+      part-on R Q (near e) (inside-whole L live .near-in) ∙ ap Q (vertex-step R (near e) (omega arith) ∙ rw first)
+
+  at-far : partOf R Q (far R e) ≡ Q (R .from (2 * e))
+  at-far =
+      let low = L .dart-low (2 * e) live in
+      let bit = parity-low R e in
+      let second : far R e / 2 ≡ rev (2 * e) = omega arith in
+      part-on R Q (far R e) (inside-whole L live .far-in) ∙ ap Q (vertex-step R (far R e) (omega arith) ∙ rw second) ∙ C .edges (2 * e) live
+
+  pub inside-of : Q (R .from (2 * e)) ≡ true → Inside R e (partOf R Q)
+  inside-of q = record { near-in = at-near ∙ q; far-in = at-far ∙ q }
+
+  pub outside-of : Q (R .from (2 * e)) ≡ false → Outside R e (partOf R Q)
+  outside-of q = record { near-out = at-near ∙ q; far-out = at-far ∙ q }
+
+-- a rotation system that has the same darts, at the same vertices, has the same places at them
+pub part-alike : (R R₁ : Rotation) (Q : ℕ → Bool) (s : ℕ) → on R₁ s ≡ on R s → ((d : ℕ) → R .live d ≡ true → R₁ .from d ≡ R .from d)
+    → partOf R₁ Q s ≡ partOf R Q s
+part-alike R R₁ Q s same from = elim (truth (on R s)) [
+  | fails e ↦ part-off R₁ Q s (same ∙ e) ∙ sym (part-off R Q s e)
+  | holds e ↦ part-on R₁ Q s (same ∙ e) ∙ ap Q (vertex e) ∙ sym (part-on R Q s e)
+]
+  where
+    vertex : on R s ≡ true → vertexOf R₁ s ≡ vertexOf R s
+    vertex e = elim (place s) [
+      | is-step h ↦ rw (vertex-step R₁ s h, vertex-step R s h) (from (s / 2) (rw (on-step R s h) at e))
+      | is-still h ↦ rw (vertex-still R₁ s h, vertex-still R s h)
+    ]

@@ -15,3 +15,4 @@ pub mod Alike
 pub mod Turn
 pub mod Vertex
 pub mod PartOf
+pub mod Change

@@ -116,6 +116,13 @@ module _ {R : Rotation} {e : ℕ} (L : Lawful R) (live : R .live (2 * e) ≡ tru
         (exchanged-keeps E (near-low R L e live) (far-low R L e live) X P (K .traced) (K .flipped) (level .both-sides)) (K .flipped)
         (λ s o. K .within s (o .lt) (o .on))
 
+pub whole-parts : {R R′ : Rotation} {e : ℕ} → Lawful R → Lawful R′ → Without R e R′ → Parts R e R′ (on R) (on R′)
+whole-parts {R} {R′} L L′ W = record {
+  before = whole R L;
+  after = whole R′ L′;
+  seats = λ s o. o .on ∙ sym (seat-follows L L′ W .lives s o .on);
+}
+
 module _ {R R′ : Rotation} {e : ℕ} (L : Lawful R) (L′ : Lawful R′) (W : Without R e R′) {P P′ : ℕ → Bool} (K : Parts R e R′ P P′) where
   pub past-follows : World places (through R e) P → Follows places places (trace R′) (through R e) P′ P (taken R e R′) (seat R e)
   past-follows U =

@@ -13,12 +13,13 @@ use borrow.Author.Tests.{eq-eqb, ne-eqb}
 use Rattle.orbits.specs.Truth.{clash, both, both-left, both-right, same-truth}
 use Rattle.table.specs.Layout.{vertices, edges, darts, words, nothing, isolated, nextWord, leaves, edgeWord, vertexWord, edgeOf}
 use Rattle.table.specs.Good.{Good}
-use Rattle.table.specs.Rotation.{choose, rotation, live?, nextDart, turnsOf, there?, live-yes, yes-live, not-live, there-yes, there-word}
+use Rattle.table.specs.Rotation.{choose, rotation, live?, nextDart, turnsOf, there?, live-yes, yes-live, not-live, there-yes, there-word, alone-yes}
 use Rattle.table.specs.Writes.{setEdge, upd-at, upd-off, edge-edge, leaves-edge, vertex-edge}
 use Rattle.tracing.specs.Listing.{loneAt}
-use Rattle.surgery.specs.Bypass.{bypass}
+use Rattle.surgery.specs.Bypass.{bypass, bypass-into, bypass-off}
+use Rattle.surgery.specs.Sits.{Sits, just-before, before-other, at-vertex, Inserted}
 use Rattle.surgery.specs.Without.{Without, apart, apart-own, apart-other}
-use Rattle.edits.specs.Held.{Held, good-held, held-good, nextIn, held-same}
+use Rattle.edits.specs.Held.{Held, good-held, held-good, nextIn, next-in}
 use Rattle.edits.specs.Link.{plus, plus-new, plus-old, Plus, new, old, plus-case, Grown}
 use Rattle.edits.specs.Edge.{link, firstCorner, inserted, deleted, Corner, at-dart, at-lone, link-grown, link-before, link-alone, still-isolated, edge-held, edge-next, next-of}
 
@@ -170,3 +171,102 @@ module _ (t : List ℕ) (g : Good t) (e c₁ c₂ w : ℕ) (h : e < edges) (off 
       by : (d : ℕ) → More d → apart e d ≡ true → live? t d ≡ true
       by d (ours q l) a = absurd (clash a (apart-own e d q))
       by d (theirs n l) a = l
+
+  -- where e's darts stand
+
+  result-next : (d : ℕ) → nextDart result d ≡ nextIn full more d
+  result-next d = next-of result d ∙ ap (λ L. nextIn result L d) (sym same-live) ∙ edge-next full more (first .held) e w h d
+
+  result-from : (d : ℕ) → d < darts → leaves result d ≡ leaves full d
+  result-from d l = leaves-edge full e w d l
+
+  second-seat : live? t c₂ ≡ true → (leaves half (2 * e + 1) ≡ leaves t c₂) × (nextWord half (2 * e + 1) ≡ c₂)
+  second-seat o = link-before t (live? t) H (2 * e + 1) c₂ (free (2 * e + 1) (omega arith)) (omega arith) o
+
+  second-alone : (v : ℕ) → c₂ ≡ loneAt + v → v < vertices → vertexWord t v ≡ isolated → leaves half (2 * e + 1) ≡ v
+  second-alone v q l i =
+      ap (λ c. leaves (link t (2 * e + 1) c) (2 * e + 1)) q ∙ link-alone t (live? t) H (2 * e + 1) v (free (2 * e + 1) (omega arith)) (omega arith) l i .0
+
+  first-more : more (2 * e) ≡ true
+  first-more = plus-new (plus (live? t) (2 * e + 1)) (2 * e)
+
+  -- dart 2e leads to the corner's dart, or to itself
+  data Leads : Type 0 where
+    on-to : nextIn full more (2 * e) ≡ firstCorner e c₁ c₂ → leaves full (2 * e) ≡ leaves half (firstCorner e c₁ c₂) → plus (live? t) (2 * e + 1) (firstCorner e c₁ c₂) ≡ true → Leads
+    to-itself : (v : ℕ) → nextIn full more (2 * e) ≡ 2 * e → leaves full (2 * e) ≡ v → firstCorner e c₁ c₂ ≡ loneAt + v → Leads
+
+  first-leads : Leads
+  first-leads = by corner
+    where
+      by : Corner half (plus (live? t) (2 * e + 1)) (firstCorner e c₁ c₂) → Leads
+      by (at-dart o) =
+          let s = link-before half (plus (live? t) (2 * e + 1)) (second .held) (2 * e) (firstCorner e c₁ c₂) first-free (omega arith) o in
+          on-to (next-in full more (2 * e) first-more ∙ s .1) (s .0) o
+      by (at-lone v q l i) =
+          let s = link-alone half (plus (live? t) (2 * e + 1)) (second .held) (2 * e) v first-free (omega arith) l i in
+          to-itself v
+          (next-in full more (2 * e) first-more ∙ ap (λ c. nextWord (link half (2 * e) c) (2 * e)) q ∙ s .1)
+          (ap (λ c. leaves (link half (2 * e) c) (2 * e)) q ∙ s .0)
+          q
+
+  -- and 2e+1 still leads to its own corner's dart
+  second-next : live? t c₂ ≡ true → nextIn full more (2 * e + 1) ≡ c₂
+  second-next o = elim (ℕ-discrete (nextIn full more (2 * e + 1)) (2 * e)) [
+      | yes q ↦ absurd (never (sym led ∙ first .next (2 * e + 1) ∙ bypass-into (nextIn full more) (2 * e) (2 * e + 1) (omega arith) q) first-leads)
+      | no n ↦ sym (bypass-off (nextIn full more) (2 * e) (2 * e + 1) (omega arith) n) ∙ sym (first .next (2 * e + 1)) ∙ led ]
+    where
+      led : nextIn half (plus (live? t) (2 * e + 1)) (2 * e + 1) ≡ c₂
+      led = next-in half (plus (live? t) (2 * e + 1)) (2 * e + 1) (plus-new (live? t) (2 * e + 1)) ∙ second-seat o .1
+      never : c₂ ≡ nextIn full more (2 * e) → Leads → ⊥
+      never s (on-to n _ _) = elim (ℕ-discrete c₁ c₂) [
+        | yes q ↦ clash (rw (s ∙ n ∙ ap (λ b. choose b (2 * e + 1) c₁) (eq-eqb c₁ c₂ q)) at o) (free (2 * e + 1) (omega arith))
+        | no m ↦ m (sym (s ∙ n ∙ ap (λ b. choose b (2 * e + 1) c₁) (ne-eqb c₁ c₂ m))) ]
+      never s (to-itself v n _ _) = clash (rw (s ∙ n) at o) (free (2 * e) (omega arith))
+
+  first-sits : Sits (rotation result) e (rotation t) (2 * e) c₁
+  first-sits = elim (ℕ-discrete c₁ c₂) [
+      | yes q ↦ together q C₂
+      | no n ↦ apart-from n C₁ ]
+    where
+      -- one corner for both
+      own-corner : c₁ ≡ c₂ → firstCorner e c₁ c₂ ≡ 2 * e + 1
+      own-corner q = ap (λ b. choose b (2 * e + 1) c₁) (eq-eqb c₁ c₂ q)
+      near : c₁ ≡ c₂ → (nextIn full more (2 * e) ≡ 2 * e + 1) × (leaves full (2 * e) ≡ leaves half (2 * e + 1))
+      near q = by first-leads
+        where
+          by : Leads → (nextIn full more (2 * e) ≡ 2 * e + 1) × (leaves full (2 * e) ≡ leaves half (2 * e + 1))
+          by (on-to n f _) = (n ∙ own-corner q, f ∙ ap (leaves half) (own-corner q))
+          by (to-itself v _ _ z) = let y = sym (own-corner q) ∙ z in absurd (omega (arith, y))
+      together : c₁ ≡ c₂ → Corner t (live? t) c₂ → Sits (rotation result) e (rotation t) (2 * e) c₁
+      together q (at-dart o) =
+          let n = result-next (2 * e) ∙ near q .0 in
+          before-other (rw q o) (rw n (omega arith)) (rw n (result-next (2 * e + 1) ∙ second-next o ∙ sym q))
+      together q (at-lone v s l i) =
+          at-vertex v (q ∙ s) (alone-yes t v l i) (result-from (2 * e) (omega arith) ∙ near q .1 ∙ second-alone v s l i)
+      apart-from : c₁ ≢ c₂ → Corner t (live? t) c₁ → Sits (rotation result) e (rotation t) (2 * e) c₁
+      apart-from n k = by first-leads k
+        where
+          same : firstCorner e c₁ c₂ ≡ c₁
+          same = ap (λ b. choose b (2 * e + 1) c₁) (ne-eqb c₁ c₂ n)
+          by : Leads → Corner t (live? t) c₁ → Sits (rotation result) e (rotation t) (2 * e) c₁
+          by (on-to m f p) (at-dart o) = just-before o (result-next (2 * e) ∙ m ∙ same)
+          by (on-to m f p) (at-lone v q l i) =
+              let low = second .held .low (firstCorner e c₁ c₂) p in
+              let y = same ∙ q in
+              absurd (omega (arith, y))
+          by (to-itself v m f z) (at-dart o) = let low = H .low c₁ o in let y = sym same ∙ z in absurd (omega (arith, y))
+          by (to-itself v m f z) (at-lone x q l i) =
+              let y : v ≡ x = let s = sym z ∙ same ∙ q in omega (arith, s) in
+              at-vertex x q (alone-yes t x l i) (result-from (2 * e) (omega arith) ∙ f ∙ y)
+
+  second-sits : Sits (rotation result) e (rotation t) (2 * e + 1) c₂
+  second-sits = by C₂
+    where
+      by : Corner t (live? t) c₂ → Sits (rotation result) e (rotation t) (2 * e + 1) c₂
+      by (at-dart o) = just-before o (result-next (2 * e + 1) ∙ second-next o)
+      by (at-lone v q l i) =
+          at-vertex v q (alone-yes t v l i)
+          (result-from (2 * e + 1) (omega arith) ∙ first .from (2 * e + 1) (omega arith) (omega arith) ∙ second-alone v q l i)
+
+  pub inserted-sits : Inserted (rotation result) e (rotation t) c₁ c₂
+  inserted-sits = record { first = first-sits; second = second-sits }

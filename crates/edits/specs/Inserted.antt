@@ -212,42 +212,50 @@ module _ (t : List ℕ) (g : Good t) (e c₁ c₂ w : ℕ) (h : e < edges) (off 
   -- and 2e+1 still leads to its own corner's dart
   second-next : live? t c₂ ≡ true → nextIn full more (2 * e + 1) ≡ c₂
   second-next o = elim (ℕ-discrete (nextIn full more (2 * e + 1)) (2 * e)) [
-      | yes q ↦ absurd (never (sym led ∙ first .next (2 * e + 1) ∙ bypass-into (nextIn full more) (2 * e) (2 * e + 1) (omega arith) q) first-leads)
-      | no n ↦ sym (bypass-off (nextIn full more) (2 * e) (2 * e + 1) (omega arith) n) ∙ sym (first .next (2 * e + 1)) ∙ led ]
+    | yes q ↦ absurd (never (sym led ∙ first .next (2 * e + 1) ∙ bypass-into (nextIn full more) (2 * e) (2 * e + 1) (omega arith) q) first-leads)
+    | no n ↦ sym (bypass-off (nextIn full more) (2 * e) (2 * e + 1) (omega arith) n) ∙ sym (first .next (2 * e + 1)) ∙ led
+  ]
     where
       led : nextIn half (plus (live? t) (2 * e + 1)) (2 * e + 1) ≡ c₂
       led = next-in half (plus (live? t) (2 * e + 1)) (2 * e + 1) (plus-new (live? t) (2 * e + 1)) ∙ second-seat o .1
+
       never : c₂ ≡ nextIn full more (2 * e) → Leads → ⊥
       never s (on-to n _ _) = elim (ℕ-discrete c₁ c₂) [
         | yes q ↦ clash (rw (s ∙ n ∙ ap (λ b. choose b (2 * e + 1) c₁) (eq-eqb c₁ c₂ q)) at o) (free (2 * e + 1) (omega arith))
-        | no m ↦ m (sym (s ∙ n ∙ ap (λ b. choose b (2 * e + 1) c₁) (ne-eqb c₁ c₂ m))) ]
+        | no m ↦ m (sym (s ∙ n ∙ ap (λ b. choose b (2 * e + 1) c₁) (ne-eqb c₁ c₂ m)))
+      ]
       never s (to-itself v n _ _) = clash (rw (s ∙ n) at o) (free (2 * e) (omega arith))
 
   first-sits : Sits (rotation result) e (rotation t) (2 * e) c₁
   first-sits = elim (ℕ-discrete c₁ c₂) [
-      | yes q ↦ together q C₂
-      | no n ↦ apart-from n C₁ ]
+    | yes q ↦ together q C₂
+    | no n ↦ apart-from n C₁
+  ]
     where
       -- one corner for both
       own-corner : c₁ ≡ c₂ → firstCorner e c₁ c₂ ≡ 2 * e + 1
       own-corner q = ap (λ b. choose b (2 * e + 1) c₁) (eq-eqb c₁ c₂ q)
+
       near : c₁ ≡ c₂ → (nextIn full more (2 * e) ≡ 2 * e + 1) × (leaves full (2 * e) ≡ leaves half (2 * e + 1))
       near q = by first-leads
         where
           by : Leads → (nextIn full more (2 * e) ≡ 2 * e + 1) × (leaves full (2 * e) ≡ leaves half (2 * e + 1))
           by (on-to n f _) = (n ∙ own-corner q, f ∙ ap (leaves half) (own-corner q))
           by (to-itself v _ _ z) = let y = sym (own-corner q) ∙ z in absurd (omega (arith, y))
+
       together : c₁ ≡ c₂ → Corner t (live? t) c₂ → Sits (rotation result) e (rotation t) (2 * e) c₁
       together q (at-dart o) =
           let n = result-next (2 * e) ∙ near q .0 in
           before-other (rw q o) (rw n (omega arith)) (rw n (result-next (2 * e + 1) ∙ second-next o ∙ sym q))
       together q (at-lone v s l i) =
           at-vertex v (q ∙ s) (alone-yes t v l i) (result-from (2 * e) (omega arith) ∙ near q .1 ∙ second-alone v s l i)
+
       apart-from : c₁ ≢ c₂ → Corner t (live? t) c₁ → Sits (rotation result) e (rotation t) (2 * e) c₁
       apart-from n k = by first-leads k
         where
           same : firstCorner e c₁ c₂ ≡ c₁
           same = ap (λ b. choose b (2 * e + 1) c₁) (ne-eqb c₁ c₂ n)
+
           by : Leads → Corner t (live? t) c₁ → Sits (rotation result) e (rotation t) (2 * e) c₁
           by (on-to m f p) (at-dart o) = just-before o (result-next (2 * e) ∙ m ∙ same)
           by (on-to m f p) (at-lone v q l i) =

@@ -2,7 +2,7 @@
 -- tracing wherever the turns of the edge have the same parity.
 --     Alike                the same order;     alike-around, alike-flip, alike-trace    and what follows
 use mathlib.Core.Path.{_≡_, sym, _∙_, ap, fun-ext}
-use Prim.Native.Nat.{ℕ, _+_, _-_, _/_, _%_}
+use Prim.Native.Nat.{ℕ, _+_, _/_, _%_}
 use native.Mathlib.Omega.{arith}
 use Rattle.table.specs.Layout.{rev}
 use Rattle.table.specs.Rotation.{Rotation, Lawful}

@@ -3,11 +3,10 @@
 --     deletion, turning, insertion     the document's table of changes
 --     delete-change, turn-change, insert-change     they hold in every part that has the edge
 --     delete-count, turn-count, insert-count, add-count     they hold of the face count
-use mathlib.Core.Path.{_≡_, refl, sym, _∙_, ap}
-use mathlib.Core.Bool.{Bool, true, false}
-use Prim.Native.Nat.{ℕ, zero, suc, _+_, _-_, _*_, _/_, _%_, _<_, _≤_}
+use mathlib.Core.Path.{_≡_, refl, _∙_}
+use mathlib.Core.Bool.{Bool}
+use Prim.Native.Nat.{ℕ, zero, suc, _+_, _-_, _*_, _/_, _<_}
 use native.Mathlib.Omega.{arith}
-use Rattle.table.specs.Layout.{darts, vertices}
 use Rattle.table.specs.Rotation.{Rotation, Lawful}
 use Rattle.orbits.specs.Reach.{Reach}
 use Rattle.orbits.specs.Orbits.{On, reach-live}
@@ -16,19 +15,19 @@ use Rattle.tracing.specs.declared.meeting.Sides.{Sides}
 use Rattle.tracing.specs.declared.meeting.Sides.the-variants.{TwoFaces, BothDarts, SameDart}
 use Rattle.tracing.specs.declared.meeting.Meeting.{Meeting}
 use Rattle.tracing.specs.declared.meeting.Meeting.the-variants.{Apart, SameType, OtherType}
-use Rattle.tracing.specs.Step.{Type?, is-zero, is-one}
-use Rattle.tracing.specs.Place.{places, trace, flip, on, flip-flip, on-still}
-use Rattle.tracing.specs.Listing.{faceCount, loneCorner}
+use Rattle.tracing.specs.Step.{is-zero, is-one}
+use Rattle.tracing.specs.Place.{places, flip, on, flip-flip, on-still}
+use Rattle.tracing.specs.Listing.{faceCount}
 use Rattle.tracing.specs.Mirrored.{Part, whole}
 use Rattle.tracing.specs.FaceCount.{placeOf, face-count}
-use Rattle.tracing.specs.Sides.{sidesOf, SidesCase, both-darts, same-dart, two-faces, sides-case}
-use Rattle.tracing.specs.Corner.{Present, at-dart, at-lone, meetingOf, MeetingCase, same, opposite, apart, meeting-case}
+use Rattle.tracing.specs.Sides.{sidesOf, both-darts, same-dart, two-faces, sides-case}
+use Rattle.tracing.specs.Corner.{Present, at-dart, at-lone, meetingOf, same, opposite, apart, meeting-case}
 use Rattle.surgery.specs.Without.{Without}
-use Rattle.surgery.specs.Through.{parity, parity-type, near, far, near-low, through}
+use Rattle.surgery.specs.Through.{parity, parity-type, near, near-low, through}
 use Rattle.surgery.specs.Seat.{seat}
 use Rattle.surgery.specs.Past.{facesOf, Parts, whole-parts, Inside, inside-whole, level-in, own-level, through-mirror}
 use Rattle.surgery.specs.Delete.{delete-less, delete-more, delete-same}
-use Rattle.surgery.specs.Insert.{bend, bend-zero, bend-one, Enters, insert-less, insert-more, insert-same}
+use Rattle.surgery.specs.Insert.{bend-zero, bend-one, Enters, insert-less, insert-more, insert-same}
 use Rattle.surgery.specs.Sits.{Sits, just-before, before-other, at-vertex, Inserted, sits-on, enters}
 use Rattle.surgery.specs.Turn.{Turned, turned-on, turn-even, turn-less, turn-more, turn-same}
 use Rattle.surgery.specs.Alike.{alike-flip}

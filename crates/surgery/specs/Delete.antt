@@ -2,11 +2,9 @@
 -- passes by both darts: one face more. The far side on the mirror of that walk: as many faces.
 --     delete-less, delete-more, delete-same     in a part that has the edge
 --     delete-elsewhere     in any other part as many
-use mathlib.Core.Path.{_≡_, refl, sym, _∙_, ap}
-use mathlib.Core.Logic.{_≢_}
-use mathlib.Core.Bool.{Bool, true, false}
-use Prim.Native.Nat.{ℕ, suc, _+_, _-_, _*_, _/_, _%_, _<_, _≤_}
-use native.Mathlib.Omega.{arith}
+use mathlib.Core.Path.{_≡_, _∙_}
+use mathlib.Core.Bool.{Bool}
+use Prim.Native.Nat.{ℕ, suc}
 use Rattle.table.specs.Rotation.{Rotation, Lawful}
 use Rattle.orbits.specs.Reach.{Reach}
 use Rattle.orbits.specs.Faces.{Face, along, mirrored, faces}
@@ -14,7 +12,7 @@ use Rattle.orbits.specs.Follow.{faces-agree}
 use Rattle.orbits.specs.Truth.{clash}
 use Rattle.orbits.specs.FaceExchange.{faces-less, faces-more, faces-same}
 use Rattle.tracing.specs.Place.{places, trace, flip, on}
-use Rattle.tracing.specs.Mirrored.{Part, mirrored as tracing-mirror}
+use Rattle.tracing.specs.Mirrored.{mirrored as tracing-mirror}
 use Rattle.surgery.specs.Without.{Without}
 use Rattle.surgery.specs.Exchanged.{exchanged-is}
 use Rattle.surgery.specs.Through.{near, far, through, through-other, through-exchanged, near-far}

@@ -4,24 +4,24 @@
 --     bend                 a place, or its mirror
 --     Enters               where the edge's steps go on to
 --     insert-less, insert-more, insert-same     in a part that has them
-use mathlib.Core.Path.{_≡_, refl, sym, _∙_, ap}
-use mathlib.Core.Logic.{_≢_, _↔_}
-use mathlib.Core.Bool.{Bool, true, false}
-use Prim.Native.Nat.{ℕ, suc, _+_, _-_, _*_, _/_, _%_, _<_, _≤_}
+use mathlib.Core.Path.{_≡_, refl, sym, _∙_}
+use mathlib.Core.Logic.{_↔_}
+use mathlib.Core.Bool.{Bool}
+use Prim.Native.Nat.{ℕ, suc, _+_, _-_, _*_, _/_, _%_, _<_}
 use native.Mathlib.Omega.{arith}
 use lib.Dec.{eqb}
 use borrow.Author.Tests.{eq-eqb, ne-eqb}
 use Rattle.table.specs.Rotation.{Rotation, Lawful, choose}
 use Rattle.orbits.specs.Iterate.{Inj}
-use Rattle.orbits.specs.Reach.{Reach, reach-here, reach-one, reach-trans, reach-sym, reach-low}
-use Rattle.orbits.specs.Orbits.{On, World}
+use Rattle.orbits.specs.Reach.{Reach, reach-one, reach-trans, reach-sym}
+use Rattle.orbits.specs.Orbits.{On}
 use Rattle.orbits.specs.Mirror.{Mirror, mirror-world, mirror-reach, mirror-on}
 use Rattle.orbits.specs.MirrorExchange.{exch2}
-use Rattle.orbits.specs.Faces.{Face, along, mirrored, faces}
+use Rattle.orbits.specs.Faces.{Face, along, mirrored}
 use Rattle.orbits.specs.FaceExchange.{faces-less, faces-more, faces-same}
-use Rattle.tracing.specs.Step.{steps, Type?, is-zero, is-one}
+use Rattle.tracing.specs.Step.{steps, is-zero, is-one}
 use Rattle.tracing.specs.Place.{places, trace, flip, on, flip-flip, flip-low}
-use Rattle.tracing.specs.Mirrored.{Part, mirrored as tracing-mirror}
+use Rattle.tracing.specs.Mirrored.{mirrored as tracing-mirror}
 use Rattle.surgery.specs.Spin.{flip-spin}
 use Rattle.surgery.specs.Without.{Without}
 use Rattle.surgery.specs.Exchanged.{exchanged-is, exchanged-back}

@@ -3,11 +3,12 @@
 --     vertexOf, partOf     the vertex of a place; the places that are there at these vertices
 --     Closed, part-of      closed under edges: then it is a part
 --     without-closed, without-parts     with an edge and without it
---     inside-of, outside-of     the edge's steps are there, or none is
---     part-alike           a rotation system with the same darts and vertices has the same places
-use mathlib.Core.Path.{_≡_, refl, sym, _∙_, ap, ap₂}
-use mathlib.Core.Bool.{Bool, true, false, _&&_, and-false}
-use Prim.Native.Nat.{ℕ, suc, _+_, _-_, _*_, _/_, _%_, _<_, _≤_}
+--     inside-of, outside-of     the edge's steps are in it, or none is
+--     turned-part          an edge turned: the same places
+--     added-closed, added-parts, added-in     a vertex added
+use mathlib.Core.Path.{_≡_, sym, _∙_, ap, fun-ext}
+use mathlib.Core.Bool.{Bool, true, false, _&&_}
+use Prim.Native.Nat.{ℕ, _+_, _-_, _*_, _/_, _%_, _<_, _≤_}
 use native.Mathlib.Omega.{arith}
 use lib.Dec.{ltb}
 use borrow.Author.Tests.{lt-ltb, le-ltb}
@@ -15,7 +16,7 @@ use Rattle.table.specs.Layout.{rev}
 use Rattle.table.specs.Rotation.{Rotation, Lawful, choose}
 use Rattle.orbits.specs.Truth.{truth, holds, fails, both-left}
 use Rattle.orbits.specs.Orbits.{On}
-use Rattle.tracing.specs.Step.{steps, Type?, type?, stepType, step-word, mirror-word}
+use Rattle.tracing.specs.Step.{steps, Type?, type?, step-word, mirror-word}
 use Rattle.tracing.specs.Place.{places, trace, flip, on, place, is-step, is-still, trace-step, trace-still, flip-step, flip-still, on-step, on-still, on-trace, on-flip, rev-vertex}
 use Rattle.tracing.specs.Mirrored.{Part}
 use Rattle.surgery.specs.Spin.{spin, spin-from, step-type?, trace-spin, flip-spin, other-type}
@@ -23,6 +24,8 @@ use Rattle.surgery.specs.Without.{Without, were, here-both}
 use Rattle.surgery.specs.Through.{near, far, parity-low}
 use Rattle.surgery.specs.Seat.{seat, halves, Seated, a-step, a-vertex, a-bare, seated}
 use Rattle.surgery.specs.SeatFollows.{seat-follows}
+use Rattle.surgery.specs.Turn.{Turned, turned-on}
+use Rattle.surgery.specs.Vertex.{Added, VertexParts, vertex-whole, stillAt}
 use Rattle.surgery.specs.Past.{Parts, Inside, Outside, inside-whole}
 
 unfoldable pub vertexOf : Rotation → ℕ → ℕ
@@ -138,16 +141,42 @@ module _ {R : Rotation} (L : Lawful R) (e : ℕ) (live : R .live (2 * e) ≡ tru
   pub outside-of : Q (R .from (2 * e)) ≡ false → Outside R e (partOf R Q)
   outside-of q = record { near-out = at-near ∙ q; far-out = at-far ∙ q }
 
--- a rotation system that has the same darts, at the same vertices, has the same places at them
-pub part-alike : (R R₁ : Rotation) (Q : ℕ → Bool) (s : ℕ) → on R₁ s ≡ on R s → ((d : ℕ) → R .live d ≡ true → R₁ .from d ≡ R .from d)
-    → partOf R₁ Q s ≡ partOf R Q s
-part-alike R R₁ Q s same from = elim (truth (on R s)) [
-  | fails e ↦ part-off R₁ Q s (same ∙ e) ∙ sym (part-off R Q s e)
-  | holds e ↦ part-on R₁ Q s (same ∙ e) ∙ ap Q (vertex e) ∙ sym (part-on R Q s e)
+-- the vertex of a place does not change where the darts keep theirs
+vertex-alike : (R R₁ : Rotation) → ((d : ℕ) → R .live d ≡ true → R₁ .from d ≡ R .from d) → (s : ℕ) → on R s ≡ true → vertexOf R₁ s ≡ vertexOf R s
+vertex-alike R R₁ from s e = elim (place s) [
+  | is-step h ↦ rw (vertex-step R₁ s h, vertex-step R s h) (from (s / 2) (rw (on-step R s h) at e))
+  | is-still h ↦ rw (vertex-still R₁ s h, vertex-still R s h)
 ]
-  where
-    vertex : on R s ≡ true → vertexOf R₁ s ≡ vertexOf R s
-    vertex e = elim (place s) [
-      | is-step h ↦ rw (vertex-step R₁ s h, vertex-step R s h) (from (s / 2) (rw (on-step R s h) at e))
-      | is-still h ↦ rw (vertex-still R₁ s h, vertex-still R s h)
-    ]
+
+part-alike : (R R₁ : Rotation) → ((d : ℕ) → R .live d ≡ true → R₁ .from d ≡ R .from d) → (Q : ℕ → Bool) (s : ℕ) → on R₁ s ≡ on R s
+    → partOf R₁ Q s ≡ partOf R Q s
+part-alike R R₁ from Q s same = elim (truth (on R s)) [
+  | fails e ↦ part-off R₁ Q s (same ∙ e) ∙ sym (part-off R Q s e)
+  | holds e ↦ part-on R₁ Q s (same ∙ e) ∙ ap Q (vertex-alike R R₁ from s e) ∙ sym (part-on R Q s e)
+]
+
+pub turned-part : {R R₁ : Rotation} {e : ℕ} → Lawful R → Lawful R₁ → Turned R e R₁ → ((d : ℕ) → R .live d ≡ true → R₁ .from d ≡ R .from d)
+    → (Q : ℕ → Bool) → partOf R₁ Q ≡ partOf R Q
+turned-part {R} {R₁} L L₁ W from Q = fun-ext (λ s. part-alike R R₁ from Q s (ap (λ f. f s) (turned-on L L₁ W)))
+
+module _ {R R₁ : Rotation} {v : ℕ} (L : Lawful R) (L₁ : Lawful R₁) (A : Added R v R₁) (from : (d : ℕ) → R .live d ≡ true → R₁ .from d ≡ R .from d)
+    {Q : ℕ → Bool} (C : Closed R Q) where
+  pub added-closed : Closed R₁ Q
+  added-closed = record {
+    edges = λ d l.
+        let was : R .live d ≡ true = sym (A .live d) ∙ l in
+        rw (from (rev d) (L .live-rev d ∙ was), from d was) (C .edges d was);
+  }
+
+  pub added-parts : VertexParts R v R₁ (partOf R Q) (partOf R₁ Q)
+  added-parts = record {
+    before = part-of L C;
+    after = part-of L₁ added-closed;
+    others = λ s l p q. part-alike R R₁ from Q s (vertex-whole L L₁ A .others s l p q);
+  }
+
+  -- the vertex is in the part exactly if the set has it
+  pub added-in : partOf R₁ Q (stillAt v) ≡ Q v
+  added-in =
+      let same : (stillAt v - steps) / 2 ≡ v = omega arith in
+      part-on R₁ Q (stillAt v) (on-still R₁ (stillAt v) (omega arith) ∙ rw same (A .now)) ∙ ap Q (vertex-still R₁ (stillAt v) (omega arith) ∙ same)

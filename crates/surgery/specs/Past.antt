@@ -4,11 +4,10 @@
 --     Inside, Outside, Level     the edge's steps are in the part; none is; one of the two
 --     through-mirror       tracing past the edge has the same mirror
 --     past-faces           it has as many faces as tracing without the edge;     past-reach    and the same orbits
-use mathlib.Core.Path.{_≡_, refl, sym, _∙_, ap}
+use mathlib.Core.Path.{_≡_, sym, _∙_, ap}
 use mathlib.Core.Logic.{_↔_}
 use mathlib.Core.Bool.{Bool, true, false}
-use Prim.Native.Nat.{ℕ, suc, _+_, _-_, _*_, _/_, _%_, _<_, _≤_}
-use native.Mathlib.Decide.{ℕ-discrete}
+use Prim.Native.Nat.{ℕ, _+_, _-_, _*_, _/_, _<_}
 use native.Mathlib.Omega.{arith}
 use Rattle.table.specs.Layout.{edgeOf, rev}
 use Rattle.table.specs.Rotation.{Rotation, Lawful}
@@ -16,10 +15,9 @@ use Rattle.orbits.specs.Swap.{place, at-left, at-right, off}
 use Rattle.orbits.specs.Reach.{Reach}
 use Rattle.orbits.specs.Orbits.{World, On, reach-live}
 use Rattle.orbits.specs.Mirror.{Mirror, mirror-world, mirror-part}
-use Rattle.orbits.specs.MirrorExchange.{exch2, exch2-mirror}
+use Rattle.orbits.specs.MirrorExchange.{exch2-mirror}
 use Rattle.orbits.specs.Faces.{faces}
 use Rattle.orbits.specs.Follow.{Follows, faces-follow, reach-follow}
-use Rattle.tracing.specs.Step.{steps}
 use Rattle.tracing.specs.Place.{places, trace, flip, on, trace-low, on-step}
 use Rattle.tracing.specs.Mirrored.{Part, whole, mirrored}
 use Rattle.surgery.specs.Without.{Without}

@@ -2,23 +2,23 @@
 -- the two corners are the same; at an isolated vertex's corner, alone at that vertex.
 --     Sits, Inserted       a dart at its corner; both darts at theirs
 --     sits-on, enters      past the edge, each dart goes on to the place of its corner
-use mathlib.Core.Path.{_≡_, refl, sym, _∙_, ap}
-use mathlib.Core.Bool.{Bool, true, false}
-use Prim.Native.Nat.{ℕ, suc, _+_, _-_, _*_, _/_, _%_, _<_, _≤_}
+use mathlib.Core.Path.{_≡_, refl, _∙_}
+use mathlib.Core.Bool.{true, false}
+use Prim.Native.Nat.{ℕ, _+_, _-_, _*_, _/_, _%_, _<_}
 use native.Mathlib.Omega.{arith}
-use Rattle.table.specs.Layout.{edgeOf, vertices, darts}
+use Rattle.table.specs.Layout.{edgeOf, darts}
 use Rattle.table.specs.Rotation.{Rotation, Lawful}
 use Rattle.orbits.specs.Truth.{false-unless}
-use Rattle.orbits.specs.Reach.{Reach, reach-here, reach-one, reach-trans}
+use Rattle.orbits.specs.Reach.{Reach, reach-one, reach-trans}
 use Rattle.orbits.specs.Orbits.{On}
-use Rattle.tracing.specs.Step.{steps, Type?, is-zero}
+use Rattle.tracing.specs.Step.{steps, is-zero}
 use Rattle.tracing.specs.Place.{places, on, on-step, on-still}
-use Rattle.tracing.specs.Listing.{loneAt, loneCorner}
+use Rattle.tracing.specs.Listing.{loneCorner}
 use Rattle.tracing.specs.FaceCount.{placeOf, place-dart, place-lone}
 use Rattle.surgery.specs.Spin.{spin, spin-next}
 use Rattle.surgery.specs.Without.{Without, here-both}
-use Rattle.surgery.specs.Through.{near, through}
-use Rattle.surgery.specs.Seat.{dartAt, seat, seat-step, seat-bare, past}
+use Rattle.surgery.specs.Through.{through}
+use Rattle.surgery.specs.Seat.{seat, seat-step, seat-bare, past}
 use Rattle.surgery.specs.SeatFollows.{meet-bare}
 use Rattle.surgery.specs.Insert.{Enters}
 

@@ -5,13 +5,13 @@
 --     through              tracing past the edge;     through-own, through-other    its values
 --     trace-near, .., far-back-back     where tracing takes the four steps, and the opposites of these
 --     through-exchanged    it is tracing, exchanged at the two sides
-use mathlib.Core.Path.{_≡_, refl, sym, _∙_, ap}
+use mathlib.Core.Path.{_≡_, sym, _∙_, ap}
 use mathlib.Core.Logic.{_≢_}
-use mathlib.Core.Bool.{Bool, true}
-use Prim.Native.Nat.{ℕ, suc, _+_, _-_, _*_, _/_, _%_, _<_, _≤_}
+use mathlib.Core.Bool.{true}
+use Prim.Native.Nat.{ℕ, _+_, _-_, _*_, _/_, _%_, _<_}
 use native.Mathlib.Decide.{ℕ-discrete}
 use native.Mathlib.Omega.{arith}
-use Rattle.table.specs.Layout.{darts, edgeOf, rev}
+use Rattle.table.specs.Layout.{edgeOf, rev}
 use Rattle.table.specs.Rotation.{Rotation, Lawful, choose}
 use Rattle.tracing.specs.Step.{steps, Type?, type?, is-zero, is-one, stepType, step, around, back, step-word, mirror-step}
 use Rattle.tracing.specs.Place.{places, trace, flip, trace-step, flip-step}

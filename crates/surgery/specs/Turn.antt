@@ -4,26 +4,26 @@
 --     turn-even            the same tracing, so the same faces
 --     turn-less, turn-more, turn-same     an odd amount, in a part that has the edge;     turn-part    which stays a part
 --     turn-elsewhere       in any other part as many
-use mathlib.Core.Path.{_≡_, refl, sym, _∙_, ap, ap₂, fun-ext}
+use mathlib.Core.Path.{_≡_, refl, sym, _∙_, ap, fun-ext}
 use mathlib.Core.Logic.{_≢_}
-use mathlib.Core.Bool.{Bool, true, false}
-use Prim.Native.Nat.{ℕ, suc, _+_, _-_, _*_, _/_, _%_, _<_, _≤_}
+use mathlib.Core.Bool.{Bool, true}
+use Prim.Native.Nat.{ℕ, suc, _+_, _-_, _*_, _/_, _%_, _<_}
 use native.Mathlib.Decide.{ℕ-discrete}
 use native.Mathlib.Omega.{arith}
 use Rattle.table.specs.Layout.{edgeOf, rev}
 use Rattle.table.specs.Rotation.{Rotation, Lawful}
-use Rattle.orbits.specs.Reach.{Reach, reach-step, reach-one, reach-trans, reach-sym, reach-back}
+use Rattle.orbits.specs.Reach.{Reach, reach-step, reach-trans, reach-back}
 use Rattle.orbits.specs.Orbits.{On}
 use Rattle.orbits.specs.Mirror.{Mirror, mirror-world, mirror-next}
-use Rattle.orbits.specs.MirrorExchange.{exch2, exch2-mirror}
-use Rattle.orbits.specs.Faces.{Face, along, mirrored, faces}
+use Rattle.orbits.specs.MirrorExchange.{exch2}
+use Rattle.orbits.specs.Faces.{Face, along, mirrored}
 use Rattle.orbits.specs.Follow.{faces-agree}
 use Rattle.orbits.specs.Truth.{clash}
 use Rattle.orbits.specs.FaceExchange.{faces-less, faces-more, faces-same}
-use Rattle.tracing.specs.Step.{steps, Type?, is-zero, is-one, type?, stepType, step, mirror, around, around-next, around-prev}
-use Rattle.tracing.specs.Place.{places, trace, flip, on, place, is-step, is-still, trace-step, trace-still, flip-step, flip-still, on-step, on-still, flip-flip}
+use Rattle.tracing.specs.Step.{steps, is-zero, is-one}
+use Rattle.tracing.specs.Place.{places, trace, flip, on, place, is-step, is-still, on-step, on-still, flip-flip}
 use Rattle.tracing.specs.Mirrored.{Part, mirrored as tracing-mirror}
-use Rattle.surgery.specs.Spin.{step-type?, other-type}
+use Rattle.surgery.specs.Spin.{other-type}
 use Rattle.surgery.specs.Alike.{Alike, alike-around, alike-flip, alike-trace}
 use Rattle.surgery.specs.Exchanged.{Exchanged, exchanged-is, exchanged-keeps}
 use Rattle.surgery.specs.Through.{parity, parity-low, parity-type, near, far, near-low, far-low, own-four, trace-near, trace-far, trace-near-back, trace-far-back, near-back, far-back, far-back-back}

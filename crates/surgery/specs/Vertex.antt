@@ -2,18 +2,15 @@
 --     Added                the two rotation systems
 --     VertexParts          a part before, and the same part after it;     vertex-whole    the whole mesh
 --     add-vertex           one face more in the part that has the vertex;     add-elsewhere    as many in any other
-use mathlib.Core.Path.{_≡_, refl, sym, _∙_, ap, fun-ext}
+use mathlib.Core.Path.{_≡_, sym, _∙_, ap, fun-ext}
 use mathlib.Core.Logic.{_≢_}
 use mathlib.Core.Bool.{Bool, true, false}
 use Prim.Native.Nat.{ℕ, suc, _+_, _-_, _*_, _/_, _%_, _<_, _≤_}
 use native.Mathlib.Omega.{arith}
-use Rattle.table.specs.Layout.{rev}
 use Rattle.table.specs.Rotation.{Rotation, Lawful}
 use Rattle.orbits.specs.Truth.{clash, false-unless}
 use Rattle.orbits.specs.Swap.{place, at-left, at-right, off}
 use Rattle.orbits.specs.Count.{without, without-at, without-other}
-use Rattle.orbits.specs.Orbits.{On}
-use Rattle.orbits.specs.Mirror.{Mirror}
 use Rattle.orbits.specs.Faces.{faces, faces-live}
 use Rattle.orbits.specs.PassThrough.{faces-alone}
 use Rattle.tracing.specs.Step.{steps}

@@ -3,32 +3,30 @@
 --     deletion, turning, insertion     the document's table of changes
 --     delete-change, turn-change, insert-change     they hold in every part that has the edge
 --     delete-count, turn-count, insert-count, add-count     they hold of the face count
-use mathlib.Core.Path.{_≡_, refl, _∙_}
+use mathlib.Core.Path.{_≡_, _∙_}
 use mathlib.Core.Bool.{Bool}
-use Prim.Native.Nat.{ℕ, zero, suc, _+_, _-_, _*_, _/_, _<_}
+use Prim.Native.Nat.{ℕ, zero, suc, _+_, _-_, _*_, _/_}
 use native.Mathlib.Omega.{arith}
 use Rattle.table.specs.Rotation.{Rotation, Lawful}
-use Rattle.orbits.specs.Reach.{Reach}
-use Rattle.orbits.specs.Orbits.{On, reach-live}
-use Rattle.orbits.specs.Mirror.{Mirror, mirror-world}
+use Rattle.orbits.specs.Orbits.{On}
+use Rattle.orbits.specs.Faces.{Face, along, mirrored}
 use Rattle.tracing.specs.declared.meeting.Sides.{Sides}
 use Rattle.tracing.specs.declared.meeting.Sides.the-variants.{TwoFaces, BothDarts, SameDart}
 use Rattle.tracing.specs.declared.meeting.Meeting.{Meeting}
 use Rattle.tracing.specs.declared.meeting.Meeting.the-variants.{Apart, SameType, OtherType}
 use Rattle.tracing.specs.Step.{is-zero, is-one}
-use Rattle.tracing.specs.Place.{places, flip, on, flip-flip, on-still}
+use Rattle.tracing.specs.Place.{places, trace, flip, flip-flip, on-still}
 use Rattle.tracing.specs.Listing.{faceCount}
 use Rattle.tracing.specs.Mirrored.{Part, whole}
 use Rattle.tracing.specs.FaceCount.{placeOf, face-count}
 use Rattle.tracing.specs.Sides.{sidesOf, both-darts, same-dart, two-faces, sides-case}
 use Rattle.tracing.specs.Corner.{Present, at-dart, at-lone, meetingOf, same, opposite, apart, meeting-case}
 use Rattle.surgery.specs.Without.{Without}
-use Rattle.surgery.specs.Through.{parity, parity-type, near, near-low, through}
-use Rattle.surgery.specs.Seat.{seat}
-use Rattle.surgery.specs.Past.{facesOf, Parts, whole-parts, Inside, inside-whole, level-in, own-level, through-mirror}
+use Rattle.surgery.specs.Through.{parity, parity-type}
+use Rattle.surgery.specs.Past.{facesOf, Parts, whole-parts, Inside, inside-whole}
 use Rattle.surgery.specs.Delete.{delete-less, delete-more, delete-same}
-use Rattle.surgery.specs.Insert.{bend-zero, bend-one, Enters, insert-less, insert-more, insert-same}
-use Rattle.surgery.specs.Sits.{Sits, just-before, before-other, at-vertex, Inserted, sits-on, enters}
+use Rattle.surgery.specs.Insert.{bend, bend-zero, bend-one, Enters, insert-less, insert-more, insert-same}
+use Rattle.surgery.specs.Sits.{Sits, just-before, before-other, at-vertex, Inserted, enters, first-in, second-in}
 use Rattle.surgery.specs.Turn.{Turned, turned-on, turn-even, turn-less, turn-more, turn-same}
 use Rattle.surgery.specs.Alike.{alike-flip}
 use Rattle.surgery.specs.Vertex.{Added, vertex-whole, stillAt, add-vertex}
@@ -71,45 +69,44 @@ module _ {R R′ : Rotation} {e : ℕ} (L : Lawful R) (L′ : Lawful R′) (W : 
   ]
 
   module _ {c₁ c₂ : ℕ} (N : Inserted R e R′ c₁ c₂) where
-    G : Mirror places (through R e) (flip R) P
-    G = through-mirror L (W .here) (K .before) (level-in i)
-
     sits-present : (x : ℕ) {c : ℕ} → Sits R e R′ x c → Present R′ c
     sits-present x {c} (just-before l n) = at-dart (L′ .dart-low c l) l
     sits-present x {c} (before-other l q n) = at-dart (L′ .dart-low c l) l
     sits-present x {c} (at-vertex v z a f) = at-lone v (L′ .there-low v (L′ .alone-there v a)) z a
 
-    -- the corner is in the part
-    corner-in : (x s : ℕ) {c : ℕ} → Sits R e R′ x c → s < places → P s ≡ P (near e) → Reach (through R e) s (seat R e (placeOf c)) → On places P′ (placeOf c)
-    corner-in x s S h q r =
-        let o = sits-on L L′ W x S in
-        record { lt = o .lt; on = K .seats _ o ∙ reach-live (mirror-world G) h r ∙ q ∙ i .near-in }
-
-    first-in : On places P′ (placeOf c₁)
-    first-in = corner-in (2 * e) (near e) (N .first) (near-low R L e (W .here)) refl (enters L L′ W N .first)
-
-    second-in : On places P′ (placeOf c₂)
-    second-in =
-        let low = L .dart-low (2 * e) (W .here) in
-        corner-in (2 * e + 1) (2 * (2 * e + 1)) (N .second) (omega arith)
-        (own-level L (W .here) (K .before) (level-in i) (2 * (2 * e + 1)) (omega arith)) (enters L L′ W N .second)
+    -- a face has with a place its mirror
+    bend-face : Face (trace R′) (flip R′) (placeOf c₁) (bend R′ (parity R e) (placeOf c₂)) → Face (trace R′) (flip R′) (placeOf c₁) (placeOf c₂)
+    bend-face = elim (parity-type R e) [
+      | is-zero z ↦ rw (bend-zero R′ (placeOf c₂) z) (λ w. w)
+      | is-one z ↦ rw (bend-one R′ (placeOf c₂) z) turn
+    ]
+      where
+        turn : Face (trace R′) (flip R′) (placeOf c₁) (flip R′ (placeOf c₂)) → Face (trace R′) (flip R′) (placeOf c₁) (placeOf c₂)
+        turn (along r) = mirrored r
+        turn (mirrored r) = along (rw (flip-flip R′ L′ (placeOf c₂)) at r)
 
     pub insert-change : Changes (insertion (meetingOf R′ c₁ c₂) (parity R e)) (facesOf R′ P′) (facesOf R P)
     insert-change = elim (meeting-case R′ L′ c₁ c₂ (sits-present (2 * e) (N .first)) (sits-present (2 * e + 1) (N .second))) [
-      | apart q n ↦ rw q (insert-less L L′ W K i first-in second-in T n)
+      | apart q n ↦ rw q (insert-less L L′ W K i one two T (λ f. n (bend-face f)))
       | same q r ↦ elim (parity-type R e) [
-        | is-zero z ↦ rw (q, z) (insert-more L L′ W K i first-in second-in T (rw (bend-zero R′ (placeOf c₂) z) r))
+        | is-zero z ↦ rw (q, z) (insert-more L L′ W K i one two T (rw (bend-zero R′ (placeOf c₂) z) r))
         | is-one z ↦
-            rw (q, z) (insert-same L L′ W K i first-in second-in T (rw (bend-one R′ (placeOf c₂) z, flip-flip R′ L′ (placeOf c₂)) r))
+            rw (q, z) (insert-same L L′ W K i one two T (rw (bend-one R′ (placeOf c₂) z, flip-flip R′ L′ (placeOf c₂)) r))
       ]
       | opposite q r ↦ elim (parity-type R e) [
-        | is-zero z ↦ rw (q, z) (insert-same L L′ W K i first-in second-in T (rw (bend-zero R′ (placeOf c₂) z) r))
-        | is-one z ↦ rw (q, z) (insert-more L L′ W K i first-in second-in T (rw (bend-one R′ (placeOf c₂) z) r))
+        | is-zero z ↦ rw (q, z) (insert-same L L′ W K i one two T (rw (bend-zero R′ (placeOf c₂) z) r))
+        | is-one z ↦ rw (q, z) (insert-more L L′ W K i one two T (rw (bend-one R′ (placeOf c₂) z) r))
       ]
     ]
       where
         T : Enters R e (placeOf c₁) (placeOf c₂)
         T = enters L L′ W N
+
+        one : On places P′ (placeOf c₁)
+        one = first-in L L′ W K i N
+
+        two : On places P′ (placeOf c₂)
+        two = second-in L L′ W K i N
 
 pub turn-change : {R R₁ : Rotation} {e : ℕ} (L : Lawful R) (L₁ : Lawful R₁) (W : Turned R e R₁) → parity R₁ e ≡ 1 - parity R e
     → {P : ℕ → Bool} (K : Part R P) (i : Inside R e P) → Changes (turning (sidesOf R e)) (facesOf R P) (facesOf R₁ P)

@@ -20,7 +20,7 @@ use Rattle.orbits.specs.MirrorExchange.{exch2}
 use Rattle.orbits.specs.Faces.{Face, along, mirrored}
 use Rattle.orbits.specs.FaceExchange.{faces-less, faces-more, faces-same}
 use Rattle.tracing.specs.Step.{steps, is-zero, is-one}
-use Rattle.tracing.specs.Place.{places, trace, flip, on, flip-flip, flip-low}
+use Rattle.tracing.specs.Place.{places, trace, flip, on, flip-low}
 use Rattle.tracing.specs.Mirrored.{mirrored as tracing-mirror}
 use Rattle.surgery.specs.Spin.{flip-spin}
 use Rattle.surgery.specs.Without.{Without}
@@ -127,20 +127,7 @@ module _ {R R′ : Rotation} {e : ℕ} (L : Lawful R) (L′ : Lawful R′) (W : 
       rw (past-faces L L′ W K G, ← again)
       (faces-same G (near-on L (W .here) i) (far-on L (W .here) i) (mirror-iff .0 r))
 
-  -- a face has with q the mirror of q
-  bend-face : Face (trace R′) (flip R′) p (bend R′ (parity R e) q) → Face (trace R′) (flip R′) p q
-  bend-face = elim (parity-type R e) [
-    | is-zero z ↦ rw (bend-zero R′ q z) (λ w. w)
-    | is-one z ↦ rw (bend-one R′ q z) turn
-  ]
-    where
-      turn : Face (trace R′) (flip R′) p (flip R′ q) → Face (trace R′) (flip R′) p q
-      turn (along r) = mirrored r
-      turn (mirrored r) = along (rw (flip-flip R′ L′ q) at r)
-
-  pub insert-less : ¬ Face (trace R′) (flip R′) p q → facesOf R′ P′ ≡ suc (facesOf R P)
+  pub insert-less : ¬ Face (trace R′) (flip R′) p (bend R′ (parity R e) q) → facesOf R′ P′ ≡ suc (facesOf R P)
   insert-less n =
       rw (past-faces L L′ W K G, ← again)
-      (faces-less G (near-on L (W .here) i) (far-on L (W .here) i)
-      (λ r. n (bend-face (along (along-iff .1 r))))
-      (λ r. n (bend-face (mirrored (mirror-iff .1 r)))))
+      (faces-less G (near-on L (W .here) i) (far-on L (W .here) i) (λ r. n (along (along-iff .1 r))) (λ r. n (mirrored (mirror-iff .1 r))))

@@ -53,8 +53,9 @@ module _ (t : List ℕ) (g : Good t) (e c₁ c₂ w : ℕ) (h : e < edges) (off 
 
   corner : Corner half (plus (live? t) (2 * e + 1)) (firstCorner e c₁ c₂)
   corner = elim (ℕ-discrete c₁ c₂) [
-      | yes q ↦ rw (eq-eqb c₁ c₂ q) (at-dart (plus-new (live? t) (2 * e + 1)))
-      | no n ↦ rw (ne-eqb c₁ c₂ n) (by n C₁) ]
+    | yes q ↦ rw (eq-eqb c₁ c₂ q) (at-dart (plus-new (live? t) (2 * e + 1)))
+    | no n ↦ rw (ne-eqb c₁ c₂ n) (by n C₁)
+  ]
     where
       by : c₁ ≢ c₂ → Corner t (live? t) c₁ → Corner half (plus (live? t) (2 * e + 1)) c₁
       by n (at-dart o) = at-dart (plus-old (live? t) (2 * e + 1) c₁ (λ q. clash (rw q at o) (free (2 * e + 1) (omega arith))) ∙ o)
@@ -85,28 +86,32 @@ module _ (t : List ℕ) (g : Good t) (e c₁ c₂ w : ℕ) (h : e < edges) (off 
 
   more-means : (d : ℕ) → more d ≡ true → More d
   more-means d m = elim (plus-case (plus (live? t) (2 * e + 1)) (2 * e) d m) [
+    | new q ↦ ours (omega arith) (omega arith)
+    | old n o ↦ elim (plus-case (live? t) (2 * e + 1) d o) [
       | new q ↦ ours (omega arith) (omega arith)
-      | old n o ↦ elim (plus-case (live? t) (2 * e + 1) d o) [
-        | new q ↦ ours (omega arith) (omega arith)
-        | old k l ↦ theirs (omega arith) l ] ]
+      | old k l ↦ theirs (omega arith) l
+    ]
+  ]
 
   means-more : (d : ℕ) → More d → more d ≡ true
   means-more d (ours q l) = elim (ℕ-discrete d (2 * e)) [
-      | yes s ↦ rw s (plus-new (plus (live? t) (2 * e + 1)) (2 * e))
-      | no n ↦
-          let s : d ≡ 2 * e + 1 = omega arith in
-          plus-old (plus (live? t) (2 * e + 1)) (2 * e) d n ∙ ap (plus (live? t) (2 * e + 1)) s ∙ plus-new (live? t) (2 * e + 1) ]
+    | yes s ↦ rw s (plus-new (plus (live? t) (2 * e + 1)) (2 * e))
+    | no n ↦
+        let s : d ≡ 2 * e + 1 = omega arith in
+        plus-old (plus (live? t) (2 * e + 1)) (2 * e) d n ∙ ap (plus (live? t) (2 * e + 1)) s ∙ plus-new (live? t) (2 * e + 1)
+  ]
   means-more d (theirs n l) =
       plus-old (plus (live? t) (2 * e + 1)) (2 * e) d (omega arith) ∙ plus-old (live? t) (2 * e + 1) d (omega arith) ∙ l
 
   live-more : (d : ℕ) → live? result d ≡ more d
   live-more d = same-truth (live? result d) (more d)
       (λ l.
-        let v = live-yes result d l in
-        let low = v .low in
-        means-more d (elim (ℕ-discrete (edgeOf d) e) [
+      let v = live-yes result d l in
+      let low = v .low in
+      means-more d (elim (ℕ-discrete (edgeOf d) e) [
         | yes q ↦ ours q low
-        | no n ↦ theirs n (yes-live t d (record { low = low; on = rw (inserted-other (edgeOf d) (omega arith) n) at (v .on) })) ]))
+        | no n ↦ theirs n (yes-live t d (record { low = low; on = rw (inserted-other (edgeOf d) (omega arith) n) at (v .on) }))
+      ]))
       (λ m. by (more-means d m))
     where
       by : More d → live? result d ≡ true
@@ -121,8 +126,9 @@ module _ (t : List ℕ) (g : Good t) (e c₁ c₂ w : ℕ) (h : e < edges) (off 
 
   turns-low : (i : ℕ) → i < edges → edgeWord result i ≤ 199
   turns-low i l = elim (ℕ-discrete i e) [
-      | yes q ↦ rw (q, inserted-own) few
-      | no n ↦ rw (inserted-other i l n) (g .turns i l) ]
+    | yes q ↦ rw (q, inserted-own) few
+    | no n ↦ rw (inserted-other i l n) (g .turns i l)
+  ]
 
   pub inserted-good : Good result
   inserted-good = held-good result (subst (λ L. Held result L) same-live (edge-held full more (first .held) e w h)) turns-low
@@ -152,14 +158,15 @@ module _ (t : List ℕ) (g : Good t) (e c₁ c₂ w : ℕ) (h : e < edges) (off 
   pub inserted-without : Without (rotation result) e (rotation t)
   unfolding turnsOf
   inserted-without = record {
-      here = live-more (2 * e) ∙ means-more (2 * e) (ours (omega arith) (omega arith));
-      live = λ d. same-truth (live? t d) (live? result d && apart e d)
+    here = live-more (2 * e) ∙ means-more (2 * e) (ours (omega arith) (omega arith));
+    live = λ d. same-truth (live? t d) (live? result d && apart e d)
         (λ l. both (live-more d ∙ means-more d (theirs (not-own d l) l)) (apart-other e d (not-own d l)))
         (λ l. by d (more-means d (sym (live-more d) ∙ both-left (live? result d) (apart e d) l)) (both-right (live? result d) (apart e d) l));
-      next = inserted-next;
-      turns = λ d l. let low = live-yes t d l .low in ap (λ k. k % 2) (sym (inserted-other (edgeOf d) (omega arith) (not-own d l)));
-      from = λ d l. inserted-from d l (not-own d l);
-      there = inserted-there }
+    next = inserted-next;
+    turns = λ d l. let low = live-yes t d l .low in ap (λ k. k % 2) (sym (inserted-other (edgeOf d) (omega arith) (not-own d l)));
+    from = λ d l. inserted-from d l (not-own d l);
+    there = inserted-there;
+  }
     where
       by : (d : ℕ) → More d → apart e d ≡ true → live? t d ≡ true
       by d (ours q l) a = absurd (clash a (apart-own e d q))
@@ -205,42 +212,50 @@ module _ (t : List ℕ) (g : Good t) (e c₁ c₂ w : ℕ) (h : e < edges) (off 
   -- and 2e+1 still leads to its own corner's dart
   second-next : live? t c₂ ≡ true → nextIn full more (2 * e + 1) ≡ c₂
   second-next o = elim (ℕ-discrete (nextIn full more (2 * e + 1)) (2 * e)) [
-      | yes q ↦ absurd (never (sym led ∙ first .next (2 * e + 1) ∙ bypass-into (nextIn full more) (2 * e) (2 * e + 1) (omega arith) q) first-leads)
-      | no n ↦ sym (bypass-off (nextIn full more) (2 * e) (2 * e + 1) (omega arith) n) ∙ sym (first .next (2 * e + 1)) ∙ led ]
+    | yes q ↦ absurd (never (sym led ∙ first .next (2 * e + 1) ∙ bypass-into (nextIn full more) (2 * e) (2 * e + 1) (omega arith) q) first-leads)
+    | no n ↦ sym (bypass-off (nextIn full more) (2 * e) (2 * e + 1) (omega arith) n) ∙ sym (first .next (2 * e + 1)) ∙ led
+  ]
     where
       led : nextIn half (plus (live? t) (2 * e + 1)) (2 * e + 1) ≡ c₂
       led = next-in half (plus (live? t) (2 * e + 1)) (2 * e + 1) (plus-new (live? t) (2 * e + 1)) ∙ second-seat o .1
+
       never : c₂ ≡ nextIn full more (2 * e) → Leads → ⊥
       never s (on-to n _ _) = elim (ℕ-discrete c₁ c₂) [
         | yes q ↦ clash (rw (s ∙ n ∙ ap (λ b. choose b (2 * e + 1) c₁) (eq-eqb c₁ c₂ q)) at o) (free (2 * e + 1) (omega arith))
-        | no m ↦ m (sym (s ∙ n ∙ ap (λ b. choose b (2 * e + 1) c₁) (ne-eqb c₁ c₂ m))) ]
+        | no m ↦ m (sym (s ∙ n ∙ ap (λ b. choose b (2 * e + 1) c₁) (ne-eqb c₁ c₂ m)))
+      ]
       never s (to-itself v n _ _) = clash (rw (s ∙ n) at o) (free (2 * e) (omega arith))
 
   first-sits : Sits (rotation result) e (rotation t) (2 * e) c₁
   first-sits = elim (ℕ-discrete c₁ c₂) [
-      | yes q ↦ together q C₂
-      | no n ↦ apart-from n C₁ ]
+    | yes q ↦ together q C₂
+    | no n ↦ apart-from n C₁
+  ]
     where
       -- one corner for both
       own-corner : c₁ ≡ c₂ → firstCorner e c₁ c₂ ≡ 2 * e + 1
       own-corner q = ap (λ b. choose b (2 * e + 1) c₁) (eq-eqb c₁ c₂ q)
+
       near : c₁ ≡ c₂ → (nextIn full more (2 * e) ≡ 2 * e + 1) × (leaves full (2 * e) ≡ leaves half (2 * e + 1))
       near q = by first-leads
         where
           by : Leads → (nextIn full more (2 * e) ≡ 2 * e + 1) × (leaves full (2 * e) ≡ leaves half (2 * e + 1))
           by (on-to n f _) = (n ∙ own-corner q, f ∙ ap (leaves half) (own-corner q))
           by (to-itself v _ _ z) = let y = sym (own-corner q) ∙ z in absurd (omega (arith, y))
+
       together : c₁ ≡ c₂ → Corner t (live? t) c₂ → Sits (rotation result) e (rotation t) (2 * e) c₁
       together q (at-dart o) =
           let n = result-next (2 * e) ∙ near q .0 in
           before-other (rw q o) (rw n (omega arith)) (rw n (result-next (2 * e + 1) ∙ second-next o ∙ sym q))
       together q (at-lone v s l i) =
           at-vertex v (q ∙ s) (alone-yes t v l i) (result-from (2 * e) (omega arith) ∙ near q .1 ∙ second-alone v s l i)
+
       apart-from : c₁ ≢ c₂ → Corner t (live? t) c₁ → Sits (rotation result) e (rotation t) (2 * e) c₁
       apart-from n k = by first-leads k
         where
           same : firstCorner e c₁ c₂ ≡ c₁
           same = ap (λ b. choose b (2 * e + 1) c₁) (ne-eqb c₁ c₂ n)
+
           by : Leads → Corner t (live? t) c₁ → Sits (rotation result) e (rotation t) (2 * e) c₁
           by (on-to m f p) (at-dart o) = just-before o (result-next (2 * e) ∙ m ∙ same)
           by (on-to m f p) (at-lone v q l i) =

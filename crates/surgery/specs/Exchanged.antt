@@ -1,11 +1,14 @@
 -- When a map h is the mirrored exchange of another map f at x and y: it takes x and y where f takes y and x, their opposites
 -- u and v where f takes v and u, and all else where f takes it. Then f is the same exchange of h.
 --     Exchanged            h is f with this exchange;     exchanged-back    f is h with it
+--     exchanged-keeps      what f and m keep, h keeps, if x and y agree on it
 --     exchanged-is         so h is the exchange of crate orbits, and its face counts apply
 use mathlib.Core.Path.{_≡_, sym, _∙_, ap, ap₂, fun-ext}
 use mathlib.Core.Logic.{_≢_}
-use Prim.Native.Nat.{ℕ}
+use mathlib.Core.Bool.{Bool}
+use Prim.Native.Nat.{ℕ, _<_}
 use Rattle.orbits.specs.Swap.{tr, tr-left, tr-right, tr-off, place, at-left, at-right, off}
+use Rattle.orbits.specs.Mirror.{Mirror, opposite-low}
 use Rattle.orbits.specs.MirrorExchange.{exch2, exch2-at, tr2}
 
 pub record Exchanged (f m h : ℕ → ℕ) (x y u v : ℕ) : Type 0 where
@@ -35,6 +38,30 @@ exchanged-back {f} {m} {h} X = record {
   at-v = sym (X .at-v);
   beside = λ i p q r s. sym (X .beside i p q s r);
 }
+
+pub exchanged-keeps : {N : ℕ} {f m h : ℕ → ℕ} {live : ℕ → Bool} {x y u v : ℕ} → Mirror N f m live → x < N → y < N → Exchanged f m h x y u v
+    → (P : ℕ → Bool) → ((i : ℕ) → i < N → P (f i) ≡ P i) → ((i : ℕ) → i < N → P (m i) ≡ P i) → P x ≡ P y → (i : ℕ) → i < N → P (h i) ≡ P i
+exchanged-keeps {N} {f} {m} {h} {live} {x} {y} {u} {v} E a b X P inv keep level i l = elim (place u v i) [
+  | at-left e ↦ rw (e, X .at-u) (inv v low-v ∙ home ∙ sym level ∙ sym over)
+  | at-right e ↦ rw (e, X .at-v) (inv u low-u ∙ over ∙ level ∙ sym home)
+  | off r s ↦ elim (place x y i) [
+    | at-left e ↦ rw (e, X .at-x) (inv y b ∙ sym level)
+    | at-right e ↦ rw (e, X .at-y) (inv x a ∙ level)
+    | off p q ↦ rw (X .beside i p q r s) (inv i l)
+  ]
+]
+  where
+    low-u : u < N
+    low-u = rw (X .over) at (opposite-low E a)
+
+    low-v : v < N
+    low-v = rw (X .home) at (opposite-low E b)
+
+    over : P u ≡ P x
+    over = ap P (sym (X .over)) ∙ keep (f x) (E .fwd x a) ∙ inv x a
+
+    home : P v ≡ P y
+    home = ap P (sym (X .home)) ∙ keep (f y) (E .fwd y b) ∙ inv y b
 
 pub exchanged-is : {f m h : ℕ → ℕ} {x y u v : ℕ} → Exchanged f m h x y u v → exch2 f m x y ≡ h
 unfolding tr2

@@ -4,31 +4,31 @@
 --     bend                 a place, or its mirror
 --     Enters               where the edge's steps go on to
 --     insert-less, insert-more, insert-same     in a part that has them
-use mathlib.Core.Path.{_≡_, refl, sym, _∙_, ap}
-use mathlib.Core.Logic.{_≢_, _↔_}
-use mathlib.Core.Bool.{Bool, true, false}
-use Prim.Native.Nat.{ℕ, suc, _+_, _-_, _*_, _/_, _%_, _<_, _≤_}
+use mathlib.Core.Path.{_≡_, refl, sym, _∙_}
+use mathlib.Core.Logic.{_↔_}
+use mathlib.Core.Bool.{Bool}
+use Prim.Native.Nat.{ℕ, suc, _+_, _-_, _*_, _/_, _%_, _<_}
 use native.Mathlib.Omega.{arith}
 use lib.Dec.{eqb}
 use borrow.Author.Tests.{eq-eqb, ne-eqb}
 use Rattle.table.specs.Rotation.{Rotation, Lawful, choose}
 use Rattle.orbits.specs.Iterate.{Inj}
-use Rattle.orbits.specs.Reach.{Reach, reach-here, reach-one, reach-trans, reach-sym, reach-low}
-use Rattle.orbits.specs.Orbits.{On, World}
+use Rattle.orbits.specs.Reach.{Reach, reach-one, reach-trans, reach-sym}
+use Rattle.orbits.specs.Orbits.{On}
 use Rattle.orbits.specs.Mirror.{Mirror, mirror-world, mirror-reach, mirror-on}
 use Rattle.orbits.specs.MirrorExchange.{exch2}
-use Rattle.orbits.specs.Faces.{Face, along, mirrored, faces}
+use Rattle.orbits.specs.Faces.{Face, along, mirrored}
 use Rattle.orbits.specs.FaceExchange.{faces-less, faces-more, faces-same}
-use Rattle.tracing.specs.Step.{steps, Type?, is-zero, is-one}
-use Rattle.tracing.specs.Place.{places, trace, flip, on, flip-flip, flip-low}
-use Rattle.tracing.specs.Mirrored.{Part, mirrored as tracing-mirror}
+use Rattle.tracing.specs.Step.{steps, is-zero, is-one}
+use Rattle.tracing.specs.Place.{places, trace, flip, on, flip-low}
+use Rattle.tracing.specs.Mirrored.{mirrored as tracing-mirror}
 use Rattle.surgery.specs.Spin.{flip-spin}
 use Rattle.surgery.specs.Without.{Without}
 use Rattle.surgery.specs.Exchanged.{exchanged-is, exchanged-back}
 use Rattle.surgery.specs.Through.{parity, parity-type, near, far, through, through-exchanged, near-far}
 use Rattle.surgery.specs.Seat.{seat, past}
 use Rattle.surgery.specs.SeatFollows.{seat-follows, seat-flip}
-use Rattle.surgery.specs.Past.{facesOf, Parts, Inside, near-on, far-on, through-mirror, past-faces, past-reach}
+use Rattle.surgery.specs.Past.{facesOf, Parts, Inside, level-in, near-on, far-on, through-mirror, past-faces, past-reach}
 
 -- the place itself for type 0, its mirror for type 1
 unfoldable pub bend : Rotation → ℕ → ℕ → ℕ
@@ -54,7 +54,7 @@ reach-shift I h l r s w = reach-trans r (reach-trans w (reach-sym I l s))
 module _ {R R′ : Rotation} {e : ℕ} (L : Lawful R) (L′ : Lawful R′) (W : Without R e R′) {P P′ : ℕ → Bool} (K : Parts R e R′ P P′) (i : Inside R e P)
     {p q : ℕ} (op : On places P′ p) (oq : On places P′ q) (T : Enters R e p q) where
   G : Mirror places (through R e) (flip R) P
-  G = through-mirror L (W .here) (K .before) i
+  G = through-mirror L (W .here) (K .before) (level-in i)
 
   G′ : Mirror places (trace R′) (flip R′) P′
   G′ = tracing-mirror R′ L′ P′ (K .after)
@@ -127,20 +127,7 @@ module _ {R R′ : Rotation} {e : ℕ} (L : Lawful R) (L′ : Lawful R′) (W : 
       rw (past-faces L L′ W K G, ← again)
       (faces-same G (near-on L (W .here) i) (far-on L (W .here) i) (mirror-iff .0 r))
 
-  -- a face has with q the mirror of q
-  bend-face : Face (trace R′) (flip R′) p (bend R′ (parity R e) q) → Face (trace R′) (flip R′) p q
-  bend-face = elim (parity-type R e) [
-    | is-zero z ↦ rw (bend-zero R′ q z) (λ w. w)
-    | is-one z ↦ rw (bend-one R′ q z) turn
-  ]
-    where
-      turn : Face (trace R′) (flip R′) p (flip R′ q) → Face (trace R′) (flip R′) p q
-      turn (along r) = mirrored r
-      turn (mirrored r) = along (rw (flip-flip R′ L′ q) at r)
-
-  pub insert-less : ¬ Face (trace R′) (flip R′) p q → facesOf R′ P′ ≡ suc (facesOf R P)
+  pub insert-less : ¬ Face (trace R′) (flip R′) p (bend R′ (parity R e) q) → facesOf R′ P′ ≡ suc (facesOf R P)
   insert-less n =
       rw (past-faces L L′ W K G, ← again)
-      (faces-less G (near-on L (W .here) i) (far-on L (W .here) i)
-      (λ r. n (bend-face (along (along-iff .1 r))))
-      (λ r. n (bend-face (mirrored (mirror-iff .1 r)))))
+      (faces-less G (near-on L (W .here) i) (far-on L (W .here) i) (λ r. n (along (along-iff .1 r))) (λ r. n (mirrored (mirror-iff .1 r))))

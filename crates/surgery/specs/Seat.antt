@@ -4,27 +4,26 @@
 --     seat                 where a place lies;     Seated, seated    which of the three it is
 --     past                 past the edge: what a step of its darts leads to
 --     skip-around, reach-around, skip-bare     around a vertex past the edge's darts, where others are left, and where none is
-use mathlib.Core.Path.{_≡_, refl, sym, _∙_, ap}
-use mathlib.Core.Logic.{_≢_, _⊎_, inl, inr, ⊎-elim}
-use mathlib.Core.Bool.{Bool, true, false, _&&_, _||_, or-true, true-or}
-use Prim.Native.Nat.{ℕ, suc, _+_, _-_, _*_, _/_, _%_, _<_, _≤_}
+use mathlib.Core.Path.{_≡_, sym, _∙_, ap}
+use mathlib.Core.Logic.{_≢_}
+use mathlib.Core.Bool.{Bool, true, false, _&&_, _||_, or-true}
+use Prim.Native.Nat.{ℕ, _+_, _-_, _*_, _/_, _%_, _<_, _≤_}
 use native.Mathlib.Decide.{ℕ-discrete}
 use native.Mathlib.Omega.{arith}
 use lib.Dec.{eqb, ltb}
 use borrow.Author.Tests.{eq-eqb, ne-eqb, lt-ltb, le-ltb}
-use Rattle.table.specs.Layout.{darts, vertices, edgeOf, rev}
+use Rattle.table.specs.Layout.{edgeOf}
 use Rattle.table.specs.Rotation.{Rotation, Lawful, choose}
-use Rattle.orbits.specs.Truth.{truth, holds, fails, clash, both, false-unless}
-use Rattle.orbits.specs.Count.{Partner}
-use Rattle.orbits.specs.Reach.{Reach, reach-here, reach-step, reach-one, reach-trans, reach-ind}
+use Rattle.orbits.specs.Truth.{truth, holds, fails, clash}
+use Rattle.orbits.specs.Reach.{Reach, reach-here, reach-one, reach-trans}
 use Rattle.orbits.specs.Orbits.{On}
-use Rattle.orbits.specs.Follow.{Skip, land, pass, Follows}
-use Rattle.tracing.specs.Step.{steps, Type?, is-zero, is-one, type?, stepType, step-word}
-use Rattle.tracing.specs.Place.{places, trace, flip, on, is-step, is-still, place, trace-still, flip-still, on-step, on-still}
+use Rattle.orbits.specs.Follow.{Skip, land, pass}
+use Rattle.tracing.specs.Step.{steps, Type?, is-zero, is-one, stepType}
+use Rattle.tracing.specs.Place.{places, on, is-step, is-still, place, on-step, on-still}
 use Rattle.surgery.specs.Bypass.{skip-over}
-use Rattle.surgery.specs.Spin.{spin, spin-inj, spin-live, spin-from, spin-reach, around-spin, step-type?, trace-spin, flip-spin, other-type}
-use Rattle.surgery.specs.Without.{Without, apart, apart-own, apart-other, here-both, kept, not-own, were, spin-skip, alone-stays, bare-edge, filled, bared, full}
-use Rattle.surgery.specs.Through.{through, through-own, through-other}
+use Rattle.surgery.specs.Spin.{spin, spin-inj, spin-live, spin-from, around-spin}
+use Rattle.surgery.specs.Without.{Without, apart, apart-own, apart-other, here-both, bare-edge, bared}
+use Rattle.surgery.specs.Through.{through, through-own}
 
 -- the dart of edge e that leaves v, the first if both do
 unfoldable pub dartAt : Rotation → ℕ → ℕ → ℕ

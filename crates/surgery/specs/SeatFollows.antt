@@ -3,16 +3,16 @@
 --     seat-flip            the mirror of a place lies on the orbit of the mirror of its seat: and the same faces
 use mathlib.Core.Path.{_≡_, refl, sym, _∙_, ap}
 use mathlib.Core.Logic.{_≢_, _⊎_, inl, inr, ⊎-elim}
-use mathlib.Core.Bool.{Bool, true, false}
-use Prim.Native.Nat.{ℕ, suc, _+_, _-_, _*_, _/_, _%_, _<_, _≤_}
+use mathlib.Core.Bool.{true, false}
+use Prim.Native.Nat.{ℕ, _+_, _-_, _*_, _/_, _%_, _<_, _≤_}
 use native.Mathlib.Decide.{ℕ-discrete}
 use native.Mathlib.Omega.{arith}
 use Rattle.table.specs.Layout.{darts, vertices, edgeOf, rev}
 use Rattle.table.specs.Rotation.{Rotation, Lawful}
-use Rattle.orbits.specs.Truth.{truth, holds, fails, clash, false-unless}
+use Rattle.orbits.specs.Truth.{truth, holds, fails, false-unless}
 use Rattle.orbits.specs.Count.{Partner}
 use Rattle.orbits.specs.Iterate.{Inj}
-use Rattle.orbits.specs.Reach.{Reach, reach-here, reach-step, reach-one, reach-trans, reach-sym, reach-ind}
+use Rattle.orbits.specs.Reach.{Reach, reach-here, reach-step, reach-one, reach-sym, reach-ind}
 use Rattle.orbits.specs.Orbits.{On}
 use Rattle.orbits.specs.Follow.{Skip, land, Follows}
 use Rattle.tracing.specs.Step.{steps, Type?, is-zero, is-one, type?, stepType, step-word, mirror-word}

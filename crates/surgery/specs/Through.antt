@@ -3,14 +3,15 @@
 -- runs along the other side.
 --     near, far            the two sides
 --     through              tracing past the edge;     through-own, through-other    its values
+--     trace-near, .., far-back-back     where tracing takes the four steps, and the opposites of these
 --     through-exchanged    it is tracing, exchanged at the two sides
-use mathlib.Core.Path.{_≡_, refl, sym, _∙_, ap}
+use mathlib.Core.Path.{_≡_, sym, _∙_, ap}
 use mathlib.Core.Logic.{_≢_}
-use mathlib.Core.Bool.{Bool, true}
-use Prim.Native.Nat.{ℕ, suc, _+_, _-_, _*_, _/_, _%_, _<_, _≤_}
+use mathlib.Core.Bool.{true}
+use Prim.Native.Nat.{ℕ, _+_, _-_, _*_, _/_, _%_, _<_}
 use native.Mathlib.Decide.{ℕ-discrete}
 use native.Mathlib.Omega.{arith}
-use Rattle.table.specs.Layout.{darts, edgeOf, rev}
+use Rattle.table.specs.Layout.{edgeOf, rev}
 use Rattle.table.specs.Rotation.{Rotation, Lawful, choose}
 use Rattle.tracing.specs.Step.{steps, Type?, type?, is-zero, is-one, stepType, step, around, back, step-word, mirror-step}
 use Rattle.tracing.specs.Place.{places, trace, flip, trace-step, flip-step}
@@ -128,32 +129,56 @@ module _ (R : Rotation) (L : Lawful R) (e : ℕ) (live : R .live (2 * e) ≡ tru
       let type : s % 2 ≡ t = omega arith in
       through-own R e s (omega arith) ∙ rw (half, type)
 
+  -- the four steps of the edge, where each leads, and its opposite
+
+  at-near : Own (near e) (2 * e) 0 (parity R e) (2 * e + 1)
+  at-near = record { place = omega arith; edge = omega arith; type = omega arith; new = bit-same (parity-type R e); end = omega arith }
+
+  at-far : Own (far R e) (2 * e + 1) (parity R e) 0 (2 * e)
+  at-far = record { place = omega arith; edge = omega arith; type = parity-low R e; new = bit-even (parity-type R e); end = omega arith }
+
+  at-near-back : Own (4 * e + 2 + (1 - parity R e)) (2 * e + 1) (1 - parity R e) 1 (2 * e)
+  at-near-back = record { place = omega arith; edge = omega arith; type = omega arith; new = bit-odd (parity-type R e); end = omega arith }
+
+  at-far-back : Own (near e + 1) (2 * e) 1 (1 - parity R e) (2 * e + 1)
+  at-far-back = record { place = omega arith; edge = omega arith; type = omega arith; new = bit-other (parity-type R e); end = omega arith }
+
+  pub trace-near : trace R (near e) ≡ around R (parity R e) (2 * e + 1)
+  trace-near = own-trace at-near
+
+  pub trace-far : trace R (far R e) ≡ around R 0 (2 * e)
+  trace-far = own-trace at-far
+
+  pub trace-near-back : trace R (4 * e + 2 + (1 - parity R e)) ≡ around R 1 (2 * e)
+  trace-near-back = own-trace at-near-back
+
+  pub trace-far-back : trace R (near e + 1) ≡ around R (1 - parity R e) (2 * e + 1)
+  trace-far-back = own-trace at-far-back
+
+  pub near-back : flip R (trace R (near e)) ≡ 4 * e + 2 + (1 - parity R e)
+  near-back = own-back at-near ∙ omega arith
+
+  pub far-back : flip R (trace R (far R e)) ≡ near e + 1
+  far-back = own-back at-far ∙ omega arith
+
+  pub far-back-back : flip R (trace R (near e + 1)) ≡ far R e
+  far-back-back = own-back at-far-back ∙ omega arith
+
+  -- these are all of its steps
+  pub own-four : (s : ℕ) → s ≢ near e → s ≢ far R e → s ≢ 4 * e + 2 + (1 - parity R e) → s ≢ near e + 1 → edgeOf (s / 2) ≢ e
+  own-four s p q r t = elim (parity-type R e) [ is-zero z ↦ omega arith | is-one z ↦ omega arith ]
+
   pub through-exchanged : Exchanged (trace R) (flip R) (through R e) (near e) (far R e) (4 * e + 2 + (1 - parity R e)) (near e + 1)
   through-exchanged = record {
-    over = own-back x ∙ omega arith;
-    home = own-back y ∙ omega arith;
+    over = near-back;
+    home = far-back;
     x-u = omega arith;
     x-v = omega arith;
     y-u = elim (parity-type R e) [ is-zero z ↦ omega arith | is-one z ↦ omega arith ];
     y-v = omega arith;
-    at-x = own-through x ∙ sym (own-trace y);
-    at-y = own-through y ∙ sym (own-trace x);
-    at-u = own-through u ∙ sym (own-trace v);
-    at-v = own-through v ∙ sym (own-trace u);
-    beside = λ i p q r s. through-other R e i (elim (parity-type R e) [ is-zero z ↦ omega arith | is-one z ↦ omega arith ]);
+    at-x = own-through at-near ∙ sym trace-far;
+    at-y = own-through at-far ∙ sym trace-near;
+    at-u = own-through at-near-back ∙ sym trace-far-back;
+    at-v = own-through at-far-back ∙ sym trace-near-back;
+    beside = λ i p q r s. through-other R e i (own-four i p q r s);
   }
-    where
-      p : ℕ
-      p = parity R e
-
-      x : Own (4 * e) (2 * e) 0 p (2 * e + 1)
-      x = record { place = omega arith; edge = omega arith; type = omega arith; new = bit-same (parity-type R e); end = omega arith }
-
-      y : Own (4 * e + 2 + p) (2 * e + 1) p 0 (2 * e)
-      y = record { place = omega arith; edge = omega arith; type = parity-low R e; new = bit-even (parity-type R e); end = omega arith }
-
-      u : Own (4 * e + 2 + (1 - p)) (2 * e + 1) (1 - p) 1 (2 * e)
-      u = record { place = omega arith; edge = omega arith; type = omega arith; new = bit-odd (parity-type R e); end = omega arith }
-
-      v : Own (4 * e + 1) (2 * e) 1 (1 - p) (2 * e + 1)
-      v = record { place = omega arith; edge = omega arith; type = omega arith; new = bit-other (parity-type R e); end = omega arith }

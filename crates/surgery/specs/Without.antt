@@ -3,10 +3,10 @@
 --     gone, kept, were     which darts are live
 --     prev-bypass, spin-skip     around a vertex, the edge's darts are passed over
 --     alone-stays, bare-edge, filled, bared     where the edge had the only darts of a vertex, that vertex is alone without it
-use mathlib.Core.Path.{_≡_, refl, sym, _∙_, ap}
+use mathlib.Core.Path.{_≡_, sym, _∙_, ap}
 use mathlib.Core.Logic.{_≢_}
 use mathlib.Core.Bool.{Bool, true, false, not, _&&_, and-true, and-false}
-use Prim.Native.Nat.{ℕ, suc, _+_, _*_, _/_, _%_, _<_}
+use Prim.Native.Nat.{ℕ, _+_, _*_, _%_}
 use native.Mathlib.Decide.{ℕ-discrete}
 use native.Mathlib.Omega.{arith}
 use lib.Dec.{eqb}
@@ -23,9 +23,11 @@ use Rattle.surgery.specs.Spin.{spin, spin-next, spin-prev, spin-inj}
 unfoldable pub apart : ℕ → ℕ → Bool
 apart e d = not (eqb (edgeOf d) e)
 
+-- R has the edge e, and R′ is R without it. Which vertices are alone in R′ follows, where both are lawful.
 pub record Without (R : Rotation) (e : ℕ) (R′ : Rotation) : Type 0 where
   pub here : R .live (2 * e) ≡ true
   pub live : (d : ℕ) → R′ .live d ≡ (R .live d && apart e d)
+  -- the edge's two darts are taken out of the cycle of their vertex
   pub next : (d : ℕ) → R′ .next d ≡ bypass (bypass (R .next) (2 * e)) (2 * e + 1) d
   pub turns : (d : ℕ) → R′ .live d ≡ true → R′ .turns d % 2 ≡ R .turns d % 2
   pub from : (d : ℕ) → R′ .live d ≡ true → R′ .from d ≡ R .from d

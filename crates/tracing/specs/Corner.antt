@@ -242,7 +242,7 @@ module _ (R : Rotation) (L : Lawful R) where
       ap (faceOf R) (omega arith)
 
   -- along one orbit and to the other sense of the same
-  both-ways : (x y : ℕ) → On places (on R) x → Reach (trace R) x y → Reach (trace R) x (flip R y) → ⊥
+  pub both-ways : (x y : ℕ) → On places (on R) x → Reach (trace R) x y → Reach (trace R) x (flip R y) → ⊥
   both-ways x y o r s =
       let E = tracing-mirror R L (on R) (whole R L) in
       no-self E (reach-on (mirror-world E) o r) (reach-trans (reach-sym (mirror-world E .perm) (o .lt) r) s)

@@ -22,3 +22,4 @@ pub mod Present
 pub mod Meeting
 pub mod EdgeSteps
 pub mod Sides
+pub mod SidesFound

@@ -16,7 +16,8 @@ use Rattle.table.specs.Lawful.{rev-rev, rev-low}
 use Rattle.orbits.specs.Truth.{truth, holds, fails, clash}
 use Rattle.orbits.specs.Count.{more}
 use Rattle.orbits.specs.Reach.{Reach, reach-here, reach-one, reach-step, reach-trans, reach-sym, reach-ind}
-use Rattle.orbits.specs.Mirror.{Mirror, mirror-world, mirror-reach}
+use Rattle.orbits.specs.Orbits.{On}
+use Rattle.orbits.specs.Mirror.{mirror-world}
 use Rattle.orbits.specs.Faces.{Face, along, mirrored}
 use Rattle.tracing.specs.declared.meeting.Sides.{Sides}
 use Rattle.tracing.specs.declared.meeting.Sides.the-variants.{TwoFaces, BothDarts, SameDart}
@@ -27,6 +28,8 @@ use Rattle.tracing.specs.Listing.{has, has-here}
 use Rattle.tracing.specs.Has.{has-empty, has-cons, has-head, here, later, has-tail, countIn, times, times-none}
 use Rattle.tracing.specs.Mirrored.{whole, mirrored as tracing-mirror}
 use Rattle.tracing.specs.Meets.{has-walk, walk-has, trace-reach}
+use Rattle.tracing.specs.Once.{step-on}
+use Rattle.tracing.specs.Corner.{both-ways}
 use Rattle.tracing.specs.Twice.{listedSteps, sense, this, other, step-times, one-way}
 use Rattle.tracing.specs.Edges.{onEdge, edge-twice, back-edge}
 use Rattle.tracing.specs.EdgeSteps.{four, itself, way-back, other-type, other-back, back-flip, again-all, along-all}
@@ -304,3 +307,32 @@ module _ (R : Rotation) (L : Lawful R) where
       none-back q m (mirrored r) =
           let turn : back R two ≡ rev one = ap (back R) q ∙ back-back R L (rev one) in
           unlisted (rw turn (again-all R L (4 * e) one low (sym to-first) (flip-again e low r)))
+
+  first-on : (e : ℕ) → R .live (2 * e) ≡ true → On places (on R) (4 * e)
+  first-on e l =
+      let low = L .dart-low (2 * e) l in
+      let half : 4 * e / 2 ≡ 2 * e = omega arith in
+      step-on R L (4 * e) (omega arith) (rw half l)
+
+  -- the three cases, the other way round
+
+  pub sides-both : (e : ℕ) → R .live (2 * e) ≡ true → Reach (trace R) (4 * e) (across R e) → sidesOf R e ≡ BothDarts
+  sides-both e l r = elim (sides-case e l) [
+    | both-darts q s ↦ q
+    | same-dart q s ↦ absurd (both-ways R L (4 * e) (across R e) (first-on e l) r s)
+    | two-faces q n ↦ absurd (n (along r))
+  ]
+
+  pub sides-same : (e : ℕ) → R .live (2 * e) ≡ true → Reach (trace R) (4 * e) (flip R (across R e)) → sidesOf R e ≡ SameDart
+  sides-same e l r = elim (sides-case e l) [
+    | both-darts q s ↦ absurd (both-ways R L (4 * e) (across R e) (first-on e l) s r)
+    | same-dart q s ↦ q
+    | two-faces q n ↦ absurd (n (mirrored r))
+  ]
+
+  pub sides-two : (e : ℕ) → R .live (2 * e) ≡ true → (Face (trace R) (flip R) (4 * e) (across R e) → ⊥) → sidesOf R e ≡ TwoFaces
+  sides-two e l n = elim (sides-case e l) [
+    | both-darts q s ↦ absurd (n (along s))
+    | same-dart q s ↦ absurd (n (mirrored s))
+    | two-faces q m ↦ q
+  ]

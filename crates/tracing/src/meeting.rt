@@ -2,10 +2,13 @@
 use crate::corner::LONE;
 use crate::step::mirror;
 use crate::step::step;
+use table::layout::EDGE;
 ghost use mathlib.Core.Path.{_≡_};
 ghost use Rattle.table.specs.Rotation.{rotation};
 ghost use Rattle.tracing.specs.Corner.{meetingOf};
 ghost use Rattle.tracing.specs.Meeting.{Corners};
+ghost use Rattle.tracing.specs.Sides.{sidesOf};
+ghost use Rattle.tracing.specs.SidesFound.{LiveEdge};
 ghost use Rattle.tracing.specs.Stands.{Stands};
 ghost use Rattle.tracing.specs.Search.{Found};
 
@@ -66,4 +69,21 @@ pub fn meet(t: &[u16], a: u16, b: u16) -> Meeting
         return Meeting::OtherType;
     }
     Meeting::Apart
+}
+
+// How the two sides of the live edge e lie.
+pub fn sides_of(t: &[u16], e: usize) -> Sides
+    requires { ⌜ LiveEdge (now t) e ⌝ }
+    ensures { λ r. ⌜ r ≡ sidesOf (rotation (now (t .entry))) e ⌝ }
+{
+    let x = 4 * (e as u16);
+    let y = x + 2 + t[EDGE + e] % 2;
+    let r = find(t, x, x + 1, y);
+    if r == x + 1 {
+        return Sides::SameDart;
+    }
+    if r == y {
+        return Sides::BothDarts;
+    }
+    Sides::TwoFaces
 }

@@ -61,23 +61,24 @@ module _ (t : List ℕ) (g : Good t) (e : ℕ) (h : e < edges) (on : edgeWord t 
   live-left : (d : ℕ) → live? (deleted t e) d ≡ left d
   live-left d = same-truth (live? (deleted t e) d) (left d)
       (λ l.
-        let v = live-yes (deleted t e) d l in
-        let low = v .low in
-        let n : edgeOf d ≢ e = λ q. v .on (ap (edgeWord (deleted t e)) q ∙ deleted-own) in
-        means-left d (yes-live t d (record { low = low; on = rw (deleted-other (edgeOf d) (omega arith) n) at (v .on) })) n)
+      let v = live-yes (deleted t e) d l in
+      let low = v .low in
+      let n : edgeOf d ≢ e = λ q. v .on (ap (edgeWord (deleted t e)) q ∙ deleted-own) in
+      means-left d (yes-live t d (record { low = low; on = rw (deleted-other (edgeOf d) (omega arith) n) at (v .on) })) n)
       (λ l.
-        let m = left-means d l in
-        let v = live-yes t d (m .0) in
-        let low = v .low in
-        yes-live (deleted t e) d (record { low = low; on = rw (deleted-other (edgeOf d) (omega arith) (m .1)) (v .on) }))
+      let m = left-means d l in
+      let v = live-yes t d (m .0) in
+      let low = v .low in
+      yes-live (deleted t e) d (record { low = low; on = rw (deleted-other (edgeOf d) (omega arith) (m .1)) (v .on) }))
 
   same-live : left ≡ live? (deleted t e)
   same-live = fun-ext (λ d. sym (live-left d))
 
   turns-low : (i : ℕ) → i < edges → edgeWord (deleted t e) i ≤ 199
   turns-low i l = elim (ℕ-discrete i e) [
-      | yes q ↦ rw (q, deleted-own) (omega arith)
-      | no n ↦ rw (deleted-other i l n) (g .turns i l) ]
+    | yes q ↦ rw (q, deleted-own) (omega arith)
+    | no n ↦ rw (deleted-other i l n) (g .turns i l)
+  ]
 
   pub deleted-good : Good (deleted t e)
   deleted-good = held-good (deleted t e) (subst (λ L. Held (deleted t e) L) same-live (edge-held bare left (twice .held) e 0 h)) turns-low
@@ -105,14 +106,15 @@ module _ (t : List ℕ) (g : Good t) (e : ℕ) (h : e < edges) (on : edgeWord t 
   pub deleted-without : Without (rotation t) e (rotation (deleted t e))
   unfolding turnsOf
   deleted-without = record {
-      here = own (2 * e) (omega arith) (omega arith);
-      live = λ d. live-left d ∙ same-truth (left d) (live? t d && apart e d)
+    here = own (2 * e) (omega arith) (omega arith);
+    live = λ d. live-left d ∙ same-truth (left d) (live? t d && apart e d)
         (λ l. let m = left-means d l in both (m .0) (apart-other e d (m .1)))
         (λ l. means-left d (both-left (live? t d) (apart e d) l) (λ q. clash (both-right (live? t d) (apart e d) l) (apart-own e d q)));
-      next = deleted-next;
-      turns = λ d l.
+    next = deleted-next;
+    turns = λ d l.
         let m = left-means d (sym (live-left d) ∙ l) in
         let low = live-yes t d (m .0) .low in
         ap (λ w. w % 2) (deleted-other (edgeOf d) (omega arith) (m .1));
-      from = deleted-from;
-      there = deleted-there }
+    from = deleted-from;
+    there = deleted-there;
+  }

@@ -75,12 +75,14 @@ module _ (t : List ℕ) (L : ℕ → Bool) (H : Held t L) (x : ℕ) where
   -- an isolated vertex stays so, unless the dart was put there
   pub still-isolated : (u : List ℕ) → Grown t u L x → (v : ℕ) → v < vertices → vertexWord t v ≡ isolated → leaves u x ≢ v → vertexWord u v ≡ isolated
   still-isolated u G v h i n = elim (ℕ-discrete (vertexWord u v) isolated) [
-      | yes j ↦ j
-      | no j ↦
-          let s = G .held .smallest v h (λ z. let y : isolated ≡ nothing = sym i ∙ G .there v h .0 z in omega arith) j in
-          absurd (elim (plus-case L x (vertexWord u v) (s .live)) [
+    | yes j ↦ j
+    | no j ↦
+        let s = G .held .smallest v h (λ z. let y : isolated ≡ nothing = sym i ∙ G .there v h .0 z in omega arith) j in
+        absurd (elim (plus-case L x (vertexWord u v) (s .live)) [
           | new q ↦ n (ap (leaves u) (sym q) ∙ s .here)
-          | old m l ↦ H .alone v h i _ l (sym (G .from _ (H .low _ l) m) ∙ s .here) ]) ]
+          | old m l ↦ H .alone v h i _ l (sym (G .from _ (H .low _ l) m) ∙ s .here)
+        ])
+  ]
 
   taken-reads : L x ≡ true → Reads (taken t x) (upd (upd (nextWord t) (prevWord t x) (nextWord t x)) x nothing) (upd (upd (prevWord t) (nextWord t x) (prevWord t x)) x nothing) (upd (leaves t) x nothing) (edgeWord t) (vertexWord t)
   taken-reads on = reads-cut t (H .size) x (nextWord t x) (prevWord t x) (H .low x on) (H .low _ (H .next-live x on)) (H .low _ (H .prev-live x on))
@@ -99,8 +101,10 @@ module _ (t : List ℕ) (L : ℕ → Bool) (H : Held t L) (x : ℕ) where
     where
       to-seek : vertexWord t (leaves t x) ≡ x → successor (taken t x) (leaves t x) x (vertexWord t (leaves t x)) ≡ seek (taken t x) (leaves t x) x (darts - x)
       to-seek e = ap (λ b. choose b (seek (taken t x) (leaves t x) x (darts - x)) (vertexWord t (leaves t x))) (eq-eqb (vertexWord t (leaves t x)) x e)
+
       same : (j : ℕ) → j < darts → leaves (unlink t x) j ≡ leaves (taken t x) j
       same j h = leaves-vertex (taken t x) (leaves t x) _ j h
+
       over : {w : ℕ} → Sought (taken t x) (leaves t x) x (darts - x) w → Sought (unlink t x) (leaves t x) x (darts - x) w
       over {w} (found h b q least) =
           let low = H .low x on in
@@ -120,5 +124,6 @@ module _ (t : List ℕ) (L : ℕ → Bool) (H : Held t L) (e w : ℕ) (h : e < e
 
   pub edge-next : (d : ℕ) → nextIn (setEdge t e w) L d ≡ nextIn t L d
   edge-next d = elim (truth (L d)) [
-      | holds l ↦ next-in (setEdge t e w) L d l ∙ next-edge t e w d (H .low d l) ∙ sym (next-in t L d l)
-      | fails f ↦ next-out (setEdge t e w) L d f ∙ sym (next-out t L d f) ]
+    | holds l ↦ next-in (setEdge t e w) L d l ∙ next-edge t e w d (H .low d l) ∙ sym (next-in t L d l)
+    | fails f ↦ next-out (setEdge t e w) L d f ∙ sym (next-out t L d f)
+  ]

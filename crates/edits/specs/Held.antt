@@ -111,24 +111,25 @@ module _ (t u : List ℕ) (L : ℕ → Bool) (H : Held t L) (size : length u ≡
 
   pub held-kept : Held u L
   held-kept = record {
-      size = size;
-      low = H .low;
-      bare = λ d h e.
+    size = size;
+    low = H .low;
+    bare = λ d h e.
         let b = H .bare d h e in
         record { next-none = next d h ∙ b .next-none; prev-none = prev d h ∙ b .prev-none; leaves-none = from d h ∙ b .leaves-none };
-      leaves-low = λ d e. rw (at d e) (H .leaves-low d e);
-      leaves-live = λ d e. rw (at d e, vertex (leaves t d) (H .leaves-low d e)) (H .leaves-live d e);
-      next-live = λ d e. rw (next d (H .low d e)) (H .next-live d e);
-      prev-live = λ d e. rw (prev d (H .low d e)) (H .prev-live d e);
-      prev-next = λ d e. rw (next d (H .low d e)) (prev _ (H .low _ (H .next-live d e)) ∙ H .prev-next d e);
-      next-prev = λ d e. rw (prev d (H .low d e)) (next _ (H .low _ (H .prev-live d e)) ∙ H .next-prev d e);
-      next-leaves = λ d e. rw (next d (H .low d e)) (at _ (H .next-live d e) ∙ H .next-leaves d e ∙ sym (at d e));
-      one-cycle = λ d k e f q. reach-kept d k e (H .one-cycle d k e f (sym (at d e) ∙ q ∙ at k f));
-      alone = λ v h i d e q. H .alone v h (sym (vertex v h) ∙ i) d e (sym (at d e) ∙ q);
-      smallest = λ v h n i.
+    leaves-low = λ d e. rw (at d e) (H .leaves-low d e);
+    leaves-live = λ d e. rw (at d e, vertex (leaves t d) (H .leaves-low d e)) (H .leaves-live d e);
+    next-live = λ d e. rw (next d (H .low d e)) (H .next-live d e);
+    prev-live = λ d e. rw (prev d (H .low d e)) (H .prev-live d e);
+    prev-next = λ d e. rw (next d (H .low d e)) (prev _ (H .low _ (H .next-live d e)) ∙ H .prev-next d e);
+    next-prev = λ d e. rw (prev d (H .low d e)) (next _ (H .low _ (H .prev-live d e)) ∙ H .next-prev d e);
+    next-leaves = λ d e. rw (next d (H .low d e)) (at _ (H .next-live d e) ∙ H .next-leaves d e ∙ sym (at d e));
+    one-cycle = λ d k e f q. reach-kept d k e (H .one-cycle d k e f (sym (at d e) ∙ q ∙ at k f));
+    alone = λ v h i d e q. H .alone v h (sym (vertex v h) ∙ i) d e (sym (at d e) ∙ q);
+    smallest = λ v h n i.
         let same = vertex v h in
         let s = H .smallest v h (rw same at n) (rw same at i) in
-        rw same (record { live = s .live; here = at _ (s .live) ∙ s .here; least = λ k e q. s .least k e (sym (at k e) ∙ q) }) }
+        rw same (record { live = s .live; here = at _ (s .live) ∙ s .here; least = λ k e q. s .least k e (sym (at k e) ∙ q) });
+  }
 
 -- a table is told by its next words, the vertices that its darts leave, its edge words and which vertices are live
 module _ (t u : List ℕ) (L : ℕ → Bool) (H : Held t L) (K : Held u L) (next : (d : ℕ) → L d ≡ true → nextWord u d ≡ nextWord t d)
@@ -142,21 +143,23 @@ module _ (t u : List ℕ) (L : ℕ → Bool) (H : Held t L) (K : Held u L) (next
 
   dart-same : (d : ℕ) → d < darts → (nextWord u d ≡ nextWord t d) × (prevWord u d ≡ prevWord t d) × (leaves u d ≡ leaves t d)
   dart-same d h = elim (truth (L d)) [
-      | holds e ↦ (next d e, prev-same d e, from d e)
-      | fails e ↦
-          let b = H .bare d h e in
-          let c = K .bare d h e in
-          (c .next-none ∙ sym (b .next-none), c .prev-none ∙ sym (b .prev-none), c .leaves-none ∙ sym (b .leaves-none)) ]
+    | holds e ↦ (next d e, prev-same d e, from d e)
+    | fails e ↦
+        let b = H .bare d h e in
+        let c = K .bare d h e in
+        (c .next-none ∙ sym (b .next-none), c .prev-none ∙ sym (b .prev-none), c .leaves-none ∙ sym (b .leaves-none))
+  ]
 
   vertex-same : (v : ℕ) → v < vertices → vertexWord u v ≡ vertexWord t v
   vertex-same v h = elim (ℕ-discrete (vertexWord t v) nothing) [
-      | yes z ↦ there v h .1 z ∙ sym z
-      | no n ↦
-          let m : vertexWord u v ≢ nothing = λ z. n (there v h .0 z) in
-          elim (ℕ-discrete (vertexWord t v) isolated) [
+    | yes z ↦ there v h .1 z ∙ sym z
+    | no n ↦
+        let m : vertexWord u v ≢ nothing = λ z. n (there v h .0 z) in
+        elim (ℕ-discrete (vertexWord t v) isolated) [
           | yes i ↦ elim (ℕ-discrete (vertexWord u v) isolated) [
             | yes j ↦ j ∙ sym i
-            | no j ↦ let s = K .smallest v h m j in absurd (H .alone v h i _ (s .live) (sym (from _ (s .live)) ∙ s .here)) ]
+            | no j ↦ let s = K .smallest v h m j in absurd (H .alone v h i _ (s .live) (sym (from _ (s .live)) ∙ s .here))
+          ]
           | no i ↦ elim (ℕ-discrete (vertexWord u v) isolated) [
             | yes j ↦ let s = H .smallest v h n i in absurd (K .alone v h j _ (s .live) (from _ (s .live) ∙ s .here))
             | no j ↦
@@ -164,7 +167,10 @@ module _ (t u : List ℕ) (L : ℕ → Bool) (H : Held t L) (K : Held u L) (next
                 let b = H .smallest v h n i in
                 let p = a .least _ (b .live) (from _ (b .live) ∙ b .here) in
                 let q = b .least _ (a .live) (sym (from _ (a .live)) ∙ a .here) in
-                omega arith ] ] ]
+                omega arith
+          ]
+        ]
+  ]
 
   pub held-same : u ≡ t
   held-same = same-words u t (K .size) (H .size) dart-same edge vertex-same

@@ -52,8 +52,9 @@ module _ (t : List ℕ) (g : Good t) (e c₁ c₂ w : ℕ) (h : e < edges) (off 
 
   corner : Corner half (plus (live? t) (2 * e + 1)) (firstCorner e c₁ c₂)
   corner = elim (ℕ-discrete c₁ c₂) [
-      | yes q ↦ rw (eq-eqb c₁ c₂ q) (at-dart (plus-new (live? t) (2 * e + 1)))
-      | no n ↦ rw (ne-eqb c₁ c₂ n) (by n C₁) ]
+    | yes q ↦ rw (eq-eqb c₁ c₂ q) (at-dart (plus-new (live? t) (2 * e + 1)))
+    | no n ↦ rw (ne-eqb c₁ c₂ n) (by n C₁)
+  ]
     where
       by : c₁ ≢ c₂ → Corner t (live? t) c₁ → Corner half (plus (live? t) (2 * e + 1)) c₁
       by n (at-dart o) = at-dart (plus-old (live? t) (2 * e + 1) c₁ (λ q. clash (rw q at o) (free (2 * e + 1) (omega arith))) ∙ o)
@@ -84,28 +85,32 @@ module _ (t : List ℕ) (g : Good t) (e c₁ c₂ w : ℕ) (h : e < edges) (off 
 
   more-means : (d : ℕ) → more d ≡ true → More d
   more-means d m = elim (plus-case (plus (live? t) (2 * e + 1)) (2 * e) d m) [
+    | new q ↦ ours (omega arith) (omega arith)
+    | old n o ↦ elim (plus-case (live? t) (2 * e + 1) d o) [
       | new q ↦ ours (omega arith) (omega arith)
-      | old n o ↦ elim (plus-case (live? t) (2 * e + 1) d o) [
-        | new q ↦ ours (omega arith) (omega arith)
-        | old k l ↦ theirs (omega arith) l ] ]
+      | old k l ↦ theirs (omega arith) l
+    ]
+  ]
 
   means-more : (d : ℕ) → More d → more d ≡ true
   means-more d (ours q l) = elim (ℕ-discrete d (2 * e)) [
-      | yes s ↦ rw s (plus-new (plus (live? t) (2 * e + 1)) (2 * e))
-      | no n ↦
-          let s : d ≡ 2 * e + 1 = omega arith in
-          plus-old (plus (live? t) (2 * e + 1)) (2 * e) d n ∙ ap (plus (live? t) (2 * e + 1)) s ∙ plus-new (live? t) (2 * e + 1) ]
+    | yes s ↦ rw s (plus-new (plus (live? t) (2 * e + 1)) (2 * e))
+    | no n ↦
+        let s : d ≡ 2 * e + 1 = omega arith in
+        plus-old (plus (live? t) (2 * e + 1)) (2 * e) d n ∙ ap (plus (live? t) (2 * e + 1)) s ∙ plus-new (live? t) (2 * e + 1)
+  ]
   means-more d (theirs n l) =
       plus-old (plus (live? t) (2 * e + 1)) (2 * e) d (omega arith) ∙ plus-old (live? t) (2 * e + 1) d (omega arith) ∙ l
 
   live-more : (d : ℕ) → live? result d ≡ more d
   live-more d = same-truth (live? result d) (more d)
       (λ l.
-        let v = live-yes result d l in
-        let low = v .low in
-        means-more d (elim (ℕ-discrete (edgeOf d) e) [
+      let v = live-yes result d l in
+      let low = v .low in
+      means-more d (elim (ℕ-discrete (edgeOf d) e) [
         | yes q ↦ ours q low
-        | no n ↦ theirs n (yes-live t d (record { low = low; on = rw (inserted-other (edgeOf d) (omega arith) n) at (v .on) })) ]))
+        | no n ↦ theirs n (yes-live t d (record { low = low; on = rw (inserted-other (edgeOf d) (omega arith) n) at (v .on) }))
+      ]))
       (λ m. by (more-means d m))
     where
       by : More d → live? result d ≡ true
@@ -120,8 +125,9 @@ module _ (t : List ℕ) (g : Good t) (e c₁ c₂ w : ℕ) (h : e < edges) (off 
 
   turns-low : (i : ℕ) → i < edges → edgeWord result i ≤ 199
   turns-low i l = elim (ℕ-discrete i e) [
-      | yes q ↦ rw (q, inserted-own) few
-      | no n ↦ rw (inserted-other i l n) (g .turns i l) ]
+    | yes q ↦ rw (q, inserted-own) few
+    | no n ↦ rw (inserted-other i l n) (g .turns i l)
+  ]
 
   pub inserted-good : Good result
   inserted-good = held-good result (subst (λ L. Held result L) same-live (edge-held full more (first .held) e w h)) turns-low
@@ -151,14 +157,15 @@ module _ (t : List ℕ) (g : Good t) (e c₁ c₂ w : ℕ) (h : e < edges) (off 
   pub inserted-without : Without (rotation result) e (rotation t)
   unfolding turnsOf
   inserted-without = record {
-      here = live-more (2 * e) ∙ means-more (2 * e) (ours (omega arith) (omega arith));
-      live = λ d. same-truth (live? t d) (live? result d && apart e d)
+    here = live-more (2 * e) ∙ means-more (2 * e) (ours (omega arith) (omega arith));
+    live = λ d. same-truth (live? t d) (live? result d && apart e d)
         (λ l. both (live-more d ∙ means-more d (theirs (not-own d l) l)) (apart-other e d (not-own d l)))
         (λ l. by d (more-means d (sym (live-more d) ∙ both-left (live? result d) (apart e d) l)) (both-right (live? result d) (apart e d) l));
-      next = inserted-next;
-      turns = λ d l. let low = live-yes t d l .low in ap (λ k. k % 2) (sym (inserted-other (edgeOf d) (omega arith) (not-own d l)));
-      from = λ d l. inserted-from d l (not-own d l);
-      there = inserted-there }
+    next = inserted-next;
+    turns = λ d l. let low = live-yes t d l .low in ap (λ k. k % 2) (sym (inserted-other (edgeOf d) (omega arith) (not-own d l)));
+    from = λ d l. inserted-from d l (not-own d l);
+    there = inserted-there;
+  }
     where
       by : (d : ℕ) → More d → apart e d ≡ true → live? t d ≡ true
       by d (ours q l) a = absurd (clash a (apart-own e d q))

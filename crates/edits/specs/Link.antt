@@ -281,18 +281,21 @@ module _ (t u : List ℕ) (L : ℕ → Bool) (H : Held t L) (x d p v w : ℕ) (f
 
   before-next : (j : ℕ) → nextIn t L j ≡ bypass (nextIn u (plus L x)) x j
   before-next j = elim (ℕ-discrete j x) [
-      | yes q ↦ rw q (next-out t L x free ∙ sym (bypass-self (nextIn u (plus L x)) x))
-      | no n ↦ elim (truth (L j)) [
-        | fails f ↦
-            let e = next-out u (plus L x) j (plus-old L x j n ∙ f) in
-            next-out t L j f ∙ sym (bypass-off (nextIn u (plus L x)) x j n (rw e n) ∙ e)
-        | holds l ↦ elim (ℕ-discrete j p) [
-          | yes q ↦
-              let e : nextIn u (plus L x) p ≡ x = next-in u (plus L x) p (grow p p-on) ∙ next-p in
-              rw q (next-in t L p p-on ∙ p-next ∙ sym (bypass-into (nextIn u (plus L x)) x p (not-x p p-on) e ∙ next-in u (plus L x) x (plus-new L x) ∙ next-x))
-          | no m ↦
-              let e : nextIn u (plus L x) j ≡ nextWord t j = next-in u (plus L x) j (grow j l) ∙ next-other j (H .low j l) n m in
-              next-in t L j l ∙ sym (bypass-off (nextIn u (plus L x)) x j n (rw e (not-x _ (H .next-live j l))) ∙ e) ] ] ]
+    | yes q ↦ rw q (next-out t L x free ∙ sym (bypass-self (nextIn u (plus L x)) x))
+    | no n ↦ elim (truth (L j)) [
+      | fails f ↦
+          let e = next-out u (plus L x) j (plus-old L x j n ∙ f) in
+          next-out t L j f ∙ sym (bypass-off (nextIn u (plus L x)) x j n (rw e n) ∙ e)
+      | holds l ↦ elim (ℕ-discrete j p) [
+        | yes q ↦
+            let e : nextIn u (plus L x) p ≡ x = next-in u (plus L x) p (grow p p-on) ∙ next-p in
+            rw q (next-in t L p p-on ∙ p-next ∙ sym (bypass-into (nextIn u (plus L x)) x p (not-x p p-on) e ∙ next-in u (plus L x) x (plus-new L x) ∙ next-x))
+        | no m ↦
+            let e : nextIn u (plus L x) j ≡ nextWord t j = next-in u (plus L x) j (grow j l) ∙ next-other j (H .low j l) n m in
+            next-in t L j l ∙ sym (bypass-off (nextIn u (plus L x)) x j n (rw e (not-x _ (H .next-live j l))) ∙ e)
+      ]
+    ]
+  ]
 
   -- where x stands
   pub before-seat : (leaves u x ≡ v) × (nextWord u x ≡ d)
@@ -300,15 +303,18 @@ module _ (t u : List ℕ) (L : ℕ → Bool) (H : Held t L) (x d p v w : ℕ) (f
 
   pub before-grown : Grown t u L x
   before-grown = record {
-      held = before-held;
-      next = before-next;
-      from = leaves-other;
-      edge = r .edge-is;
-      there = λ b h. elim (ℕ-discrete b v) [
-        | yes q ↦ (
-            λ z. let e : w ≡ nothing = sym vertex-v ∙ ap (vertexWord u) (sym q) ∙ z in let l = w-low in absurd (omega arith),
-            λ z. absurd (rw at at (H .leaves-live d on) (ap (vertexWord t) (sym q) ∙ z)))
-        | no m ↦ let e = vertex-other b h m in (λ z. sym e ∙ z, λ z. e ∙ z) ] }
+    held = before-held;
+    next = before-next;
+    from = leaves-other;
+    edge = r .edge-is;
+    there = λ b h. elim (ℕ-discrete b v) [
+      | yes q ↦ (
+        λ z. let e : w ≡ nothing = sym vertex-v ∙ ap (vertexWord u) (sym q) ∙ z in let l = w-low in absurd (omega arith),
+        λ z. absurd (rw at at (H .leaves-live d on) (ap (vertexWord t) (sym q) ∙ z)),
+      )
+      | no m ↦ let e = vertex-other b h m in (λ z. sym e ∙ z, λ z. e ∙ z)
+    ];
+  }
 
 -- Alone at an isolated vertex v.
 module _ (t u : List ℕ) (L : ℕ → Bool) (H : Held t L) (x v : ℕ) (free : L x ≡ false) (low : x < darts) (v-low : v < vertices) (bare : vertexWord t v ≡ isolated)
@@ -452,26 +458,31 @@ module _ (t u : List ℕ) (L : ℕ → Bool) (H : Held t L) (x v : ℕ) (free : 
 
   alone-next : (j : ℕ) → nextIn t L j ≡ bypass (nextIn u (plus L x)) x j
   alone-next j = elim (ℕ-discrete j x) [
-      | yes q ↦ rw q (next-out t L x free ∙ sym (bypass-self (nextIn u (plus L x)) x))
-      | no n ↦ elim (truth (L j)) [
-        | fails f ↦
-            let e = next-out u (plus L x) j (plus-old L x j n ∙ f) in
-            next-out t L j f ∙ sym (bypass-off (nextIn u (plus L x)) x j n (rw e n) ∙ e)
-        | holds l ↦
-            let e : nextIn u (plus L x) j ≡ nextWord t j = next-in u (plus L x) j (keep j l) ∙ on-next j l in
-            next-in t L j l ∙ sym (bypass-off (nextIn u (plus L x)) x j n (rw e (lone-not-x _ (H .next-live j l))) ∙ e) ] ]
+    | yes q ↦ rw q (next-out t L x free ∙ sym (bypass-self (nextIn u (plus L x)) x))
+    | no n ↦ elim (truth (L j)) [
+      | fails f ↦
+          let e = next-out u (plus L x) j (plus-old L x j n ∙ f) in
+          next-out t L j f ∙ sym (bypass-off (nextIn u (plus L x)) x j n (rw e n) ∙ e)
+      | holds l ↦
+          let e : nextIn u (plus L x) j ≡ nextWord t j = next-in u (plus L x) j (keep j l) ∙ on-next j l in
+          next-in t L j l ∙ sym (bypass-off (nextIn u (plus L x)) x j n (rw e (lone-not-x _ (H .next-live j l))) ∙ e)
+    ]
+  ]
 
   pub alone-seat : (leaves u x ≡ v) × (nextWord u x ≡ x)
   alone-seat = (lone-leaves, lone-next)
 
   pub alone-grown : Grown t u L x
   alone-grown = record {
-      held = alone-held;
-      next = alone-next;
-      from = leaves-off;
-      edge = r .edge-is;
-      there = λ b h. elim (ℕ-discrete b v) [
-        | yes q ↦ (
-            λ z. let e : x ≡ nothing = sym lone-vertex ∙ ap (vertexWord u) (sym q) ∙ z in absurd (omega arith),
-            λ z. let e : isolated ≡ nothing = sym bare ∙ ap (vertexWord t) (sym q) ∙ z in absurd (omega arith))
-        | no m ↦ let e = vertex-off b h m in (λ z. sym e ∙ z, λ z. e ∙ z) ] }
+    held = alone-held;
+    next = alone-next;
+    from = leaves-off;
+    edge = r .edge-is;
+    there = λ b h. elim (ℕ-discrete b v) [
+      | yes q ↦ (
+        λ z. let e : x ≡ nothing = sym lone-vertex ∙ ap (vertexWord u) (sym q) ∙ z in absurd (omega arith),
+        λ z. let e : isolated ≡ nothing = sym bare ∙ ap (vertexWord t) (sym q) ∙ z in absurd (omega arith),
+      )
+      | no m ↦ let e = vertex-off b h m in (λ z. sym e ∙ z, λ z. e ∙ z)
+    ];
+  }

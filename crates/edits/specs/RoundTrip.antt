@@ -38,13 +38,15 @@ module _ (t : List ℕ) (g : Good t) (e c₁ c₂ w : ℕ) (h : e < edges) (off 
 
   word-back : (v : ℕ) (s u : List ℕ) → v < vertices → there? s v ≡ there? u v → vertexWord s v ≡ nothing → vertexWord u v ≡ nothing
   word-back v s u l q z = elim (ℕ-discrete (vertexWord u v) nothing) [
-      | yes y ↦ y
-      | no n ↦ absurd (there-word s v (q ∙ there-yes u v l n) .1 z) ]
+    | yes y ↦ y
+    | no n ↦ absurd (there-word s v (q ∙ there-yes u v l n) .1 z)
+  ]
 
   edge-back : (i : ℕ) → i < edges → edgeWord there-and-back i ≡ edgeWord t i
   edge-back i l = elim (ℕ-discrete i e) [
-      | yes q ↦ rw q (deleted-own (inserted t e c₁ c₂ w) good e h on ∙ sym off)
-      | no n ↦ deleted-other (inserted t e c₁ c₂ w) good e h on i l n ∙ inserted-other t g e c₁ c₂ w h off some few C₁ C₂ i l n ]
+    | yes q ↦ rw q (deleted-own (inserted t e c₁ c₂ w) good e h on ∙ sym off)
+    | no n ↦ deleted-other (inserted t e c₁ c₂ w) good e h on i l n ∙ inserted-other t g e c₁ c₂ w h off some few C₁ C₂ i l n
+  ]
 
   pub deleted-inserted : deleted (inserted t e c₁ c₂ w) e ≡ t
   deleted-inserted = held-same t there-and-back (live? t) (good-held t g)

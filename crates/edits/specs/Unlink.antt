@@ -354,15 +354,15 @@ module _ (t u : List ℕ) (L : ℕ → Bool) (H : Held t L) (x n p v w : ℕ) (o
 
   out-next : (j : ℕ) → nextIn u (without L x) j ≡ bypass (nextIn t L) x j
   out-next j = elim (ℕ-discrete j x) [
-      | yes q ↦ rw q (next-out u (without L x) x (without-at L x) ∙ sym (bypass-self (nextIn t L) x))
-      | no a ↦ elim (truth (L j)) [
-        | fails f ↦
-            let e = next-out t L j f in
-            next-out u (without L x) j (without-other L x j a ∙ f) ∙ sym (bypass-off (nextIn t L) x j a (rw e a) ∙ e)
-        | holds l ↦
-            let left : Left j = record { live = l; other = a } in
-            let s = next-in u (without L x) j (of-left j left) in
-            elim (ℕ-discrete j p) [
+    | yes q ↦ rw q (next-out u (without L x) x (without-at L x) ∙ sym (bypass-self (nextIn t L) x))
+    | no a ↦ elim (truth (L j)) [
+      | fails f ↦
+          let e = next-out t L j f in
+          next-out u (without L x) j (without-other L x j a ∙ f) ∙ sym (bypass-off (nextIn t L) x j a (rw e a) ∙ e)
+      | holds l ↦
+          let left : Left j = record { live = l; other = a } in
+          let s = next-in u (without L x) j (of-left j left) in
+          elim (ℕ-discrete j p) [
             | yes q ↦
                 let m : p ≢ x = rw q at a in
                 let e : nextIn t L j ≡ x = next-in t L j l ∙ ap (nextWord t) q ∙ p-next in
@@ -370,19 +370,25 @@ module _ (t u : List ℕ) (L : ℕ → Bool) (H : Held t L) (x n p v w : ℕ) (o
             | no b ↦
                 let e = next-in t L j l in
                 let n-x : nextWord t j ≢ x = λ q. b (sym (H .prev-next j l) ∙ ap (prevWord t) q ∙ before) in
-                s ∙ next-other j (H .low j l) a b ∙ sym (bypass-off (nextIn t L) x j a (rw e n-x) ∙ e) ] ] ]
+                s ∙ next-other j (H .low j l) a b ∙ sym (bypass-off (nextIn t L) x j a (rw e n-x) ∙ e)
+          ]
+    ]
+  ]
 
   pub out-shrunk : Shrunk t u L x
   out-shrunk = record {
-      held = out-held;
-      next = out-next;
-      from = leaves-other;
-      edge = r .edge-is;
-      there = λ b h. elim (ℕ-discrete b v) [
-        | yes q ↦ (
-            λ z. absurd (word-there word-after (sym vertex-v ∙ ap (vertexWord u) (sym q) ∙ z)),
-            λ z. absurd (rw at at (H .leaves-live x on) (ap (vertexWord t) (sym q) ∙ z)))
-        | no m ↦ let e = vertex-other b h m in (λ z. sym e ∙ z, λ z. e ∙ z) ] }
+    held = out-held;
+    next = out-next;
+    from = leaves-other;
+    edge = r .edge-is;
+    there = λ b h. elim (ℕ-discrete b v) [
+      | yes q ↦ (
+        λ z. absurd (word-there word-after (sym vertex-v ∙ ap (vertexWord u) (sym q) ∙ z)),
+        λ z. absurd (rw at at (H .leaves-live x on) (ap (vertexWord t) (sym q) ∙ z)),
+      )
+      | no m ↦ let e = vertex-other b h m in (λ z. sym e ∙ z, λ z. e ∙ z)
+    ];
+  }
     where
       word-there : After → w ≡ nothing → ⊥
       word-there (leads _ d) e = omega arith

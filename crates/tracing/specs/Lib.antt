@@ -23,3 +23,4 @@ pub mod Meeting
 pub mod EdgeSteps
 pub mod Sides
 pub mod SidesFound
+pub mod Call

@@ -155,6 +155,7 @@ looked-walk {t} {d} {m} {n} h e f k =
 pub record Measured (t : List ℕ) (r : Size) : Type 0 where
   pub walks : r .walks ≡ faceCount (rotation t)
   pub words : r .words ≡ length (listing (rotation t))
+  pub short : r .words ≤ 8391680
 
 -- a loop over the darts: the corners of the walks that start below d are marked
 pub record Seen (t : List ℕ) (d : ℕ) (m : List ℕ) : Type 0 where
@@ -269,7 +270,10 @@ unfolding faceCount listing faces
 measured {t} {walks} {words} {n} k a =
     let R = rotation t in
     let alone = lone-words R (alones R vertices) in
+    let few = a .few in
+    let most = k .short in
     record {
       walks = rw (length-append, length-map) (ap₂ _+_ (k .count) (a .count));
       words = rw (gather-append, length-append, alone) (ap₂ (λ x y. x + 2 * y) (k .size) (a .count));
+      short = omega arith;
     }

@@ -3,7 +3,7 @@
 use Prim.Native.Nat.{ℕ, _≤_, _<_}
 use native.Mathlib.Nat.{lt-of-lt-of-le}
 use native.Mathlib.Decide.{ℕ-discrete, decLe, decLt, map-dec}
-use mathlib.Core.Path.{_≡_, refl}
+use mathlib.Core.Path.{_≡_, refl, sym}
 use mathlib.Core.Bool.{Bool, true, false, _&&_}
 use mathlib.Core.List.{List}
 use mathlib.Core.Logic.{Dec·and, Dec·not}
@@ -118,14 +118,14 @@ abbrev pub checkOf : List ℕ → Answer
 checkOf t = checkedAs (good? t)
 
 module _ (t : List ℕ) where
-  pub check-good : Good t → Done 0 ≡ checkOf t
-  check-good g = elim (good-case t) [
-    | holds e _ ↦ rw e
+  pub good-yes : Good t → true ≡ good? t
+  good-yes g = elim (good-case t) [
+    | holds e _ ↦ sym e
     | fails e n ↦ absurd (n g)
   ]
 
-  pub check-torn : (Good t → ⊥) → Declined Torn ≡ checkOf t
-  check-torn n = elim (good-case t) [
+  pub good-no : (Good t → ⊥) → false ≡ good? t
+  good-no n = elim (good-case t) [
     | holds e g ↦ absurd (n g)
-    | fails e _ ↦ rw e
+    | fails e _ ↦ sym e
   ]

@@ -1,0 +1,1 @@
+// Over and under: the letters of ribbons, which ribbons alternate, and plain weaves.

@@ -24,3 +24,4 @@ pub mod EdgeSteps
 pub mod Sides
 pub mod SidesFound
 pub mod Call
+pub mod Gathered

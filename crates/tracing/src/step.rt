@@ -12,10 +12,12 @@ fn around(t: &[u16], k: u16, d: usize) -> u16
     requires { ⌜ LiveDart (now t) d ⌝ }
     ensures { λ r. ⌜ r ≡ around (rotation (now (t .entry))) k d ⌝ }
 {
+    let next = t[d];
+    let prev = t[PREV + d];
     if k == 0 {
-        return t[d] * 2;
+        return next * 2;
     }
-    t[PREV + d] * 2 + 1
+    prev * 2 + 1
 }
 
 // The step after s.

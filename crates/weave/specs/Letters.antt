@@ -1,7 +1,7 @@
 -- The letters of a step and of a ribbon, alternating ribbons and plain weaves, document 01, "Over and under".
 -- A letter is the byte that is written for it.
 use Prim.Native.Nat.{ℕ, zero, suc, _+_, _-_, _*_, _/_, _%_}
-use mathlib.Core.Bool.{Bool, true, false, not, _&&_}
+use mathlib.Core.Bool.{Bool, true, not, _&&_}
 use mathlib.Core.List.{List, [], _∷_}
 use lib.Dec.{eqb, ltb}
 use Rattle.table.specs.Layout.{darts, edgeOf, edgeWord}

@@ -1,5 +1,5 @@
 -- A ribbon's letters are those of one strand, which closes: their number is even, and a ribbon alternates exactly if its turned edges turn the same way.
-use Prim.Native.Nat.{ℕ, zero, suc, _+_, _-_, _*_, _/_, _%_, _<_, _≤_}
+use Prim.Native.Nat.{ℕ, zero, suc, _+_, _-_, _%_, _<_}
 use native.Mathlib.Omega.{arith}
 use native.Mathlib.Decide.{ℕ-discrete}
 use mathlib.Core.Path.{_≡_, refl, sym, _∙_, ap, ap₂}
@@ -8,17 +8,17 @@ use mathlib.Core.List.{List, [], _∷_, _++_, append-assoc, append-nil}
 use mathlib.Core.Logic.{_≢_, _↔_}
 use lib.Dec.{ltb}
 use lib.ListN.{length, replicate, length-append, length-replicate}
-use borrow.Author.Tests.{lt-ltb, le-ltb, ltb-true, ltb-false, not-true}
-use Rattle.orbits.specs.Truth.{truth, holds, fails, clash, not-both, both, false-unless}
-use Rattle.orbits.specs.Iterate.{iter, iter-zero, iter-suc}
+use borrow.Author.Tests.{lt-ltb, le-ltb, ltb-true, ltb-false}
+use Rattle.orbits.specs.Truth.{truth, holds, fails, clash, not-both, both}
+use Rattle.orbits.specs.Iterate.{iter}
 use Rattle.table.specs.Good.{Good}
 use Rattle.table.specs.Rotation.{rotation, turnsOf}
 use Rattle.table.specs.Lawful.{good-lawful}
-use Rattle.tracing.specs.Step.{type?, is-zero, is-one, steps, step, stepType, step-type}
-use Rattle.tracing.specs.Walk.{walk, run, run-suc, walk-run, walk-period, walk-period-le}
+use Rattle.tracing.specs.Step.{steps, step, stepType, step-type}
+use Rattle.tracing.specs.Walk.{walk, run, walk-run, walk-period, walk-period-le}
 use Rattle.tracing.specs.Listing.{gather, gather-one, gather-append, has}
 use Rattle.tracing.specs.Has.{has-empty, has-cons, here, later, has-head, has-tail}
-use Rattle.weave.specs.Letters.{unturned, positive, negative, crossings, lettersOn, wordOf, stepLetters, letters, alternating, alternates}
+use Rattle.weave.specs.Letters.{unturned, positive, negative, crossings, lettersOn, wordOf, stepLetters, letters, alternates}
 use Rattle.weave.specs.Strand.{strand, strand-parity, strand-append, strand-length, crossed-strand, among, among-append, strand-alternates}
 
 -- does one of these pass

@@ -1,13 +1,12 @@
 -- Alternating belongs to the face: it depends neither on the step that names the ribbon nor on the sense in which the face is traced.
 -- So a weave is plain exactly if the ribbon through every live step alternates.
-use Prim.Native.Nat.{ℕ, _+_, _*_, _/_, _%_, _<_}
+use Prim.Native.Nat.{ℕ, _*_, _/_, _<_}
 use native.Mathlib.Omega.{arith}
 use mathlib.Core.Path.{_≡_, refl, sym, _∙_, ap}
-use mathlib.Core.Bool.{Bool, true, false}
+use mathlib.Core.Bool.{Bool, true}
 use mathlib.Core.List.{List, [], _∷_}
 use mathlib.Core.Logic.{_↔_}
 use Rattle.orbits.specs.Truth.{same-truth, both, both-left, both-right}
-use Rattle.orbits.specs.Iterate.{Inj}
 use Rattle.orbits.specs.Reach.{Reach, reach-one, reach-trans, reach-sym}
 use Rattle.orbits.specs.Mirror.{Mirror, mirror-world, reach-mirror}
 use Rattle.orbits.specs.Faces.{Face, along, mirrored}
@@ -15,7 +14,7 @@ use Rattle.table.specs.Layout.{darts, edgeOf, edgeWord}
 use Rattle.table.specs.Good.{Good}
 use Rattle.table.specs.Rotation.{Lawful, rotation, live?}
 use Rattle.table.specs.Lawful.{good-lawful, rev-edge}
-use Rattle.tracing.specs.Step.{steps, mirror, corner, corner-dart, corner-live, back, step-word, mirror-word, mirror-mirror, step-back, back-back, back-dart, mirror-step}
+use Rattle.tracing.specs.Step.{steps, mirror, corner, corner-dart, corner-live, back, mirror-word, mirror-mirror, step-back, back-back, back-dart}
 use Rattle.tracing.specs.Place.{places, trace, flip, on, trace-step, flip-step, flip-flip, flip-low}
 use Rattle.tracing.specs.Walk.{walk}
 use Rattle.tracing.specs.Listing.{has, starts}
@@ -132,8 +131,8 @@ module _ (t : List ℕ) (g : Good t) where
   all-plain p =
       let R = rotation t in
       has-every (λ d. alternates t (2 * d)) (starts R darts) (λ d h.
-          let half : 2 * d / 2 ≡ d = omega arith in
-          p (2 * d) (rw half (start-live R d (has-start R darts d h .start))))
+      let half : 2 * d / 2 ≡ d = omega arith in
+      p (2 * d) (rw half (start-live R d (has-start R darts d h .start))))
 
   pub plain-iff : (plain t ≡ true) ↔ ((s : ℕ) → live? t (s / 2) ≡ true → alternates t s ≡ true)
   plain-iff = (plain-all, all-plain)

@@ -136,3 +136,13 @@ module _ (t : List ℕ) (g : Good t) where
 
   pub plain-iff : (plain t ≡ true) ↔ ((s : ℕ) → live? t (s / 2) ≡ true → alternates t s ≡ true)
   plain-iff = (plain-all, all-plain)
+
+  -- "all its ribbons alternate": the edges of each turn the same way
+  pub plain-same : (plain t ≡ true) ↔ ((s : ℕ) → live? t (s / 2) ≡ true → SameWay t s)
+  plain-same = (
+    λ e s live. alternates-same t g s (live-low s live) (plain-all e s live),
+    λ p. all-plain (λ s live. same-alternates t g s (live-low s live) (p s live)),
+  )
+    where
+      live-low : (s : ℕ) → live? t (s / 2) ≡ true → s < steps
+      live-low s live = let dart = L .dart-low (s / 2) live in omega arith

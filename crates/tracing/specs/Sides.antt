@@ -1,31 +1,30 @@
 -- How the two sides of an edge lie: on different faces, on one walk by both darts, or by the same dart twice, document 01, "Edits".
 -- With x = (2e, 0) and y = (2e+1, the turns' parity): by both darts exactly if y is on the orbit of x, by the same dart exactly if its mirror is.
-use Prim.Native.Nat.{ℕ, zero, suc, _+_, _-_, _*_, _/_, _%_, _<_, _≤_}
+use Prim.Native.Nat.{ℕ, suc, _+_, _*_, _/_, _%_, _<_, _≤_}
 use native.Mathlib.Omega.{arith}
 use native.Mathlib.Decide.{ℕ-discrete}
-use mathlib.Core.Path.{_≡_, refl, sym, _∙_, ap, ap₂}
+use mathlib.Core.Path.{_≡_, refl, sym, _∙_, ap}
 use mathlib.Core.Bool.{Bool, true, false}
-use mathlib.Core.List.{List, [], _∷_, _++_}
+use mathlib.Core.List.{List, [], _∷_}
 use mathlib.Core.Logic.{_≢_}
 use lib.Dec.{eqb}
 use lib.ListN.{length}
 use borrow.Author.Tests.{eq-eqb, ne-eqb, eqb-true}
-use Rattle.table.specs.Layout.{darts, rev}
+use Rattle.table.specs.Layout.{rev}
 use Rattle.table.specs.Rotation.{Rotation, Lawful}
-use Rattle.table.specs.Lawful.{rev-rev, rev-low}
 use Rattle.orbits.specs.Truth.{truth, holds, fails, clash}
 use Rattle.orbits.specs.Count.{more}
-use Rattle.orbits.specs.Reach.{Reach, reach-here, reach-one, reach-step, reach-trans, reach-sym, reach-ind}
+use Rattle.orbits.specs.Reach.{Reach, reach-here, reach-trans, reach-sym, reach-ind}
 use Rattle.orbits.specs.Orbits.{On}
 use Rattle.orbits.specs.Mirror.{mirror-world}
 use Rattle.orbits.specs.Faces.{Face, along, mirrored}
 use Rattle.tracing.specs.declared.meeting.Sides.{Sides}
 use Rattle.tracing.specs.declared.meeting.Sides.the-variants.{TwoFaces, BothDarts, SameDart}
-use Rattle.tracing.specs.Step.{steps, type?, is-zero, is-one, stepType, step, back, mirror, step-live, step-word, mirror-step, back-back, back-dart, back-type}
-use Rattle.tracing.specs.Place.{places, trace, flip, on, trace-step, flip-step}
+use Rattle.tracing.specs.Step.{steps, type?, is-zero, is-one, step, back, step-live, step-word, back-back, back-dart}
+use Rattle.tracing.specs.Place.{places, trace, flip, on}
 use Rattle.tracing.specs.Walk.{walk}
 use Rattle.tracing.specs.Listing.{has, has-here}
-use Rattle.tracing.specs.Has.{has-empty, has-cons, has-head, here, later, has-tail, countIn, times, times-none}
+use Rattle.tracing.specs.Has.{has-empty, has-cons, has-head, here, later, has-tail, countIn, times}
 use Rattle.tracing.specs.Mirrored.{whole, mirrored as tracing-mirror}
 use Rattle.tracing.specs.Meets.{has-walk, walk-has, trace-reach}
 use Rattle.tracing.specs.Once.{step-on}

@@ -99,8 +99,8 @@ module _ (R : Rotation) (L : Lawful R) where
   Again s = Reach (trace R) s (rev s)
 
   -- the walk from s passes the other dart, in the sense that is not its way back
-  abbrev pub Along : ℕ → Type 0
-  Along s = Reach (trace R) s (back R (rev s))
+  abbrev pub Across : ℕ → Type 0
+  Across s = Reach (trace R) s (back R (rev s))
 
   pub again-all : (s s′ : ℕ) → s < steps → s / 4 ≡ s′ / 4 → Again s → Again s′
   again-all =
@@ -108,9 +108,9 @@ module _ (R : Rotation) (L : Lawful R) where
       (λ s h r. rw (rev-rev s) (reach-sym (mirror-world (tracing-mirror R L (on R) (whole R L)) .perm) (omega arith) r))
       (λ s h r. rw (rev-back R s) (back-reach h (omega arith) r))
 
-  pub along-all : (s s′ : ℕ) → s < steps → s / 4 ≡ s′ / 4 → Along s → Along s′
-  along-all =
-      of-all Along
+  pub across-all : (s s′ : ℕ) → s < steps → s / 4 ≡ s′ / 4 → Across s → Across s′
+  across-all =
+      of-all Across
       (λ s h r.
       let I = mirror-world (tracing-mirror R L (on R) (whole R L)) .perm in
       let over : Reach (trace R) (back R s) (rev s) = rw (back-back R L (rev s)) at (back-reach h (back-word (rev s) (omega arith)) r) in

@@ -22,8 +22,8 @@ use Rattle.tracing.specs.Place.{places, either, trace, flip, on, place, 
 use Rattle.tracing.specs.Listing.{has, has-here, starts, alones, loneAt, loneCorner, faces, faceCount}
 use Rattle.tracing.specs.Has.{has-parts, left, right, has-tail, has-mapped, countIn, countIn-append, countIn-map}
 use Rattle.tracing.specs.Mirrored.{Part, whole, mirrored as tracing-mirror}
-use Rattle.tracing.specs.Starts.{start?, start-live, has-start, starts-count, alones-count, lone-there}
-use Rattle.tracing.specs.Cover.{covered, starts-one, lone-apart, lones-apart, corner-face}
+pub use Rattle.tracing.specs.Starts.{start?, start-live, has-start, start-has, starts-more, starts-count, alones-count, lone-there}
+pub use Rattle.tracing.specs.Cover.{covered, starts-one, lone-apart, lones-apart, corner-face}
 
 -- the place at which a corner has type 0: (d, 0), or an isolated vertex's first place
 unfoldable pub placeOf : ℕ → ℕ

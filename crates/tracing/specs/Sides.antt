@@ -31,7 +31,7 @@ use Rattle.tracing.specs.Once.{step-on}
 use Rattle.tracing.specs.Corner.{both-ways}
 use Rattle.tracing.specs.Twice.{listedSteps, sense, this, other, step-times, one-way}
 use Rattle.tracing.specs.Edges.{onEdge, edge-twice, back-edge}
-use Rattle.tracing.specs.EdgeSteps.{four, itself, way-back, other-type, other-back, back-flip, again-all, along-all}
+use Rattle.tracing.specs.EdgeSteps.{four, itself, way-back, other-type, other-back, back-flip, again-all, across-all}
 
 -- the members that pass a test
 unfoldable pub keep : (ℕ → Bool) → List ℕ → List ℕ
@@ -257,7 +257,7 @@ module _ (R : Rotation) (L : Lawful R) where
     ]
     | other-back q ↦ elim (truth (has two (walk R one))) [
       | holds m ↦ both-darts (k .is ∙ sidesBy-both R one two m (other-dart q))
-          (rw (across-back e) (along-all R L one (4 * e) on-low to-first (rw q at (has-walk R L one two on-low m))))
+          (rw (across-back e) (across-all R L one (4 * e) on-low to-first (rw q at (has-walk R L one two on-low m))))
       | fails m ↦ two-faces (k .is ∙ sidesBy-off R one two m) (none-back q m)
     ]
   ]
@@ -298,11 +298,11 @@ module _ (R : Rotation) (L : Lawful R) where
           omega arith
 
       none-type : two ≡ rev one → has two (walk R one) ≡ false → Face (trace R) (flip R) (4 * e) (across R e) → ⊥
-      none-type q m (along r) = unlisted (rw q (along-all R L (4 * e) one low (sym to-first) (rw (across-back e) at r)))
+      none-type q m (along r) = unlisted (rw q (across-all R L (4 * e) one low (sym to-first) (rw (across-back e) at r)))
       none-type q m (mirrored r) = clash (walk-has R L one two on-low (rw q (again-all R L (4 * e) one low (sym to-first) (flip-again e low r)))) m
 
       none-back : two ≡ back R (rev one) → has two (walk R one) ≡ false → Face (trace R) (flip R) (4 * e) (across R e) → ⊥
-      none-back q m (along r) = clash (walk-has R L one two on-low (rw q (along-all R L (4 * e) one low (sym to-first) (rw (across-back e) at r)))) m
+      none-back q m (along r) = clash (walk-has R L one two on-low (rw q (across-all R L (4 * e) one low (sym to-first) (rw (across-back e) at r)))) m
       none-back q m (mirrored r) =
           let turn : back R two ≡ rev one = ap (back R) q ∙ back-back R L (rev one) in
           unlisted (rw turn (again-all R L (4 * e) one low (sym to-first) (flip-again e low r)))

@@ -18,10 +18,6 @@ unfoldable pub mark : List ℕ → List ℕ → List ℕ
 mark m [] = m
 mark m (c ∷ cs) = mark (set m c 1) cs
 
-pub mark-none : (m : List ℕ) → mark m [] ≡ m
-unfolding mark
-mark-none m = refl
-
 pub mark-append : (m a b : List ℕ) → mark m (a ++ b) ≡ mark (mark m a) b
 unfolding mark
 mark-append m [] b = refl

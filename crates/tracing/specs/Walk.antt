@@ -32,10 +32,6 @@ unfoldable pub run : (ℕ → ℕ) → ℕ → ℕ → List ℕ
 run f s zero = []
 run f s (suc n) = run f s n ++ (iter f n s ∷ [])
 
-pub run-zero : (f : ℕ → ℕ) (s : ℕ) → run f s zero ≡ []
-unfolding run
-run-zero f s = refl
-
 pub run-suc : (f : ℕ → ℕ) (s n : ℕ) → run f s (suc n) ≡ run f s n ++ (iter f n s ∷ [])
 unfolding run
 run-suc f s n = refl
@@ -75,10 +71,6 @@ module _ (R : Rotation) where
   pub walk-run : (s : ℕ) (p : Period (step R) s) → p .steps ≤ steps → walk R s ≡ run (step R) s (p .steps)
   unfolding walk
   walk-run s p h = onward-run (step R) s p steps h
-
-  pub corners-run : (s : ℕ) (p : Period (step R) s) → p .steps ≤ steps → corners R s ≡ map (corner R) (run (step R) s (p .steps))
-  unfolding corners
-  corners-run s p h = ap (map (corner R)) (walk-run s p h)
 
 module _ (R : Rotation) (L : Lawful R) where
   -- a step has an inverse, its mirror's

@@ -1,19 +1,19 @@
 -- The listed faces of a table, computed over its live names alone: one pass over the edge words and one over the vertex words
 -- gather them. A read of a written-out table costs as many steps as its index, so this is the form to compute with.
-use Prim.Native.Nat.{ℕ, zero, suc, _+_, _-_, _*_, _/_, _<_, _≤_}
+use Prim.Native.Nat.{ℕ, zero, suc, _+_, _*_, _<_, _≤_}
 use native.Mathlib.Omega.{arith}
 use native.Mathlib.Nat.{add-zero, zero-add}
 use mathlib.Core.Path.{_≡_, refl, sym, _∙_, ap, ap₂}
-use mathlib.Core.Bool.{Bool, true, false, not, _&&_}
+use mathlib.Core.Bool.{true, false, not}
 use mathlib.Core.List.{List, [], _∷_, _++_, map, append-assoc, append-nil}
-use lib.Dec.{eqb, ltb}
+use lib.Dec.{eqb}
 use lib.ListN.{length, getD, take, drop, length-drop}
 use lib.Seq.{take-suc, getD-drop, length-take-le}
 use borrow.Author.Tests.{lt-ltb}
 use Rattle.table.specs.Layout.{words, edges, vertices, darts, edgeAt, vertexAt, isolated, edgeOf, edgeWord, vertexWord}
 use Rattle.table.specs.Rotation.{Rotation, rotation, live?, alone?}
 use Rattle.orbits.specs.Truth.{truth, holds, fails}
-use Rattle.tracing.specs.Listing.{only, fresh, fresh-dead, starts, starts-zero, starts-suc, lone, alones, alones-zero, alones-suc, loneCorner, faces}
+use Rattle.tracing.specs.Listing.{only, fresh, fresh-dead, starts, starts-zero, starts-suc, lone, alones, loneCorner, faces}
 
 -- the starts among these darts, after those before
 unfoldable pub startsOver : Rotation → List ℕ → List ℕ → List ℕ

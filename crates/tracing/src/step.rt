@@ -2,7 +2,6 @@
 use table::layout::EDGE;
 use table::layout::PREV;
 ghost use mathlib.Core.Path.{_≡_};
-ghost use Prim.Native.Nat.{_<_};
 ghost use Rattle.table.specs.Rotation.{rotation};
 ghost use Rattle.tracing.specs.Step.{around, step as stepOf, corner as cornerOf, mirror as mirrorOf};
 ghost use Rattle.tracing.specs.Stands.{Stands, LiveDart};

@@ -3,8 +3,6 @@ use Rattle.tracing.specs.Stands.{near, around-next-word, around-prev-wor
 use native.Mathlib.Omega.{arith}
 use Rattle.tracing.proofs.step.around.Statement.{statement}
 use Rattle.tracing.proofs.step.around.Tie as tie
-use Rattle.tracing.proofs.step.around.Reads as reads
-use Rattle.tracing.proofs.step.around.Lts as lts
 
 mul-next : tie.Need-mul-next
 mul-next c = let n = near (c .pre) in omega arith

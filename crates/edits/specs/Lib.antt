@@ -1,4 +1,5 @@
 pub mod Turns
+pub mod Verdicts
 pub mod Held
 pub mod Splice
 pub mod Link

@@ -18,6 +18,7 @@ use Rattle.surgery.specs.Bypass.{bypass}
 use Rattle.surgery.specs.Without.{Without, apart, apart-own, apart-other}
 use Rattle.edits.specs.Held.{Held, good-held, held-good, nextIn}
 use Rattle.edits.specs.Unlink.{unlink, Shrunk}
+use Rattle.edits.specs.Ready.{DeleteReady, unlink-ready}
 use Rattle.edits.specs.Edge.{deleted, unlink-shrunk, edge-held, edge-next, next-of}
 
 module _ (t : List ℕ) (g : Good t) (e : ℕ) (h : e < edges) (on : edgeWord t e ≢ 0) where
@@ -31,6 +32,13 @@ module _ (t : List ℕ) (g : Good t) (e : ℕ) (h : e < edges) (on : edgeWord t 
   twice =
       unlink-shrunk (unlink t (2 * e)) (without (live? t) (2 * e)) (once .held) (2 * e + 1)
       (without-other (live? t) (2 * e) (2 * e + 1) (omega arith) ∙ own (2 * e + 1) (omega arith) (omega arith))
+
+  pub delete-ready : DeleteReady t e
+  delete-ready = record {
+      low = h;
+      first = unlink-ready t (live? t) (good-held t g) (2 * e) (own (2 * e) (omega arith) (omega arith));
+      second = unlink-ready (unlink t (2 * e)) (without (live? t) (2 * e)) (once .held) (2 * e + 1)
+        (without-other (live? t) (2 * e) (2 * e + 1) (omega arith) ∙ own (2 * e + 1) (omega arith) (omega arith)) }
 
   abbrev bare : List ℕ
   bare = unlink (unlink t (2 * e)) (2 * e + 1)

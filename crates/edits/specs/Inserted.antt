@@ -21,6 +21,7 @@ use Rattle.surgery.specs.Sits.{Sits, just-before, before-other, at-vertex, Inse
 use Rattle.surgery.specs.Without.{Without, apart, apart-own, apart-other}
 use Rattle.edits.specs.Held.{Held, good-held, held-good, nextIn, next-in}
 use Rattle.edits.specs.Link.{plus, plus-new, plus-old, Plus, new, old, plus-case, Grown}
+use Rattle.edits.specs.Ready.{InsertReady, link-ready}
 use Rattle.edits.specs.Edge.{link, firstCorner, inserted, deleted, Corner, at-dart, at-lone, link-grown, link-before, link-alone, still-isolated, edge-held, edge-next, next-of}
 
 module _ (t : List ℕ) (g : Good t) (e c₁ c₂ w : ℕ) (h : e < edges) (off : edgeWord t e ≡ 0) (some : w ≢ 0) (few : w ≤ 199)
@@ -70,6 +71,12 @@ module _ (t : List ℕ) (g : Good t) (e c₁ c₂ w : ℕ) (h : e < edges) (off 
 
   first : Grown half full (plus (live? t) (2 * e + 1)) (2 * e)
   first = link-grown half (plus (live? t) (2 * e + 1)) (second .held) (2 * e) (firstCorner e c₁ c₂) first-free (omega arith) corner
+
+  pub insert-ready : InsertReady t e c₁ c₂
+  insert-ready = record {
+      low = h;
+      second = link-ready t (live? t) H (2 * e + 1) c₂ (omega arith) C₂;
+      first = link-ready half (plus (live? t) (2 * e + 1)) (second .held) (2 * e) (firstCorner e c₁ c₂) (omega arith) corner }
 
   abbrev result : List ℕ
   result = inserted t e c₁ c₂ w

@@ -9,3 +9,5 @@ pub mod Ready
 pub mod Deleted
 pub mod Inserted
 pub mod RoundTrip
+pub mod Edits
+pub mod Passed

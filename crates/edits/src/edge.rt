@@ -10,6 +10,7 @@ ghost use mathlib.Core.Path.{_≡_};
 ghost use Prim.Native.Nat.{_*_, _+_, _<_};
 ghost use Rattle.edits.specs.Edge.{firstCorner, inserted, deleted};
 ghost use Rattle.edits.specs.Edits.{answer, edited};
+ghost use Rattle.edits.specs.declared.edit.Edit.the-variants.{InsertEdge, DeleteEdge, TurnEdge};
 ghost use Rattle.edits.specs.Ready.{InsertReady, DeleteReady};
 
 // Puts edge e, of word w, between corners c1 and c2. The second dart goes first, so that with one corner for both the first stands before it.
@@ -36,7 +37,7 @@ fn first_corner(e: usize, c1: usize, c2: usize) -> usize
 
 // Inserts edge e with turns k: dart 2e into corner c1, 2e+1 into c2. Answers the new face count.
 pub fn insert_edge(t: &mut [u16], e: u16, c1: u16, c2: u16, k: i16) -> Answer
-    ensures { λ r. ⌜ (r ≡ answer (now (t .entry)) (Edit.InsertEdge e c1 c2 k)) × (now (t .exit) ≡ edited (now (t .entry)) (Edit.InsertEdge e c1 c2 k)) ⌝ }
+    ensures { λ r. ⌜ (r ≡ answer (now (t .entry)) (InsertEdge e c1 c2 k)) × (now (t .exit) ≡ edited (now (t .entry)) (InsertEdge e c1 c2 k)) ⌝ }
 {
     match insert_verdict(t, e, c1, c2, k) {
         Verdict::Declines(r) => Answer::Declined(r),
@@ -60,7 +61,7 @@ fn delete(t: &mut [u16], e: usize)
 
 // Deletes edge e. Answers the new face count.
 pub fn delete_edge(t: &mut [u16], e: u16) -> Answer
-    ensures { λ r. ⌜ (r ≡ answer (now (t .entry)) (Edit.DeleteEdge e)) × (now (t .exit) ≡ edited (now (t .entry)) (Edit.DeleteEdge e)) ⌝ }
+    ensures { λ r. ⌜ (r ≡ answer (now (t .entry)) (DeleteEdge e)) × (now (t .exit) ≡ edited (now (t .entry)) (DeleteEdge e)) ⌝ }
 {
     match delete_verdict(t, e) {
         Verdict::Declines(r) => Answer::Declined(r),
@@ -73,7 +74,7 @@ pub fn delete_edge(t: &mut [u16], e: u16) -> Answer
 
 // Turns edge e by an amount. Answers the new face count.
 pub fn turn_edge(t: &mut [u16], e: u16, amount: i16) -> Answer
-    ensures { λ r. ⌜ (r ≡ answer (now (t .entry)) (Edit.TurnEdge e amount)) × (now (t .exit) ≡ edited (now (t .entry)) (Edit.TurnEdge e amount)) ⌝ }
+    ensures { λ r. ⌜ (r ≡ answer (now (t .entry)) (TurnEdge e amount)) × (now (t .exit) ≡ edited (now (t .entry)) (TurnEdge e amount)) ⌝ }
 {
     match turn_verdict(t, e, amount) {
         Verdict::Declines(r) => Answer::Declined(r),

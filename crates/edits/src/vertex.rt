@@ -6,10 +6,11 @@ use table::layout::{ISOLATED, NOTHING, VERTEX};
 use tracing::count::face_count;
 ghost use mathlib.Core.Path.{_≡_};
 ghost use Rattle.edits.specs.Edits.{answer, edited};
+ghost use Rattle.edits.specs.declared.edit.Edit.the-variants.{AddVertex, RemoveVertex};
 
 // Adds vertex v. Answers the new face count.
 pub fn add_vertex(t: &mut [u16], v: u16) -> Answer
-    ensures { λ r. ⌜ (r ≡ answer (now (t .entry)) (Edit.AddVertex v)) × (now (t .exit) ≡ edited (now (t .entry)) (Edit.AddVertex v)) ⌝ }
+    ensures { λ r. ⌜ (r ≡ answer (now (t .entry)) (AddVertex v)) × (now (t .exit) ≡ edited (now (t .entry)) (AddVertex v)) ⌝ }
 {
     match add_verdict(t, v) {
         Verdict::Declines(r) => Answer::Declined(r),
@@ -22,7 +23,7 @@ pub fn add_vertex(t: &mut [u16], v: u16) -> Answer
 
 // Removes the isolated vertex v. Answers the new face count.
 pub fn remove_vertex(t: &mut [u16], v: u16) -> Answer
-    ensures { λ r. ⌜ (r ≡ answer (now (t .entry)) (Edit.RemoveVertex v)) × (now (t .exit) ≡ edited (now (t .entry)) (Edit.RemoveVertex v)) ⌝ }
+    ensures { λ r. ⌜ (r ≡ answer (now (t .entry)) (RemoveVertex v)) × (now (t .exit) ≡ edited (now (t .entry)) (RemoveVertex v)) ⌝ }
 {
     match remove_verdict(t, v) {
         Verdict::Declines(r) => Answer::Declined(r),

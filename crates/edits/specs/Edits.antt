@@ -3,7 +3,10 @@
 use Prim.Native.Nat.{ℕ}
 use mathlib.Core.Path.{_≡_, sym, _∙_, ap}
 use mathlib.Core.List.{List}
-use lib.IntN.{ℤ, _+ℤ_}
+use lib.IntN.{ℤ}
+use mir.Syntax.{w16}
+use mir.Val.{SFits, toZ, ofZ}
+use mir.Facts.{toZ-ofZ}
 use Rattle.table.specs.Layout.{nothing, isolated, edgeWord}
 use Rattle.table.specs.Rotation.{rotation}
 use Rattle.table.specs.Writes.{setVertex, setEdge}
@@ -72,3 +75,16 @@ module _ (t : List ℕ) (E : Edit) where
 
   pub was-declined : (r : Refusal) → verdict t E ≡ Declines r → (Declined r ≡ answer t E) × (t ≡ edited t E)
   was-declined r p = (sym (answer-declines r p), sym (edited-declines r p))
+
+-- an edit that is told by its parts
+pub same-edit : (t u : List ℕ) (E F : Edit) (r : Answer) → E ≡ F → (r ≡ answer t F) × (u ≡ edited t F) → (r ≡ answer t E) × (u ≡ edited t E)
+same-edit t u E F r e p = rw e p
+
+-- turns and amounts that are handed on keep their values
+pub same-insertion : (t u : List ℕ) (E : Edit) (r : Answer) (e c₁ c₂ : ℕ) (k : ℤ) → SFits w16 k → E ≡ InsertEdge e c₁ c₂ k
+    → (r ≡ answer t (InsertEdge e c₁ c₂ (toZ w16 (ofZ w16 k)))) × (u ≡ edited t (InsertEdge e c₁ c₂ (toZ w16 (ofZ w16 k)))) → (r ≡ answer t E) × (u ≡ edited t E)
+same-insertion t u E r e c₁ c₂ k f p q = same-edit t u E _ r (p ∙ ap (InsertEdge e c₁ c₂) (sym (toZ-ofZ {w = w16} f))) q
+
+pub same-turn : (t u : List ℕ) (E : Edit) (r : Answer) (e : ℕ) (a : ℤ) → SFits w16 a → E ≡ TurnEdge e a
+    → (r ≡ answer t (TurnEdge e (toZ w16 (ofZ w16 a)))) × (u ≡ edited t (TurnEdge e (toZ w16 (ofZ w16 a)))) → (r ≡ answer t E) × (u ≡ edited t E)
+same-turn t u E r e a f p q = same-edit t u E _ r (p ∙ ap (TurnEdge e) (sym (toZ-ofZ {w = w16} f))) q

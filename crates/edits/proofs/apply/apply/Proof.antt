@@ -1,3 +1,4 @@
+use Rattle.edits.specs.Edits.{same-edit, same-insertion, same-turn}
 use borrow.Author.Needs.{needs}
 use Rattle.edits.proofs.apply.apply.Statement.{statement}
 use Rattle.edits.proofs.apply.apply.Tie as tie
@@ -55,7 +56,7 @@ same-length c = search needs
 
 -- src/apply.rt:10:1
 returns : tie.Need-returns
-returns c = ?
+returns c = same-edit _ _ _ _ _ (c .before .before .before .before .before .edit .given .1) (c .before .before .add-vertex .ensures)
 
 -- src/apply.rt:10:1
 same-length-2 : tie.Need-same-length-2
@@ -63,7 +64,7 @@ same-length-2 c = search needs
 
 -- src/apply.rt:10:1
 returns-2 : tie.Need-returns-2
-returns-2 c = ?
+returns-2 c = same-edit _ _ _ _ _ (c .before .before .before .before .before .edit2 .given .1) (c .before .before .remove-vertex .ensures)
 
 -- src/apply.rt:10:1
 same-length-3 : tie.Need-same-length-3
@@ -71,7 +72,7 @@ same-length-3 c = search needs
 
 -- src/apply.rt:10:1
 returns-3 : tie.Need-returns-3
-returns-3 c = ?
+returns-3 c = same-insertion _ _ _ _ (c .before .before .before .before .before .edit3 .given .0 .0) (c .before .before .before .before .before .edit3 .given .0 .1 .0) (c .before .before .before .before .before .edit3 .given .0 .1 .1 .0) (c .before .before .before .before .before .edit3 .given .0 .1 .1 .1 .0) (record { sfits = c .before .before .before .before .known-told3 .given .1 .1 .1 .0 .1 }) (c .before .before .before .before .before .edit3 .given .1) (c .before .before .insert-edge .ensures)
 
 -- src/apply.rt:10:1
 same-length-4 : tie.Need-same-length-4
@@ -79,7 +80,7 @@ same-length-4 c = search needs
 
 -- src/apply.rt:10:1
 returns-4 : tie.Need-returns-4
-returns-4 c = ?
+returns-4 c = same-edit _ _ _ _ _ (c .before .before .before .before .before .edit4 .given .1) (c .before .before .delete-edge .ensures)
 
 -- src/apply.rt:10:1
 same-length-5 : tie.Need-same-length-5
@@ -87,7 +88,7 @@ same-length-5 c = search needs
 
 -- src/apply.rt:10:1
 returns-5 : tie.Need-returns-5
-returns-5 c = ?
+returns-5 c = same-turn _ _ _ _ (c .before .before .before .before .before .edit5 .given .0 .0) (c .before .before .before .before .before .edit5 .given .0 .1 .0) (record { sfits = c .before .before .before .before .known-told5 .given .1 .0 .1 }) (c .before .before .before .before .before .edit5 .given .1) (c .before .before .turn-edge .ensures)
 
 pub apply-spec : {M : Type 1} → statement M
 apply-spec =

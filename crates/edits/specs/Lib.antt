@@ -11,3 +11,4 @@ pub mod Inserted
 pub mod RoundTrip
 pub mod Edits
 pub mod Passed
+pub mod Changes

@@ -1,6 +1,6 @@
 -- What is known where an edit goes through, and that the table it writes is good.
 -- Assumes nothing.
-use Prim.Native.Nat.{ℕ, suc, _+_, _-_, _*_, _≤_, _<_}
+use Prim.Native.Nat.{ℕ, _≤_, _<_}
 use native.Mathlib.Omega.{arith}
 use native.Mathlib.Decide.{ℕ-discrete}
 use mathlib.Core.Path.{_≡_, refl, sym, _∙_, ap, subst, fun-ext}
@@ -8,24 +8,23 @@ use mathlib.Core.Bool.{Bool, true, false, not, _||_}
 use mathlib.Core.List.{List}
 use mathlib.Core.Logic.{_≢_, _⊎_, inl, inr, ⊎-elim}
 use lib.Dec.{eqb, leb}
-use lib.ListN.{length, length-set}
+use lib.ListN.{length-set}
 use lib.IntN.{ℤ, _+ℤ_}
 use borrow.Author.Tests.{leb-false, eqb-true, eqb-false, not-true, not-false}
 use Rattle.orbits.specs.Truth.{clash, same-truth}
 use Rattle.orbits.specs.Reach.{Reach, reach-here, reach-step, reach-ind}
 use Rattle.table.specs.Layout.{vertices, edges, darts, words, nothing, isolated, nextWord, prevWord, leaves, edgeWord, vertexWord, edgeOf, Live}
-use Rattle.table.specs.Good.{Good, Bare, Smallest}
+use Rattle.table.specs.Good.{Good}
 use Rattle.table.specs.Rotation.{rotation, live?, live-yes, yes-live, alone-word, case-yes}
 use Rattle.table.specs.Check.{good?, good-case}
 use Rattle.table.specs.Lawful.{good-lawful}
 use Rattle.table.specs.Writes.{setVertex, setEdge, upd-at, upd-off, next-vertex, prev-vertex, leaves-vertex, edge-vertex, vertex-vertex, edge-edge}
 use Rattle.table.specs.declared.answer.Refusal.{Refusal}
-use Rattle.table.specs.declared.answer.Refusal.the-variants.{Torn, NoSuchName, Taken, Absent, Joined, Overturned}
-use Rattle.tracing.specs.Corner.{wellFormed, present, Present, at-dart, at-lone, present-means}
-use Rattle.edits.specs.Turns.{turnsIn, overturned, turnedWord, wordFor, few-range, word-in, hundred}
-use Rattle.edits.specs.Verdicts.{first, vertexThere, edgeThere, addVerdict, removeVerdict, insertVerdict, deleteVerdict, turnVerdict}
+use Rattle.table.specs.declared.answer.Refusal.the-variants.{Absent, Joined}
+use Rattle.tracing.specs.Corner.{present, Present, at-dart, at-lone, present-means}
+use Rattle.edits.specs.Turns.{turnsIn, overturned, turnedWord, few-range, word-in, hundred}
+use Rattle.edits.specs.Verdicts.{first, vertexThere, addVerdict, removeVerdict, insertVerdict, deleteVerdict, turnVerdict}
 use Rattle.edits.specs.Held.{Held, good-held, held-good}
-use Rattle.edits.specs.Edge as edge
 use Rattle.edits.specs.Edge.{inserted, deleted, Corner, edge-held}
 use Rattle.edits.specs.Deleted.{deleted-good, delete-ready}
 use Rattle.edits.specs.Inserted.{inserted-good, insert-ready}
@@ -34,7 +33,8 @@ use Rattle.edits.specs.Edits.{verdict, written}
 use Rattle.edits.specs.declared.edit.Edit.{Edit}
 use Rattle.edits.specs.declared.edit.Edit.the-variants.{AddVertex, RemoveVertex, InsertEdge, DeleteEdge, TurnEdge}
 use Rattle.edits.specs.declared.edit.Verdict.{Verdict}
-use Rattle.edits.specs.declared.edit.Verdict.the-variants.{Passes, Declines}
+use Rattle.edits.specs.declared.edit.Verdict.the-variants.{Passes}
+use Rattle.edits.specs.Edge as edge
 
 -- a list of tests that lets an edit through: the first test fails, and the rest lets it through
 through : (b : Bool) (r : Refusal) (v : Verdict) → first b r v ≡ Passes → (b ≡ false) × (v ≡ Passes)
@@ -99,7 +99,8 @@ may-insert t e c₁ c₂ k p =
       free = eqb-true (edgeWord t e) 0 (not-false _ (c .0));
       first-there = present-means (rotation t) (good-lawful t g) c₁ (not-false _ (there .0));
       second-there = present-means (rotation t) (good-lawful t g) c₂ (not-false _ (there .1));
-      few = f .0 }
+      few = f .0;
+    }
 
 pub record MayDelete (t : List ℕ) (e : ℕ) : Type 0 where
   pub good : Good t
@@ -187,33 +188,37 @@ module _ (t : List ℕ) (g : Good t) (v w : ℕ) (low : v < vertices) (bare : (d
 
   pub marked-good : Good marked
   marked-good = record {
-      size = length-set t _ w ∙ g .size;
-      turns = λ e h. rw (edge-same e h) (g .turns e h);
-      bare = λ d h z.
+    size = length-set t _ w ∙ g .size;
+    turns = λ e h. rw (edge-same e h) (g .turns e h);
+    bare = λ d h z.
         let b = g .bare d h (sym (edge-same (edgeOf d) (omega arith)) ∙ z) in
         record { next-none = next-same d h ∙ b .next-none; prev-none = prev-same d h ∙ b .prev-none; leaves-none = leaves-vertex t v w d h ∙ b .leaves-none };
-      leaves-low = λ d l. rw (leaves-same d l) (g .leaves-low d (was-live d l));
-      leaves-live = λ d l. rw (leaves-same d l, vertex-apart d (was-live d l)) (g .leaves-live d (was-live d l));
-      next-live = λ d l. rw (next-same d (l .low)) (live-still _ (g .next-live d (was-live d l)));
-      prev-live = λ d l. rw (prev-same d (l .low)) (live-still _ (g .prev-live d (was-live d l)));
-      prev-next = λ d l. let m = was-live d l in rw (next-same d (l .low)) (prev-same _ (g .next-live d m .low) ∙ g .prev-next d m);
-      next-prev = λ d l. let m = was-live d l in rw (prev-same d (l .low)) (next-same _ (g .prev-live d m .low) ∙ g .next-prev d m);
-      next-leaves = λ d l.
+    leaves-low = λ d l. rw (leaves-same d l) (g .leaves-low d (was-live d l));
+    leaves-live = λ d l. rw (leaves-same d l, vertex-apart d (was-live d l)) (g .leaves-live d (was-live d l));
+    next-live = λ d l. rw (next-same d (l .low)) (live-still _ (g .next-live d (was-live d l)));
+    prev-live = λ d l. rw (prev-same d (l .low)) (live-still _ (g .prev-live d (was-live d l)));
+    prev-next = λ d l. let m = was-live d l in rw (next-same d (l .low)) (prev-same _ (g .next-live d m .low) ∙ g .prev-next d m);
+    next-prev = λ d l. let m = was-live d l in rw (prev-same d (l .low)) (next-same _ (g .prev-live d m .low) ∙ g .next-prev d m);
+    next-leaves = λ d l.
         let m = was-live d l in
         rw (next-same d (l .low)) (leaves-vertex t v w _ (g .next-live d m .low) ∙ g .next-leaves d m ∙ sym (leaves-same d l));
-      one-cycle = λ d k l m q. reach-kept d k (was-live d l) (g .one-cycle d k (was-live d l) (was-live k m) (sym (leaves-same d l) ∙ q ∙ leaves-same k m));
-      alone = λ u h i d l q. elim (ℕ-discrete u v) [
-        | yes s ↦ bare d (was-live d l) (sym (leaves-same d l) ∙ q ∙ s)
-        | no n ↦ g .alone u h (sym (other-word u h n) ∙ i) d (was-live d l) (sym (leaves-same d l) ∙ q) ];
-      smallest = λ u h n i. elim (ℕ-discrete u v) [
-        | yes s ↦ absurd (⊎-elim (λ z. n (ap (vertexWord marked) s ∙ own-word ∙ z)) (λ z. i (ap (vertexWord marked) s ∙ own-word ∙ z)) still)
-        | no m ↦
-            let same = other-word u h m in
-            let s = g .smallest u h (rw same at n) (rw same at i) in
-            rw same (record {
-              live = live-still _ (s .live);
-              here = leaves-same _ (live-still _ (s .live)) ∙ s .here;
-              least = λ k l q. s .least k (was-live k l) (sym (leaves-same k l) ∙ q) }) ] }
+    one-cycle = λ d k l m q. reach-kept d k (was-live d l) (g .one-cycle d k (was-live d l) (was-live k m) (sym (leaves-same d l) ∙ q ∙ leaves-same k m));
+    alone = λ u h i d l q. elim (ℕ-discrete u v) [
+      | yes s ↦ bare d (was-live d l) (sym (leaves-same d l) ∙ q ∙ s)
+      | no n ↦ g .alone u h (sym (other-word u h n) ∙ i) d (was-live d l) (sym (leaves-same d l) ∙ q)
+    ];
+    smallest = λ u h n i. elim (ℕ-discrete u v) [
+      | yes s ↦ absurd (⊎-elim (λ z. n (ap (vertexWord marked) s ∙ own-word ∙ z)) (λ z. i (ap (vertexWord marked) s ∙ own-word ∙ z)) still)
+      | no m ↦
+          let same = other-word u h m in
+          let s = g .smallest u h (rw same at n) (rw same at i) in
+          rw same (record {
+            live = live-still _ (s .live);
+            here = leaves-same _ (live-still _ (s .live)) ∙ s .here;
+            least = λ k l q. s .least k (was-live k l) (sym (leaves-same k l) ∙ q);
+          })
+    ];
+  }
 
 -- The table that an accepted edit writes is good.
 module _ (t : List ℕ) where
@@ -236,17 +241,25 @@ module _ (t : List ℕ) where
   same-live : (e w : ℕ) → Good t → e < edges → edgeWord t e ≢ 0 → w ≢ 0 → (d : ℕ) → live? (setEdge t e w) d ≡ live? t d
   same-live e w g h on some d = same-truth (live? (setEdge t e w) d) (live? t d)
       (λ l.
-        let m = live-yes (setEdge t e w) d l in
-        let low = m .low in
-        yes-live t d (record { low = low; on = elim (ℕ-discrete (edgeOf d) e) [
+      let m = live-yes (setEdge t e w) d l in
+      let low = m .low in
+      yes-live t d (record {
+        low = low;
+        on = elim (ℕ-discrete (edgeOf d) e) [
           | yes q ↦ rw q on
-          | no n ↦ rw (other (edgeOf d) n) at (m .on) ] }))
+          | no n ↦ rw (other (edgeOf d) n) at (m .on)
+        ];
+      }))
       (λ l.
-        let m = live-yes t d l in
-        let low = m .low in
-        yes-live (setEdge t e w) d (record { low = low; on = elim (ℕ-discrete (edgeOf d) e) [
+      let m = live-yes t d l in
+      let low = m .low in
+      yes-live (setEdge t e w) d (record {
+        low = low;
+        on = elim (ℕ-discrete (edgeOf d) e) [
           | yes q ↦ rw (q, edge-edge t (g .size) e w e h, upd-at (edgeWord t) e w) some
-          | no n ↦ rw (other (edgeOf d) n) (m .on) ] }))
+          | no n ↦ rw (other (edgeOf d) n) (m .on)
+        ];
+      }))
     where
       other : (i : ℕ) → i ≢ e → edgeWord (setEdge t e w) i ≡ edgeWord t i
       other i n = edge-edge t (g .size) e w i h ∙ upd-off (edgeWord t) e w i n
@@ -260,8 +273,9 @@ module _ (t : List ℕ) where
       held-good (setEdge t e w)
       (subst (λ L. Held (setEdge t e w) L) (fun-ext (λ d. sym (turn-live e a m d))) (edge-held t (live? t) (good-held t (m .good)) e w (m .low)))
       (λ i h. elim (ℕ-discrete i e) [
-      | yes q ↦ rw (q, edge-edge t (m .good .size) e w e (m .low), upd-at (edgeWord t) e w) (turned-some (edgeWord t e) a (m .few) .1)
-      | no n ↦ rw (edge-edge t (m .good .size) e w i (m .low), upd-off (edgeWord t) e w i n) (m .good .turns i h) ])
+        | yes q ↦ rw (q, edge-edge t (m .good .size) e w e (m .low), upd-at (edgeWord t) e w) (turned-some (edgeWord t e) a (m .few) .1)
+        | no n ↦ rw (edge-edge t (m .good .size) e w i (m .low), upd-off (edgeWord t) e w i n) (m .good .turns i h)
+      ])
 
   pub written-good : (E : Edit) → verdict t E ≡ Passes → Good (written t E)
   written-good (AddVertex v) p = add-good v (may-add t v p)

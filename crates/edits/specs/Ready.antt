@@ -62,30 +62,33 @@ ready-second r p = rw p (r .second)
 module _ (t : List ℕ) (L : ℕ → Bool) (H : Held t L) (x : ℕ) where
   pub link-ready : (c : ℕ) → x < darts → Corner t L c → LinkReady t x c
   link-ready c h (at-dart on) = record {
-      size = H .size;
-      x-low = h;
-      prev-low = λ _. H .low _ (H .prev-live c on);
-      leaves-low = λ _. H .leaves-low c on;
-      lone = λ l. absurd (past l);
-      lone-low = λ l. absurd (past l) }
+    size = H .size;
+    x-low = h;
+    prev-low = λ _. H .low _ (H .prev-live c on);
+    leaves-low = λ _. H .leaves-low c on;
+    lone = λ l. absurd (past l);
+    lone-low = λ l. absurd (past l);
+  }
     where
       past : darts ≤ c → ⊥
       past l = let low = H .low c on in omega arith
   link-ready c h (at-lone v e l i) = record {
-      size = H .size;
-      x-low = h;
-      prev-low = λ k. absurd (past k);
-      leaves-low = λ k. absurd (past k);
-      lone = λ _. omega arith;
-      lone-low = λ _. omega arith }
+    size = H .size;
+    x-low = h;
+    prev-low = λ k. absurd (past k);
+    leaves-low = λ k. absurd (past k);
+    lone = λ _. omega arith;
+    lone-low = λ _. omega arith;
+  }
     where
       past : c < darts → ⊥
       past k = omega arith
 
   pub unlink-ready : L x ≡ true → UnlinkReady t x
   unlink-ready on = record {
-      size = H .size;
-      x-low = H .low x on;
-      next-low = H .low _ (H .next-live x on);
-      prev-low = H .low _ (H .prev-live x on);
-      leaves-low = H .leaves-low x on }
+    size = H .size;
+    x-low = H .low x on;
+    next-low = H .low _ (H .next-live x on);
+    prev-low = H .low _ (H .prev-live x on);
+    leaves-low = H .leaves-low x on;
+  }

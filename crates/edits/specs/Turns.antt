@@ -1,6 +1,6 @@
 -- Turns as edge words: "for each edge, 0 if not live, else its turns plus 100; turns run from -99 to 99".
 -- Assumes nothing.
-use Prim.Native.Nat.{ℕ, suc, _+_, _-_, _≤_, _<_, _^_}
+use Prim.Native.Nat.{ℕ, suc, _≤_, _<_, _^_}
 use native.Mathlib.Omega.{arith}
 use mathlib.Core.Path.{_≡_, refl, sym, _∙_, ap, ap₂}
 use mathlib.Core.Bool.{Bool, true, false}
@@ -55,12 +55,14 @@ in-range (pos n) e f =
 in-range (negsuc n) e f =
     let h = ltb-false 98 n e in
     elim (difference 100 (suc n)) [
-    | below b q ↦ absurd (omega arith)
-    | above b q ↦ record {
+      | below b q ↦ absurd (omega arith)
+      | above b q ↦ record {
         few = le-ltb 99 (suc n) (omega arith);
         plus-hundred = q ∙ ap pos (sym (ap natAbs q));
         some = rw q (omega arith);
-        most = rw q (omega arith) } ]
+        most = rw q (omega arith);
+      }
+    ]
 
 -- the same, from the definition
 pub few-range : (z : ℤ) → overturned z ≡ false → InRange z
@@ -109,13 +111,15 @@ module _ (w : ℕ) (a : ℤ) where
   -- a word of 0 says that the turns pass 99
   pub zero-over : turnedWord w a ≡ 0 → overturned (turnsIn w +ℤ a) ≡ true
   zero-over z = elim (truth (overturned (turnsIn w +ℤ a))) [
-      | holds e ↦ e
-      | fails e ↦ let s = few-range (turnsIn w +ℤ a) e .some in let q = word-in e ∙ z in absurd (omega (arith, s, q)) ]
+    | holds e ↦ e
+    | fails e ↦ let s = few-range (turnsIn w +ℤ a) e .some in let q = word-in e ∙ z in absurd (omega (arith, s, q))
+  ]
 
   pub some-few : turnedWord w a ≢ 0 → overturned (turnsIn w +ℤ a) ≡ false
   some-few n = elim (truth (overturned (turnsIn w +ℤ a))) [
-      | holds e ↦ absurd (n (sym (word-over e)))
-      | fails e ↦ e ]
+    | holds e ↦ absurd (n (sym (word-over e)))
+    | fails e ↦ e
+  ]
 
 -- an edge with no turns has the word 100
 pub hundred : (k : ℤ) → turnsIn 100 +ℤ k ≡ k

@@ -1,6 +1,6 @@
 -- Which edits are declined, and with which number: document 01, "When a call declines". "Where several hold: 1, 2, 3, 4, 5, 6".
 -- Assumes nothing.
-use Prim.Native.Nat.{ℕ, _*_, _≤_, _<_}
+use Prim.Native.Nat.{ℕ}
 use mathlib.Core.Path.{_≡_, sym, _∙_, ap}
 use mir.Syntax.{w16}
 use mir.Val.{SFits, toZ, ofZ}

@@ -1,7 +1,10 @@
 // An edit that is data, done.
-use crate::edge::{delete_edge, insert_edge, turn_edge};
+use crate::edge::delete_edge;
+use crate::edge::insert_edge;
+use crate::edge::turn_edge;
 use crate::edit::Edit;
-use crate::vertex::{add_vertex, remove_vertex};
+use crate::vertex::add_vertex;
+use crate::vertex::remove_vertex;
 use table::answer::Answer;
 ghost use mathlib.Core.Path.{_≡_};
 ghost use Rattle.edits.specs.Edits.{answer, edited};

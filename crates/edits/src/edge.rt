@@ -1,8 +1,11 @@
 // Inserting, deleting and turning an edge.
 use crate::edit::Verdict;
-use crate::splice::{link, unlink};
+use crate::splice::link;
+use crate::splice::unlink;
 use crate::turns::turned_word;
-use crate::verdict::{delete_verdict, insert_verdict, turn_verdict};
+use crate::verdict::delete_verdict;
+use crate::verdict::insert_verdict;
+use crate::verdict::turn_verdict;
 use table::answer::Answer;
 use table::layout::EDGE;
 use tracing::count::face_count;

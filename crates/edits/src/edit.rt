@@ -11,7 +11,10 @@ pub enum Edit {
         turns: i16,
     },
     DeleteEdge(u16),
-    TurnEdge { edge: u16, amount: i16 },
+    TurnEdge {
+        edge: u16,
+        amount: i16,
+    },
 }
 
 pub enum Verdict {

@@ -2,9 +2,15 @@
 use crate::edit::Verdict;
 use crate::turns::turned_word;
 use table::answer::Refusal;
-use table::layout::{EDGE, EDGES, ISOLATED, NOTHING, VERTEX, VERTICES};
+use table::layout::EDGE;
+use table::layout::EDGES;
+use table::layout::ISOLATED;
+use table::layout::NOTHING;
+use table::layout::VERTEX;
+use table::layout::VERTICES;
 use table::whole::is_good;
-use tracing::corner::{is_corner, is_present};
+use tracing::corner::is_corner;
+use tracing::corner::is_present;
 ghost use mathlib.Core.Path.{_≡_};
 ghost use Rattle.edits.specs.Verdicts.{addVerdict, removeVerdict, insertVerdict, deleteVerdict, turnVerdict};
 

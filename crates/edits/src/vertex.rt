@@ -1,8 +1,11 @@
 // Adding a vertex, and removing one that is isolated.
 use crate::edit::Verdict;
-use crate::verdict::{add_verdict, remove_verdict};
+use crate::verdict::add_verdict;
+use crate::verdict::remove_verdict;
 use table::answer::Answer;
-use table::layout::{ISOLATED, NOTHING, VERTEX};
+use table::layout::ISOLATED;
+use table::layout::NOTHING;
+use table::layout::VERTEX;
 use tracing::count::face_count;
 ghost use mathlib.Core.Path.{_≡_};
 ghost use Rattle.edits.specs.Edits.{answer, edited};

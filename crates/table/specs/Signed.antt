@@ -16,13 +16,15 @@ pub data Difference (a b : ℕ) : Type 0 where
 
 pub difference : (a b : ℕ) → Difference a b
 difference a b = elim (decLt a b) [
-    | yes h ↦ below h (rw (lt-ltb a b h))
-    | no h ↦ above (omega arith) (rw (le-ltb a b (omega arith))) ]
+  | yes h ↦ below h (rw (lt-ltb a b h))
+  | no h ↦ above (omega arith) (rw (le-ltb a b (omega arith)))
+]
 
 mag-difference : (a b : ℕ) → mag (subℕ a b) ≤ a + b
 mag-difference a b = elim (difference a b) [
-    | below h e ↦ rw e (omega arith)
-    | above h e ↦ rw e (omega arith) ]
+  | below h e ↦ rw e (omega arith)
+  | above h e ↦ rw e (omega arith)
+]
 
 pub mag-sum : (x y : ℤ) → mag (x +ℤ y) ≤ suc (mag x + mag y)
 mag-sum (pos a) (pos b) = omega arith

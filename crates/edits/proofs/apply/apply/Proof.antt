@@ -2,91 +2,64 @@ use Rattle.edits.specs.Edits.{same-edit, same-insertion, same-turn}
 use borrow.Author.Needs.{needs}
 use Rattle.edits.proofs.apply.apply.Statement.{statement}
 use Rattle.edits.proofs.apply.apply.Tie as tie
-use Rattle.edits.proofs.apply.apply.Reads as reads
-use Rattle.edits.proofs.apply.apply.Lts as lts
-use Rattle.edits.proofs.edge.delete_edge.Reads as delete-edge-reads
-use Rattle.edits.proofs.edge.insert_edge.Reads as insert-edge-reads
-use Rattle.edits.proofs.edge.turn_edge.Reads as turn-edge-reads
-use Rattle.edits.proofs.vertex.add_vertex.Reads as add-vertex-reads
-use Rattle.edits.proofs.vertex.remove_vertex.Reads as remove-vertex-reads
 
--- src/apply.rt:14:25
 enum-known-edit : tie.Need-enum-known-edit
 enum-known-edit c = search needs
 
--- src/apply.rt:14:31
 add-vertex-requires : tie.Need-add-vertex-requires
 add-vertex-requires c κs = search needs
 
--- src/apply.rt:15:28
 enum-known-edit-2 : tie.Need-enum-known-edit-2
 enum-known-edit-2 c = search needs
 
--- src/apply.rt:15:34
 remove-vertex-requires : tie.Need-remove-vertex-requires
 remove-vertex-requires c κs = search needs
 
--- src/apply.rt:17:13
 enum-known-edit-3 : tie.Need-enum-known-edit-3
 enum-known-edit-3 c = search needs
 
--- src/apply.rt:21:14
 insert-edge-requires : tie.Need-insert-edge-requires
 insert-edge-requires c κs = search needs
 
--- src/apply.rt:22:26
 enum-known-edit-4 : tie.Need-enum-known-edit-4
 enum-known-edit-4 c = search needs
 
--- src/apply.rt:22:32
 delete-edge-requires : tie.Need-delete-edge-requires
 delete-edge-requires c κs = search needs
 
--- src/apply.rt:23:26
 enum-known-edit-5 : tie.Need-enum-known-edit-5
 enum-known-edit-5 c = search needs
 
--- src/apply.rt:23:44
 turn-edge-requires : tie.Need-turn-edge-requires
 turn-edge-requires c κs = search needs
 
--- src/apply.rt:10:1
 same-length : tie.Need-same-length
 same-length c = search needs
 
--- src/apply.rt:10:1
 returns : tie.Need-returns
 returns c = same-edit _ _ _ _ _ (c .before .before .before .before .before .edit .given .1) (c .before .before .add-vertex .ensures)
 
--- src/apply.rt:10:1
 same-length-2 : tie.Need-same-length-2
 same-length-2 c = search needs
 
--- src/apply.rt:10:1
 returns-2 : tie.Need-returns-2
 returns-2 c = same-edit _ _ _ _ _ (c .before .before .before .before .before .edit2 .given .1) (c .before .before .remove-vertex .ensures)
 
--- src/apply.rt:10:1
 same-length-3 : tie.Need-same-length-3
 same-length-3 c = search needs
 
--- src/apply.rt:10:1
 returns-3 : tie.Need-returns-3
 returns-3 c = same-insertion _ _ _ _ (c .before .before .before .before .before .edit3 .given .0 .0) (c .before .before .before .before .before .edit3 .given .0 .1 .0) (c .before .before .before .before .before .edit3 .given .0 .1 .1 .0) (c .before .before .before .before .before .edit3 .given .0 .1 .1 .1 .0) (record { sfits = c .before .before .before .before .known-told3 .given .1 .1 .1 .0 .1 }) (c .before .before .before .before .before .edit3 .given .1) (c .before .before .insert-edge .ensures)
 
--- src/apply.rt:10:1
 same-length-4 : tie.Need-same-length-4
 same-length-4 c = search needs
 
--- src/apply.rt:10:1
 returns-4 : tie.Need-returns-4
 returns-4 c = same-edit _ _ _ _ _ (c .before .before .before .before .before .edit4 .given .1) (c .before .before .delete-edge .ensures)
 
--- src/apply.rt:10:1
 same-length-5 : tie.Need-same-length-5
 same-length-5 c = search needs
 
--- src/apply.rt:10:1
 returns-5 : tie.Need-returns-5
 returns-5 c = same-turn _ _ _ _ (c .before .before .before .before .before .edit5 .given .0 .0) (c .before .before .before .before .before .edit5 .given .0 .1 .0) (record { sfits = c .before .before .before .before .known-told5 .given .1 .0 .1 }) (c .before .before .before .before .before .edit5 .given .1) (c .before .before .turn-edge .ensures)
 

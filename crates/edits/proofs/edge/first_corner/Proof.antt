@@ -2,22 +2,16 @@ use borrow.Author.Tests.{eq-eqb, ne-eqb}
 use borrow.Author.Needs.{needs}
 use Rattle.edits.proofs.edge.first_corner.Statement.{statement}
 use Rattle.edits.proofs.edge.first_corner.Tie as tie
-use Rattle.edits.proofs.edge.first_corner.Reads as reads
-use Rattle.edits.proofs.edge.first_corner.Lts as lts
 
--- src/edge.rt:32:16
 mul-result : tie.Need-mul-result
 mul-result c = search needs
 
--- src/edge.rt:32:16
 add-result : tie.Need-add-result
 add-result c = search needs
 
--- src/edge.rt:32:9
 returns : tie.Need-returns
 returns c = simp (eq-eqb _ _ (c .if1 .taken))
 
--- src/edge.rt:27:1
 returns-2 : tie.Need-returns-2
 returns-2 c = simp (ne-eqb _ _ (c .if1 .left))
 

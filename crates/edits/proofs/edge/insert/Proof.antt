@@ -1,57 +1,42 @@
 use Rattle.edits.specs.Ready.{ready-first}
 use Rattle.edits.specs.Edge.{insert-last}
 use denote.Ref.{now}
-use lib.ListN.{length, length-set}
-use mathlib.Core.Path.{sym, ap, _∙_, refl}
+use lib.ListN.{length-set}
+use mathlib.Core.Path.{_∙_}
 use borrow.Author.Needs.{needs}
 use Rattle.edits.proofs.edge.insert.Statement.{statement}
 use Rattle.edits.proofs.edge.insert.Tie as tie
-use Rattle.edits.proofs.edge.insert.Reads as reads
-use Rattle.edits.proofs.edge.insert.Lts as lts
-use Rattle.edits.proofs.edge.first_corner.Reads as first-corner-reads
-use Rattle.edits.proofs.splice.link.Reads as link-reads
 
--- src/edge.rt:20:13
 mul-link : tie.Need-mul-link
 mul-link c = search needs
 
--- src/edge.rt:20:13
 add-link : tie.Need-add-link
 add-link c = search needs
 
--- src/edge.rt:20:5
 link-requires : tie.Need-link-requires
 link-requires c κs = search needs
 
--- src/edge.rt:21:9
 first-corner-requires : tie.Need-first-corner-requires
 first-corner-requires c κs = search needs
 
--- src/edge.rt:22:13
 mul-link-2 : tie.Need-mul-link-2
 mul-link-2 c = search needs
 
--- src/edge.rt:22:5
 link-requires-2 : tie.Need-link-requires-2
 link-requires-2 c κs = ready-first (c .before .before .before .before .before .before .before .pre) (c .before .before .before .before .link .ensures) (c .before .first-corner .ensures)
 
--- src/edge.rt:23:7
 add-t : tie.Need-add-t
 add-t c = search needs
 
--- src/edge.rt:23:5
 mul-t : tie.Need-mul-t
 mul-t c = search needs
 
--- src/edge.rt:23:5
 slice-write-t : tie.Need-slice-write-t
 slice-write-t c = search needs
 
--- src/edge.rt:16:1
 same-length : tie.Need-same-length
 same-length c = simp length-set (c .before .before .link2 .kept .0 ∙ c .before .before .before .before .before .before .before .link .kept .0)
 
--- src/edge.rt:16:1
 returns : tie.Need-returns
 returns c = insert-last (now (c .before .before .before .before .before .before .before .before .before .before .args .t)) (c .before .before .before .before .before .before .before .link .last .0) (c .before .before .link2 .last .0) (c .before .before .before .before .before .before .before .before .before .before .args .e) (c .before .before .before .before .before .before .before .before .before .before .args .c1) (c .before .before .before .before .before .before .before .before .before .before .args .c2) (c .before .before .before .before .first-corner .result) (c .before .before .before .before .before .before .before .before .before .before .args .w) (c .before .before .before .before .before .before .before .link .ensures) (c .before .before .before .before .first-corner .ensures) (c .before .before .link2 .ensures)
 

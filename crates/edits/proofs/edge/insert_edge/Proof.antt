@@ -1,47 +1,32 @@
-use Rattle.edits.specs.Passed.{may-insert, insert-good, may-insert-ready, may-delete, delete-good, may-delete-ready, may-turn, turn-good}
-use Rattle.edits.specs.declared.edit.Edit.the-variants.{InsertEdge, DeleteEdge, TurnEdge}
+use Rattle.edits.specs.Passed.{may-insert, insert-good, may-insert-ready}
+use Rattle.edits.specs.declared.edit.Edit.the-variants.{InsertEdge}
 use Rattle.edits.specs.Edits.{went-through, was-declined}
 use Rattle.edits.specs.Edge.{inserted}
 use Rattle.edits.specs.Turns.{amount-on}
-use Rattle.edits.specs.Verdicts.{insert-on, turn-on}
-use Rattle.table.specs.Writes.{setEdge}
-use Rattle.table.specs.Layout.{edgeWord}
+use Rattle.edits.specs.Verdicts.{insert-on}
 use Rattle.table.specs.Good.{Good}
 use denote.Ref.{now}
-use native.Mathlib.Omega.{arith}
-use mathlib.Core.Path.{sym, ap, subst, _∙_, refl}
+use mathlib.Core.Path.{sym, ap, subst, _∙_}
 use borrow.Author.Needs.{needs}
 use Rattle.edits.proofs.edge.insert_edge.Statement.{statement}
 use Rattle.edits.proofs.edge.insert_edge.Tie as tie
-use Rattle.edits.proofs.edge.insert_edge.Reads as reads
-use Rattle.edits.proofs.edge.insert_edge.Lts as lts
-use Rattle.edits.proofs.edge.insert.Reads as insert-reads
-use Rattle.edits.proofs.turns.turned_word.Reads as turned-word-reads
-use Rattle.edits.proofs.verdict.insert_verdict.Reads as insert-verdict-reads
-use Rattle.tracing.proofs.count.face_count.Reads as face-count-reads
 
--- src/edge.rt:42:11
 insert-verdict-requires : tie.Need-insert-verdict-requires
 insert-verdict-requires c κs = search needs
 
--- src/edge.rt:43:27
 enum-known-r : tie.Need-enum-known-r
 enum-known-r c = search needs
 
--- src/edge.rt:45:17
 enum-told : tie.Need-enum-told
 enum-told c = search needs
 
--- src/edge.rt:45:17
 turned-word-requires : tie.Need-turned-word-requires
 turned-word-requires c κs = search needs
 
--- src/edge.rt:46:13
 insert-requires : tie.Need-insert-requires
 insert-requires c κs = let t = now (c .before .before .before .before .before .before .before .args .t) in
     may-insert-ready t _ _ _ (c .before .before .before .before .before .before .before .args .k) (may-insert t _ _ _ (c .before .before .before .before .before .before .before .args .k) (insert-on t _ _ _ (c .before .before .before .before .before .before .before .args .k) (c .before .before .before .before .before .before .before .fits .k) (c .before .before .before .before .insert-verdict .ensures) (c .before .before .enum-told .given .1)))
 
--- src/edge.rt:47:26
 face-count-requires : tie.Need-face-count-requires
 face-count-requires c κs = let t = now (c .before .before .before .before .before .before .before .before .before .before .before .args .t) in
     let k = c .before .before .before .before .before .before .before .before .before .before .before .args .k in
@@ -49,21 +34,17 @@ face-count-requires c κs = let t = now (c .before .before .before .before .befo
     let e = c .before .before .before .insert .ensures ∙ ap (inserted t (c .before .before .before .before .before .before .before .before .before .before .before .args .e) (c .before .before .before .before .before .before .before .before .before .before .before .args .c1) (c .before .before .before .before .before .before .before .before .before .before .before .args .c2)) (amount-on 100 k (c .before .before .before .before .before .before .before .before .before .before .before .fits .k) (c .before .before .before .before .before .turned-word .ensures)) in
     subst Good (sym e) (insert-good t _ _ _ k m)
 
--- src/edge.rt:39:1
 same-length : tie.Need-same-length
 same-length c = search needs
 
--- src/edge.rt:39:1
 returns : tie.Need-returns
 returns c = let t = now (c .before .before .before .before .before .before .args .t) in
     let k = c .before .before .before .before .before .before .args .k in
     was-declined t (InsertEdge (c .before .before .before .before .before .before .args .e) (c .before .before .before .before .before .before .args .c1) (c .before .before .before .before .before .before .args .c2) k) _ (insert-on t _ _ _ k (c .before .before .before .before .before .before .fits .k) (c .before .before .before .insert-verdict .ensures) (c .before .r .given .1))
 
--- src/edge.rt:39:1
 same-length-2 : tie.Need-same-length-2
 same-length-2 c = search needs
 
--- src/edge.rt:39:1
 returns-2 : tie.Need-returns-2
 returns-2 c = let t = now (c .before .before .before .before .before .before .before .before .before .before .before .before .args .t) in
     let k = c .before .before .before .before .before .before .before .before .before .before .before .before .args .k in

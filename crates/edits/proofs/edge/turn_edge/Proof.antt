@@ -1,71 +1,54 @@
-use Rattle.edits.specs.Passed.{may-insert, insert-good, may-insert-ready, may-delete, delete-good, may-delete-ready, may-turn, turn-good}
-use Rattle.edits.specs.declared.edit.Edit.the-variants.{InsertEdge, DeleteEdge, TurnEdge}
+use Rattle.edits.specs.Passed.{may-turn, turn-good}
+use Rattle.edits.specs.declared.edit.Edit.the-variants.{TurnEdge}
 use Rattle.edits.specs.Edits.{went-through, was-declined}
-use Rattle.edits.specs.Edge.{inserted}
 use Rattle.edits.specs.Turns.{amount-on}
-use Rattle.edits.specs.Verdicts.{insert-on, turn-on}
+use Rattle.edits.specs.Verdicts.{turn-on}
 use Rattle.table.specs.Writes.{setEdge}
 use Rattle.table.specs.Layout.{edgeWord}
 use Rattle.table.specs.Good.{Good}
 use denote.Ref.{now}
 use native.Mathlib.Omega.{arith}
-use mathlib.Core.Path.{sym, ap, subst, _∙_, refl}
+use mathlib.Core.Path.{sym, ap, subst}
 use borrow.Author.Needs.{needs}
 use Rattle.edits.proofs.edge.turn_edge.Statement.{statement}
 use Rattle.edits.proofs.edge.turn_edge.Tie as tie
-use Rattle.edits.proofs.edge.turn_edge.Reads as reads
-use Rattle.edits.proofs.edge.turn_edge.Lts as lts
-use Rattle.edits.proofs.turns.turned_word.Reads as turned-word-reads
-use Rattle.edits.proofs.verdict.turn_verdict.Reads as turn-verdict-reads
-use Rattle.tracing.proofs.count.face_count.Reads as face-count-reads
 
--- src/edge.rt:79:11
 turn-verdict-requires : tie.Need-turn-verdict-requires
 turn-verdict-requires c κs = search needs
 
--- src/edge.rt:80:27
 enum-known-r : tie.Need-enum-known-r
 enum-known-r c = search needs
 
--- src/edge.rt:82:42
 enum-told : tie.Need-enum-told
 enum-told c = search needs
 
--- src/edge.rt:82:35
 add-turned-word : tie.Need-add-turned-word
 add-turned-word c = search needs
 
--- src/edge.rt:82:33
 mul-turned-word : tie.Need-mul-turned-word
 mul-turned-word c = search needs
 
--- src/edge.rt:82:33
 slice-read-turned-word : tie.Need-slice-read-turned-word
 slice-read-turned-word c = let m = may-turn _ _ (c .before .before .before .before .before .before .args .amount) (turn-on (now (c .before .before .before .before .before .before .args .t)) _ (c .before .before .before .before .before .before .args .amount) (c .before .before .before .before .before .before .fits .amount) (c .before .before .before .turn-verdict .ensures) (c .before .enum-told .given .1)) in
     let size = m .good .size in
     let low = m .low in
     omega arith
 
--- src/edge.rt:82:17
 turned-word-requires : tie.Need-turned-word-requires
 turned-word-requires c κs = search needs
 
--- src/edge.rt:83:15
 add-t : tie.Need-add-t
 add-t c = search needs
 
--- src/edge.rt:83:13
 mul-t : tie.Need-mul-t
 mul-t c = search needs
 
--- src/edge.rt:83:13
 slice-write-t : tie.Need-slice-write-t
 slice-write-t c = let m = may-turn _ _ (c .before .before .before .before .before .before .before .args .amount) (turn-on (now (c .before .before .before .before .before .before .before .args .t)) _ (c .before .before .before .before .before .before .before .args .amount) (c .before .before .before .before .before .before .before .fits .amount) (c .before .before .before .before .turn-verdict .ensures) (c .before .before .enum-told .given .1)) in
     let size = m .good .size in
     let low = m .low in
     omega arith
 
--- src/edge.rt:84:26
 face-count-requires : tie.Need-face-count-requires
 face-count-requires c κs = let t = now (c .before .before .before .before .before .before .before .before .args .t) in
     let a = c .before .before .before .before .before .before .before .before .args .amount in
@@ -73,21 +56,17 @@ face-count-requires c κs = let t = now (c .before .before .before .before .befo
     let e = ap (setEdge t (c .before .before .before .before .before .before .before .before .args .e)) (amount-on (edgeWord t (c .before .before .before .before .before .before .before .before .args .e)) a (c .before .before .before .before .before .before .before .before .fits .amount) (c .before .turned-word .ensures)) in
     subst Good (sym e) (turn-good t _ a m)
 
--- src/edge.rt:76:1
 same-length : tie.Need-same-length
 same-length c = search needs
 
--- src/edge.rt:76:1
 returns : tie.Need-returns
 returns c = let t = now (c .before .before .before .before .before .before .args .t) in
     let a = c .before .before .before .before .before .before .args .amount in
     was-declined t (TurnEdge (c .before .before .before .before .before .before .args .e) a) _ (turn-on t _ a (c .before .before .before .before .before .before .fits .amount) (c .before .before .before .turn-verdict .ensures) (c .before .r .given .1))
 
--- src/edge.rt:76:1
 same-length-2 : tie.Need-same-length-2
 same-length-2 c = search needs
 
--- src/edge.rt:76:1
 returns-2 : tie.Need-returns-2
 returns-2 c = let t = now (c .before .before .before .before .before .before .before .before .before .args .t) in
     let a = c .before .before .before .before .before .before .before .before .before .args .amount in

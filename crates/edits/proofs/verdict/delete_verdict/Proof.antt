@@ -1,48 +1,36 @@
-use Rattle.edits.specs.Verdicts.{addVerdict, removeVerdict, insertVerdict, deleteVerdict, turnVerdict}
+use Rattle.edits.specs.Verdicts.{deleteVerdict}
 use Rattle.table.specs.Check.{seen-good, seen-torn}
 use denote.Ref.{now}
-use borrow.Author.Tests.{lt-leb, le-leb, eq-eqb, ne-eqb, not-true, not-false}
+use borrow.Author.Tests.{lt-leb, le-leb, eq-eqb, ne-eqb}
 use native.Mathlib.Omega.{arith}
-use mathlib.Core.Path.{sym, ap, _∙_, refl}
 use borrow.Author.Needs.{needs}
 use Rattle.edits.proofs.verdict.delete_verdict.Statement.{statement}
 use Rattle.edits.proofs.verdict.delete_verdict.Tie as tie
-use Rattle.edits.proofs.verdict.delete_verdict.Reads as reads
-use Rattle.edits.proofs.verdict.delete_verdict.Lts as lts
-use Rattle.table.proofs.whole.is_good.Reads as is-good-reads
 
--- src/verdict.rt:51:9
 is-good-requires : tie.Need-is-good-requires
 is-good-requires c κs = search needs
 
--- src/verdict.rt:52:9
 returns : tie.Need-returns
 unfolding deleteVerdict
 returns c = simp (seen-torn (now (c .before .before .before .args .t)) (c .before .is-good .ensures) (c .if1 .taken))
 
--- src/verdict.rt:55:9
 returns-2 : tie.Need-returns-2
 unfolding deleteVerdict
 returns-2 c = let g = seen-good (now (c .before .before .before .before .args .t)) (c .before .before .is-good .ensures) (c .before .if1 .left) in simp (g .0, le-leb _ _ (c .if2 .taken))
 
--- src/verdict.rt:57:10
 add-if3 : tie.Need-add-if3
 add-if3 c = search needs
 
--- src/verdict.rt:57:8
 mul-if3 : tie.Need-mul-if3
 mul-if3 c = search needs
 
--- src/verdict.rt:57:8
 shared-slice-read-if3 : tie.Need-shared-slice-read-if3
 shared-slice-read-if3 c = let s = seen-good (now (c .before .before .before .before .before .args .t)) (c .before .before .before .is-good .ensures) (c .before .before .if1 .left) .1 .size in omega arith
 
--- src/verdict.rt:58:9
 returns-3 : tie.Need-returns-3
 unfolding deleteVerdict
 returns-3 c = let g = seen-good (now (c .before .before .before .before .before .before .args .t)) (c .before .before .before .before .is-good .ensures) (c .before .before .before .if1 .left) in simp (g .0, lt-leb _ _ (c .before .before .if2 .left), eq-eqb _ _ (c .if3 .taken))
 
--- src/verdict.rt:48:1
 returns-4 : tie.Need-returns-4
 unfolding deleteVerdict
 returns-4 c = let g = seen-good (now (c .before .before .before .before .before .before .args .t)) (c .before .before .before .before .is-good .ensures) (c .before .before .before .if1 .left) in simp (g .0, lt-leb _ _ (c .before .before .if2 .left), ne-eqb _ _ (c .if3 .left))

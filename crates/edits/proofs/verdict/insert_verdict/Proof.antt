@@ -1,95 +1,70 @@
-use Rattle.edits.specs.Turns.{amount-on}
+use Rattle.edits.specs.Turns.{amount-on, zero-over, some-few, hundred, overturned}
 use mathlib.Core.Bool.{true, false}
-use mathlib.Core.Path.{_≡_}
-use Rattle.edits.specs.Turns.{zero-over, some-few, hundred, overturned}
+use mathlib.Core.Path.{_≡_, sym, ap, _∙_}
 use Rattle.edits.specs.Verdicts.{insertVerdict}
 use Rattle.table.specs.Check.{seen-good, seen-torn}
 use denote.Ref.{now}
 use borrow.Author.Tests.{lt-leb, le-leb, eq-eqb, ne-eqb, not-true, not-false}
 use native.Mathlib.Omega.{arith}
-use mathlib.Core.Path.{sym, ap, _∙_, refl}
 use borrow.Author.Needs.{needs}
 use Rattle.edits.proofs.verdict.insert_verdict.Statement.{statement}
 use Rattle.edits.proofs.verdict.insert_verdict.Tie as tie
-use Rattle.edits.proofs.verdict.insert_verdict.Reads as reads
-use Rattle.edits.proofs.verdict.insert_verdict.Lts as lts
-use Rattle.edits.proofs.turns.turned_word.Reads as turned-word-reads
-use Rattle.table.proofs.whole.is_good.Reads as is-good-reads
-use Rattle.tracing.proofs.corner.is_corner.Reads as is-corner-reads
-use Rattle.tracing.proofs.corner.is_present.Reads as is-present-reads
 
--- src/verdict.rt:87:9
 is-good-requires : tie.Need-is-good-requires
 is-good-requires c κs = search needs
 
--- src/verdict.rt:88:9
 returns : tie.Need-returns
 unfolding insertVerdict
 returns c = simp (seen-torn (now (c .before .before .before .args .t)) (c .before .is-good .ensures) (c .if1 .taken))
 
--- src/verdict.rt:91:9
 returns-2 : tie.Need-returns-2
 unfolding insertVerdict
 returns-2 c = let g = seen-good (now (c .before .before .before .before .args .t)) (c .before .before .is-good .ensures) (c .before .if1 .left) in simp (g .0, le-leb _ _ (c .if2 .taken))
 
--- src/verdict.rt:93:9
 is-corner-requires : tie.Need-is-corner-requires
 is-corner-requires c κs = search needs
 
--- src/verdict.rt:94:9
 returns-3 : tie.Need-returns-3
 unfolding insertVerdict
 returns-3 c = let g = seen-good (now (c .before .before .before .before .before .before .args .t)) (c .before .before .before .before .is-good .ensures) (c .before .before .before .if1 .left) in simp (g .0, lt-leb _ _ (c .before .before .if2 .left), sym (c .before .is-corner .ensures) ∙ not-true _ (c .if3 .taken))
 
--- src/verdict.rt:96:9
 is-corner-requires-2 : tie.Need-is-corner-requires-2
 is-corner-requires-2 c κs = search needs
 
--- src/verdict.rt:97:9
 returns-4 : tie.Need-returns-4
 unfolding insertVerdict
 returns-4 c = let g = seen-good (now (c .before .before .before .before .before .before .before .before .args .t)) (c .before .before .before .before .before .before .is-good .ensures) (c .before .before .before .before .before .if1 .left) in simp (g .0, lt-leb _ _ (c .before .before .before .before .if2 .left), sym (c .before .before .before .is-corner .ensures) ∙ not-false _ (c .before .before .if3 .left), sym (c .before .is-corner2 .ensures) ∙ not-true _ (c .if4 .taken))
 
--- src/verdict.rt:99:10
 add-if5 : tie.Need-add-if5
 add-if5 c = search needs
 
--- src/verdict.rt:99:8
 mul-if5 : tie.Need-mul-if5
 mul-if5 c = search needs
 
--- src/verdict.rt:99:8
 shared-slice-read-if5 : tie.Need-shared-slice-read-if5
 shared-slice-read-if5 c = let s = seen-good (now (c .before .before .before .before .before .before .before .before .before .args .t)) (c .before .before .before .before .before .before .before .is-good .ensures) (c .before .before .before .before .before .before .if1 .left) .1 .size in omega arith
 
--- src/verdict.rt:100:9
 returns-5 : tie.Need-returns-5
 unfolding insertVerdict
 returns-5 c = let g = seen-good (now (c .before .before .before .before .before .before .before .before .before .before .args .t)) (c .before .before .before .before .before .before .before .before .is-good .ensures) (c .before .before .before .before .before .before .before .if1 .left) in simp (g .0, lt-leb _ _ (c .before .before .before .before .before .before .if2 .left), sym (c .before .before .before .before .before .is-corner .ensures) ∙ not-false _ (c .before .before .before .before .if3 .left), sym (c .before .before .before .is-corner2 .ensures) ∙ not-false _ (c .before .before .if4 .left), ne-eqb _ _ (c .if5 .taken))
 
--- src/verdict.rt:102:9
 is-present-requires : tie.Need-is-present-requires
 is-present-requires c κs = (seen-good (now (c .before .before .before .before .before .before .before .before .before .before .args .t)) (c .before .before .before .before .before .before .before .before .is-good .ensures) (c .before .before .before .before .before .before .before .if1 .left) .1, sym (c .before .before .before .before .before .is-corner .ensures) ∙ not-false _ (c .before .before .before .before .if3 .left))
 
--- src/verdict.rt:103:9
 returns-6 : tie.Need-returns-6
 unfolding insertVerdict
 returns-6 c = let g = seen-good (now (c .before .before .before .before .before .before .before .before .before .before .before .before .args .t)) (c .before .before .before .before .before .before .before .before .before .before .is-good .ensures) (c .before .before .before .before .before .before .before .before .before .if1 .left) in simp (g .0, lt-leb _ _ (c .before .before .before .before .before .before .before .before .if2 .left), sym (c .before .before .before .before .before .before .before .is-corner .ensures) ∙ not-false _ (c .before .before .before .before .before .before .if3 .left), sym (c .before .before .before .before .before .is-corner2 .ensures) ∙ not-false _ (c .before .before .before .before .if4 .left), eq-eqb _ _ (c .before .before .if5 .left), sym (c .before .is-present .ensures) ∙ not-true _ (c .if6 .taken))
 
--- src/verdict.rt:105:9
 is-present-requires-2 : tie.Need-is-present-requires-2
 is-present-requires-2 c κs = (seen-good (now (c .before .before .before .before .before .before .before .before .before .before .before .before .args .t)) (c .before .before .before .before .before .before .before .before .before .before .is-good .ensures) (c .before .before .before .before .before .before .before .before .before .if1 .left) .1, sym (c .before .before .before .before .before .is-corner2 .ensures) ∙ not-false _ (c .before .before .before .before .if4 .left))
 
--- src/verdict.rt:106:9
 returns-7 : tie.Need-returns-7
 unfolding insertVerdict
 returns-7 c = let g = seen-good (now (c .before .before .before .before .before .before .before .before .before .before .before .before .before .before .args .t)) (c .before .before .before .before .before .before .before .before .before .before .before .before .is-good .ensures) (c .before .before .before .before .before .before .before .before .before .before .before .if1 .left) in simp (g .0, lt-leb _ _ (c .before .before .before .before .before .before .before .before .before .before .if2 .left), sym (c .before .before .before .before .before .before .before .before .before .is-corner .ensures) ∙ not-false _ (c .before .before .before .before .before .before .before .before .if3 .left), sym (c .before .before .before .before .before .before .before .is-corner2 .ensures) ∙ not-false _ (c .before .before .before .before .before .before .if4 .left), eq-eqb _ _ (c .before .before .before .before .if5 .left), sym (c .before .before .before .is-present .ensures) ∙ not-false _ (c .before .before .if6 .left), sym (c .before .is-present2 .ensures) ∙ not-true _ (c .if7 .taken))
 
--- src/verdict.rt:108:8
 turned-word-requires : tie.Need-turned-word-requires
 turned-word-requires c κs = search needs
 
--- src/verdict.rt:109:9
 returns-8 : tie.Need-returns-8
 unfolding insertVerdict
 returns-8 c = let g = seen-good (now (c .before .before .before .before .before .before .before .before .before .before .before .before .before .before .before .before .args .t)) (c .before .before .before .before .before .before .before .before .before .before .before .before .before .before .is-good .ensures) (c .before .before .before .before .before .before .before .before .before .before .before .before .before .if1 .left) in
@@ -97,7 +72,6 @@ returns-8 c = let g = seen-good (now (c .before .before .before .before .before 
     let k : overturned (c .before .before .before .before .before .before .before .before .before .before .before .before .before .before .before .before .args .k) ≡ true = sym (ap overturned (hundred (c .before .before .before .before .before .before .before .before .before .before .before .before .before .before .before .before .args .k))) ∙ zero-over 100 (c .before .before .before .before .before .before .before .before .before .before .before .before .before .before .before .before .args .k) (sym r ∙ c .if8 .taken) in
     simp (g .0, lt-leb _ _ (c .before .before .before .before .before .before .before .before .before .before .before .before .if2 .left), sym (c .before .before .before .before .before .before .before .before .before .before .before .is-corner .ensures) ∙ not-false _ (c .before .before .before .before .before .before .before .before .before .before .if3 .left), sym (c .before .before .before .before .before .before .before .before .before .is-corner2 .ensures) ∙ not-false _ (c .before .before .before .before .before .before .before .before .if4 .left), eq-eqb _ _ (c .before .before .before .before .before .before .if5 .left), sym (c .before .before .before .before .before .is-present .ensures) ∙ not-false _ (c .before .before .before .before .if6 .left), sym (c .before .before .before .is-present2 .ensures) ∙ not-false _ (c .before .before .if7 .left), k)
 
--- src/verdict.rt:84:1
 returns-9 : tie.Need-returns-9
 unfolding insertVerdict
 returns-9 c = let g = seen-good (now (c .before .before .before .before .before .before .before .before .before .before .before .before .before .before .before .before .args .t)) (c .before .before .before .before .before .before .before .before .before .before .before .before .before .before .is-good .ensures) (c .before .before .before .before .before .before .before .before .before .before .before .before .before .if1 .left) in

@@ -1,56 +1,42 @@
-use Rattle.edits.specs.Turns.{amount-on}
+use Rattle.edits.specs.Turns.{amount-on, zero-over, some-few}
 use Rattle.table.specs.Layout.{edgeWord}
-use Rattle.edits.specs.Turns.{zero-over, some-few, hundred}
-use Rattle.edits.specs.Verdicts.{addVerdict, removeVerdict, insertVerdict, deleteVerdict, turnVerdict}
+use Rattle.edits.specs.Verdicts.{turnVerdict}
 use Rattle.table.specs.Check.{seen-good, seen-torn}
 use denote.Ref.{now}
-use borrow.Author.Tests.{lt-leb, le-leb, eq-eqb, ne-eqb, not-true, not-false}
+use borrow.Author.Tests.{lt-leb, le-leb, eq-eqb, ne-eqb}
 use native.Mathlib.Omega.{arith}
-use mathlib.Core.Path.{sym, ap, _∙_, refl}
+use mathlib.Core.Path.{sym, _∙_}
 use borrow.Author.Needs.{needs}
 use Rattle.edits.proofs.verdict.turn_verdict.Statement.{statement}
 use Rattle.edits.proofs.verdict.turn_verdict.Tie as tie
-use Rattle.edits.proofs.verdict.turn_verdict.Reads as reads
-use Rattle.edits.proofs.verdict.turn_verdict.Lts as lts
-use Rattle.edits.proofs.turns.turned_word.Reads as turned-word-reads
-use Rattle.table.proofs.whole.is_good.Reads as is-good-reads
 
--- src/verdict.rt:67:9
 is-good-requires : tie.Need-is-good-requires
 is-good-requires c κs = search needs
 
--- src/verdict.rt:68:9
 returns : tie.Need-returns
 unfolding turnVerdict
 returns c = simp (seen-torn (now (c .before .before .before .args .t)) (c .before .is-good .ensures) (c .if1 .taken))
 
--- src/verdict.rt:71:9
 returns-2 : tie.Need-returns-2
 unfolding turnVerdict
 returns-2 c = let g = seen-good (now (c .before .before .before .before .args .t)) (c .before .before .is-good .ensures) (c .before .if1 .left) in simp (g .0, le-leb _ _ (c .if2 .taken))
 
--- src/verdict.rt:73:15
 add-w : tie.Need-add-w
 add-w c = search needs
 
--- src/verdict.rt:73:13
 mul-w : tie.Need-mul-w
 mul-w c = search needs
 
--- src/verdict.rt:73:13
 shared-slice-read-w : tie.Need-shared-slice-read-w
 shared-slice-read-w c = let s = seen-good (now (c .before .before .before .before .before .args .t)) (c .before .before .before .is-good .ensures) (c .before .before .if1 .left) .1 .size in omega arith
 
--- src/verdict.rt:75:9
 returns-3 : tie.Need-returns-3
 unfolding turnVerdict
 returns-3 c = let g = seen-good (now (c .before .before .before .before .before .before .args .t)) (c .before .before .before .before .is-good .ensures) (c .before .before .before .if1 .left) in simp (g .0, lt-leb _ _ (c .before .before .if2 .left), eq-eqb _ _ (c .if3 .taken))
 
--- src/verdict.rt:77:8
 turned-word-requires : tie.Need-turned-word-requires
 turned-word-requires c κs = search needs
 
--- src/verdict.rt:78:9
 returns-4 : tie.Need-returns-4
 unfolding turnVerdict
 returns-4 c = let g = seen-good (now (c .before .before .before .before .before .before .before .before .args .t)) (c .before .before .before .before .before .before .is-good .ensures) (c .before .before .before .before .before .if1 .left) in
@@ -58,7 +44,6 @@ returns-4 c = let g = seen-good (now (c .before .before .before .before .before 
     let r = amount-on w (c .before .before .before .before .before .before .before .before .args .amount) (c .before .before .before .before .before .before .before .before .fits .amount) (c .before .turned-word .ensures) in
     simp (g .0, lt-leb _ _ (c .before .before .before .before .if2 .left), ne-eqb _ _ (c .before .before .if3 .left), zero-over w (c .before .before .before .before .before .before .before .before .args .amount) (sym r ∙ c .if4 .taken))
 
--- src/verdict.rt:64:1
 returns-5 : tie.Need-returns-5
 unfolding turnVerdict
 returns-5 c = let g = seen-good (now (c .before .before .before .before .before .before .before .before .args .t)) (c .before .before .before .before .before .before .is-good .ensures) (c .before .before .before .before .before .if1 .left) in

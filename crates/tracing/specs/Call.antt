@@ -1,15 +1,15 @@
 -- What the call for the listing answers and what it leaves in the slice, document 01, "When a call declines":
 -- torn first, then a slice shorter than "the output's exact size"; "An accepted call changes nothing past its output's exact size".
-use Prim.Native.Nat.{ℕ, _+_, _<_, _≤_}
+use Prim.Native.Nat.{ℕ, _<_, _≤_}
 use native.Mathlib.Omega.{arith}
 use mathlib.Core.Path.{_≡_, refl, sym, _∙_, ap}
 use mathlib.Core.Bool.{Bool, true, false, _&&_}
-use mathlib.Core.List.{List, _++_}
+use mathlib.Core.List.{List}
 use lib.Dec.{leb}
-use lib.ListN.{length, drop}
+use lib.ListN.{length}
 use borrow.Author.Tests.{le-leb, lt-leb}
 use Rattle.table.specs.Good.{Good}
-use Rattle.table.specs.Rotation.{rotation, Case, holds, fails}
+use Rattle.table.specs.Rotation.{rotation, holds, fails}
 use Rattle.table.specs.Check.{good?, good-case, checkOf}
 use Rattle.table.specs.declared.answer.Answer.{Answer}
 use Rattle.table.specs.declared.answer.Answer.the-variants.{Done, Declined}

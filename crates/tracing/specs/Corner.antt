@@ -1,31 +1,33 @@
 -- Corner words, the face that a corner is on and its type there, document 01, "Corners and walks" and "Counts".
 -- Two corners are on one face exactly if their places are on one orbit of tracing or on mirror orbits; their types agree in the first case alone.
-use Prim.Native.Nat.{ℕ, zero, suc, _+_, _-_, _*_, _/_, _%_, _<_, _≤_}
+use Prim.Native.Nat.{ℕ, _+_, _-_, _*_, _/_, _%_, _<_, _≤_}
 use native.Mathlib.Omega.{arith}
 use native.Mathlib.Decide.{ℕ-discrete, decLt}
-use mathlib.Core.Path.{_≡_, refl, sym, _∙_, ap}
+use mathlib.Core.Path.{_≡_, sym, _∙_, ap}
 use mathlib.Core.Bool.{Bool, true, false, _||_}
-use mathlib.Core.List.{List, [], _∷_, _++_, map}
+use mathlib.Core.List.{List, [], _∷_, map}
 use mathlib.Core.Logic.{_≢_}
 use lib.Dec.{eqb, ltb}
 use borrow.Author.Tests.{eq-eqb, ne-eqb, eqb-true, lt-ltb, le-ltb}
 use Rattle.table.specs.Layout.{vertices, darts}
 use Rattle.table.specs.Rotation.{Rotation, Lawful}
-use Rattle.orbits.specs.Truth.{Truth, truth, holds, fails, clash, false-unless}
-use Rattle.orbits.specs.Reach.{Reach, reach-here, reach-trans, reach-sym, reach-dec}
+use Rattle.orbits.specs.Truth.{Truth, truth, holds, fails, clash}
+use Rattle.orbits.specs.Reach.{Reach, reach-here, reach-trans, reach-sym}
 use Rattle.orbits.specs.Orbits.{On, reach-on}
-use Rattle.orbits.specs.Mirror.{Mirror, mirror-world, mirror-reach, reach-mirror, no-self}
+use Rattle.orbits.specs.Mirror.{Mirror, mirror-world, mirror-reach, no-self}
 use Rattle.orbits.specs.Faces.{Face, along, mirrored, face-flip, face-trans}
 use Rattle.tracing.specs.declared.meeting.Meeting.{Meeting}
 use Rattle.tracing.specs.declared.meeting.Meeting.the-variants.{Apart, SameType, OtherType}
-use Rattle.tracing.specs.Step.{steps, mirror, mirror-type, corner}
-use Rattle.tracing.specs.Place.{places, either, trace, flip, on, flip-step, flip-still, on-step, on-still}
+use Rattle.tracing.specs.Step.{steps, mirror-type, corner}
+use Rattle.tracing.specs.Place.{places, either, trace, flip, on, flip-step, on-step, on-still}
 use Rattle.tracing.specs.Walk.{walk, corners}
 use Rattle.tracing.specs.Listing.{has, has-here, loneAt, loneCorner, starts}
-use Rattle.tracing.specs.Has.{has-empty, has-cons, has-head, here, later, has-tail}
+use Rattle.tracing.specs.Has.{has-empty, has-cons, here, later, has-tail}
 use Rattle.tracing.specs.Mirrored.{whole, mirrored as tracing-mirror}
-use Rattle.tracing.specs.Meets.{at-corner, plain, turned, has-walk, has-corners, corners-has, still-reach, trace-reach}
-use Rattle.tracing.specs.FaceCount.{placeOf, place-dart, place-lone, start?, start-live, has-start, start-has, covered, starts-one, lone-apart, lones-apart}
+use Rattle.tracing.specs.Meets.{at-corner, plain, turned, has-walk, has-corners, corners-has}
+use Rattle.tracing.specs.Starts.{start?, has-start, start-has}
+use Rattle.tracing.specs.Cover.{covered, starts-one, lone-apart, lones-apart}
+use Rattle.tracing.specs.FaceCount.{placeOf, place-dart, place-lone}
 
 -- "named by the dart d that ends it"; "An isolated vertex v has one corner, named 32,768+v. Other corner words are malformed."
 unfoldable pub wellFormed : ℕ → Bool

@@ -1,16 +1,15 @@
 -- The four steps on an edge: a step s, its way back, the step by the same dart with the other type (`rev s`, as a word), and the way back of that.
-use Prim.Native.Nat.{ℕ, zero, suc, _+_, _-_, _*_, _/_, _%_, _<_, _≤_}
+use Prim.Native.Nat.{ℕ, _+_, _-_, _/_, _%_, _<_}
 use native.Mathlib.Omega.{arith}
 use native.Mathlib.Decide.{ℕ-discrete}
-use mathlib.Core.Path.{_≡_, refl, sym, _∙_, ap}
-use mathlib.Core.Bool.{Bool, true, false}
-use Rattle.table.specs.Layout.{darts, rev}
+use mathlib.Core.Path.{_≡_, sym, _∙_, ap}
+use Rattle.table.specs.Layout.{rev}
 use Rattle.table.specs.Rotation.{Rotation, Lawful}
 use Rattle.table.specs.Lawful.{rev-rev}
 use Rattle.orbits.specs.Reach.{Reach, reach-one, reach-trans, reach-sym}
-use Rattle.orbits.specs.Mirror.{Mirror, mirror-world, mirror-reach}
-use Rattle.tracing.specs.Step.{steps, type?, is-zero, is-one, stepType, step, step-low, step-word, mirror, mirror-step, back, back-back, back-dart, back-type}
-use Rattle.tracing.specs.Place.{places, trace, flip, on, trace-step, flip-step}
+use Rattle.orbits.specs.Mirror.{mirror-world, mirror-reach}
+use Rattle.tracing.specs.Step.{steps, type?, is-zero, is-one, stepType, step, step-low, step-word, mirror-step, back, back-back, back-dart, back-type}
+use Rattle.tracing.specs.Place.{trace, flip, on, trace-step, flip-step}
 use Rattle.tracing.specs.Mirrored.{whole, mirrored as tracing-mirror}
 
 pub data FourCase (R : Rotation) (s s′ : ℕ) : Type 0 where
@@ -100,8 +99,8 @@ module _ (R : Rotation) (L : Lawful R) where
   Again s = Reach (trace R) s (rev s)
 
   -- the walk from s passes the other dart, in the sense that is not its way back
-  abbrev pub Along : ℕ → Type 0
-  Along s = Reach (trace R) s (back R (rev s))
+  abbrev pub Across : ℕ → Type 0
+  Across s = Reach (trace R) s (back R (rev s))
 
   pub again-all : (s s′ : ℕ) → s < steps → s / 4 ≡ s′ / 4 → Again s → Again s′
   again-all =
@@ -109,9 +108,9 @@ module _ (R : Rotation) (L : Lawful R) where
       (λ s h r. rw (rev-rev s) (reach-sym (mirror-world (tracing-mirror R L (on R) (whole R L)) .perm) (omega arith) r))
       (λ s h r. rw (rev-back R s) (back-reach h (omega arith) r))
 
-  pub along-all : (s s′ : ℕ) → s < steps → s / 4 ≡ s′ / 4 → Along s → Along s′
-  along-all =
-      of-all Along
+  pub across-all : (s s′ : ℕ) → s < steps → s / 4 ≡ s′ / 4 → Across s → Across s′
+  across-all =
+      of-all Across
       (λ s h r.
       let I = mirror-world (tracing-mirror R L (on R) (whole R L)) .perm in
       let over : Reach (trace R) (back R s) (rev s) = rw (back-back R L (rev s)) at (back-reach h (back-word (rev s) (omega arith)) r) in

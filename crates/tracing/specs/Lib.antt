@@ -11,6 +11,8 @@ pub mod Writing
 pub mod Has
 pub mod Mirrored
 pub mod Meets
+pub mod Starts
+pub mod Cover
 pub mod FaceCount
 pub mod Once
 pub mod Twice
@@ -24,3 +26,4 @@ pub mod EdgeSteps
 pub mod Sides
 pub mod SidesFound
 pub mod Call
+pub mod Gathered

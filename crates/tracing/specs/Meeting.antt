@@ -1,25 +1,25 @@
 -- What the search of a walk says of two corners of a good table.
-use Prim.Native.Nat.{ℕ, zero, suc, _+_, _-_, _*_, _/_, _%_, _<_, _≤_}
+use Prim.Native.Nat.{ℕ, _+_, _*_, _/_, _<_, _≤_}
 use native.Mathlib.Omega.{arith}
-use mathlib.Core.Path.{_≡_, refl, sym, _∙_, ap}
-use mathlib.Core.Bool.{Bool, true, false}
+use mathlib.Core.Path.{_≡_, refl, sym}
+use mathlib.Core.Bool.{true}
 use mathlib.Core.List.{List}
 use mathlib.Core.Logic.{_≢_}
-use Rattle.table.specs.Layout.{vertices, darts}
+use Rattle.table.specs.Layout.{darts}
 use Rattle.table.specs.Good.{Good}
 use Rattle.table.specs.Rotation.{Rotation, Lawful, rotation}
 use Rattle.table.specs.Lawful.{good-lawful}
 use Rattle.orbits.specs.Reach.{Reach, reach-here}
 use Rattle.orbits.specs.Faces.{Face, along, mirrored, face-flip}
-use Rattle.tracing.specs.declared.meeting.Meeting.{Meeting}
 use Rattle.tracing.specs.declared.meeting.Meeting.the-variants.{Apart, SameType, OtherType}
-use Rattle.tracing.specs.Step.{steps, step, mirror}
-use Rattle.tracing.specs.Place.{places, trace, flip, on, flip-step}
-use Rattle.tracing.specs.Listing.{loneAt, loneCorner}
+use Rattle.tracing.specs.Step.{step, mirror}
+use Rattle.tracing.specs.Place.{trace, flip, on, flip-step}
+use Rattle.tracing.specs.Listing.{loneAt}
 use Rattle.tracing.specs.Mirrored.{whole, mirrored as tracing-mirror}
 use Rattle.tracing.specs.Meets.{step-reach, trace-reach}
-use Rattle.tracing.specs.FaceCount.{placeOf, place-dart, place-lone, lone-apart, lones-apart}
-use Rattle.tracing.specs.Corner.{present, meetingOf, Present, at-dart, at-lone, present-means, place-on, meets-same, meets-other, meets-apart}
+use Rattle.tracing.specs.Cover.{lone-apart, lones-apart}
+use Rattle.tracing.specs.FaceCount.{placeOf, place-dart, place-lone}
+use Rattle.tracing.specs.Corner.{present, meetingOf, Present, at-dart, at-lone, present-means, meets-same, meets-other, meets-apart}
 use Rattle.tracing.specs.Stands.{Stands}
 use Rattle.tracing.specs.Search.{Found}
 

@@ -1,14 +1,14 @@
 -- What the code reads to tell a corner word: whether it is well formed, and whether the corner is there.
-use Prim.Native.Nat.{ℕ, _+_, _-_, _<_, _≤_}
+use Prim.Native.Nat.{ℕ, _-_, _<_, _≤_}
 use native.Mathlib.Omega.{arith}
 use native.Mathlib.Decide.{decLt}
-use mathlib.Core.Path.{_≡_, refl, sym, _∙_, ap}
-use mathlib.Core.Bool.{Bool, true, false, not, _||_, _&&_, true-or, false-or}
+use mathlib.Core.Path.{_≡_, sym, _∙_}
+use mathlib.Core.Bool.{true, false, not}
 use mathlib.Core.List.{List}
 use lib.Dec.{eqb, ltb}
 use borrow.Author.Tests.{lt-ltb, le-ltb, ltb-true}
 use Rattle.table.specs.Layout.{vertices, darts, isolated, edgeOf, edgeWord, vertexWord}
-use Rattle.table.specs.Rotation.{Rotation, rotation, live?, alone?}
+use Rattle.table.specs.Rotation.{rotation, live?, alone?}
 use Rattle.orbits.specs.Truth.{clash}
 use Rattle.tracing.specs.Listing.{loneAt}
 use Rattle.tracing.specs.Corner.{wellFormed, present, present-dart, present-lone}

@@ -1,19 +1,18 @@
 -- A walk searched for one of two steps: the loop's invariant, its measure, and what is known at its end.
-use Prim.Native.Nat.{ℕ, zero, suc, _+_, _-_, _<_, _≤_}
+use Prim.Native.Nat.{ℕ, zero, suc, _+_, _<_, _≤_}
 use native.Mathlib.Omega.{arith}
 use native.Mathlib.Decide.{ℕ-discrete}
-use native.Mathlib.Numerals.{add-one}
-use mathlib.Core.Path.{_≡_, refl, sym, _∙_, ap}
-use mathlib.Core.List.{List, [], _∷_, _++_}
+use mathlib.Core.Path.{_≡_, sym, _∙_, ap}
+use mathlib.Core.List.{List, _++_}
 use mathlib.Core.Logic.{_≢_}
 use lib.ListN.{length, length-append}
-use Rattle.table.specs.Rotation.{Rotation, rotation}
+use Rattle.table.specs.Rotation.{rotation}
 use Rattle.table.specs.Lawful.{good-lawful}
 use Rattle.orbits.specs.Iterate.{iter, iter-zero, iter-suc, Period}
 use Rattle.orbits.specs.Reach.{Reach, reach-within, reach-step}
 use Rattle.tracing.specs.Step.{steps, step}
-use Rattle.tracing.specs.Walk.{walk, run, run-length, onward, onward-rest, walk-period, walk-period-le}
-use Rattle.tracing.specs.Stands.{Stands, stands-step, stands-low}
+use Rattle.tracing.specs.Walk.{run, run-length, onward, onward-rest, walk-period, walk-period-le}
+use Rattle.tracing.specs.Stands.{Stands, stands-low}
 use Rattle.tracing.specs.Along.{Walking, walking-none, walking-more, along-few, along-period}
 
 -- how many steps are left until the walk is back at s

@@ -1,38 +1,37 @@
 -- How the two sides of an edge lie: on different faces, on one walk by both darts, or by the same dart twice, document 01, "Edits".
 -- With x = (2e, 0) and y = (2e+1, the turns' parity): by both darts exactly if y is on the orbit of x, by the same dart exactly if its mirror is.
-use Prim.Native.Nat.{ℕ, zero, suc, _+_, _-_, _*_, _/_, _%_, _<_, _≤_}
+use Prim.Native.Nat.{ℕ, suc, _+_, _*_, _/_, _%_, _<_, _≤_}
 use native.Mathlib.Omega.{arith}
 use native.Mathlib.Decide.{ℕ-discrete}
-use mathlib.Core.Path.{_≡_, refl, sym, _∙_, ap, ap₂}
+use mathlib.Core.Path.{_≡_, refl, sym, _∙_, ap}
 use mathlib.Core.Bool.{Bool, true, false}
-use mathlib.Core.List.{List, [], _∷_, _++_}
+use mathlib.Core.List.{List, [], _∷_}
 use mathlib.Core.Logic.{_≢_}
 use lib.Dec.{eqb}
 use lib.ListN.{length}
 use borrow.Author.Tests.{eq-eqb, ne-eqb, eqb-true}
-use Rattle.table.specs.Layout.{darts, rev}
+use Rattle.table.specs.Layout.{rev}
 use Rattle.table.specs.Rotation.{Rotation, Lawful}
-use Rattle.table.specs.Lawful.{rev-rev, rev-low}
 use Rattle.orbits.specs.Truth.{truth, holds, fails, clash}
 use Rattle.orbits.specs.Count.{more}
-use Rattle.orbits.specs.Reach.{Reach, reach-here, reach-one, reach-step, reach-trans, reach-sym, reach-ind}
+use Rattle.orbits.specs.Reach.{Reach, reach-here, reach-trans, reach-sym, reach-ind}
 use Rattle.orbits.specs.Orbits.{On}
 use Rattle.orbits.specs.Mirror.{mirror-world}
 use Rattle.orbits.specs.Faces.{Face, along, mirrored}
 use Rattle.tracing.specs.declared.meeting.Sides.{Sides}
 use Rattle.tracing.specs.declared.meeting.Sides.the-variants.{TwoFaces, BothDarts, SameDart}
-use Rattle.tracing.specs.Step.{steps, type?, is-zero, is-one, stepType, step, back, mirror, step-live, step-word, mirror-step, back-back, back-dart, back-type}
-use Rattle.tracing.specs.Place.{places, trace, flip, on, trace-step, flip-step}
+use Rattle.tracing.specs.Step.{steps, type?, is-zero, is-one, step, back, step-live, step-word, back-back, back-dart}
+use Rattle.tracing.specs.Place.{places, trace, flip, on}
 use Rattle.tracing.specs.Walk.{walk}
 use Rattle.tracing.specs.Listing.{has, has-here}
-use Rattle.tracing.specs.Has.{has-empty, has-cons, has-head, here, later, has-tail, countIn, times, times-none}
+use Rattle.tracing.specs.Has.{has-empty, has-cons, has-head, here, later, has-tail, countIn, times}
 use Rattle.tracing.specs.Mirrored.{whole, mirrored as tracing-mirror}
 use Rattle.tracing.specs.Meets.{has-walk, walk-has, trace-reach}
 use Rattle.tracing.specs.Once.{step-on}
 use Rattle.tracing.specs.Corner.{both-ways}
 use Rattle.tracing.specs.Twice.{listedSteps, sense, this, other, step-times, one-way}
 use Rattle.tracing.specs.Edges.{onEdge, edge-twice, back-edge}
-use Rattle.tracing.specs.EdgeSteps.{four, itself, way-back, other-type, other-back, back-flip, again-all, along-all}
+use Rattle.tracing.specs.EdgeSteps.{four, itself, way-back, other-type, other-back, back-flip, again-all, across-all}
 
 -- the members that pass a test
 unfoldable pub keep : (ℕ → Bool) → List ℕ → List ℕ
@@ -258,7 +257,7 @@ module _ (R : Rotation) (L : Lawful R) where
     ]
     | other-back q ↦ elim (truth (has two (walk R one))) [
       | holds m ↦ both-darts (k .is ∙ sidesBy-both R one two m (other-dart q))
-          (rw (across-back e) (along-all R L one (4 * e) on-low to-first (rw q at (has-walk R L one two on-low m))))
+          (rw (across-back e) (across-all R L one (4 * e) on-low to-first (rw q at (has-walk R L one two on-low m))))
       | fails m ↦ two-faces (k .is ∙ sidesBy-off R one two m) (none-back q m)
     ]
   ]
@@ -299,11 +298,11 @@ module _ (R : Rotation) (L : Lawful R) where
           omega arith
 
       none-type : two ≡ rev one → has two (walk R one) ≡ false → Face (trace R) (flip R) (4 * e) (across R e) → ⊥
-      none-type q m (along r) = unlisted (rw q (along-all R L (4 * e) one low (sym to-first) (rw (across-back e) at r)))
+      none-type q m (along r) = unlisted (rw q (across-all R L (4 * e) one low (sym to-first) (rw (across-back e) at r)))
       none-type q m (mirrored r) = clash (walk-has R L one two on-low (rw q (again-all R L (4 * e) one low (sym to-first) (flip-again e low r)))) m
 
       none-back : two ≡ back R (rev one) → has two (walk R one) ≡ false → Face (trace R) (flip R) (4 * e) (across R e) → ⊥
-      none-back q m (along r) = clash (walk-has R L one two on-low (rw q (along-all R L (4 * e) one low (sym to-first) (rw (across-back e) at r)))) m
+      none-back q m (along r) = clash (walk-has R L one two on-low (rw q (across-all R L (4 * e) one low (sym to-first) (rw (across-back e) at r)))) m
       none-back q m (mirrored r) =
           let turn : back R two ≡ rev one = ap (back R) q ∙ back-back R L (rev one) in
           unlisted (rw turn (again-all R L (4 * e) one low (sym to-first) (flip-again e low r)))

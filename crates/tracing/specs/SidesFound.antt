@@ -1,18 +1,17 @@
 -- What the search of a walk says of the two sides of an edge of a good table.
-use Prim.Native.Nat.{ℕ, zero, suc, _+_, _-_, _*_, _/_, _%_, _<_, _≤_}
+use Prim.Native.Nat.{ℕ, _+_, _*_, _/_, _%_, _<_, _≤_}
 use native.Mathlib.Omega.{arith}
-use mathlib.Core.Path.{_≡_, refl, sym, _∙_, ap}
-use mathlib.Core.Bool.{Bool, true, false}
+use mathlib.Core.Path.{_≡_, sym}
+use mathlib.Core.Bool.{true}
 use mathlib.Core.List.{List}
 use mathlib.Core.Logic.{_≢_}
 use lib.ListN.{length}
 use Rattle.table.specs.Layout.{words, edges, edgeWord, rev}
 use Rattle.table.specs.Good.{Good}
-use Rattle.table.specs.Rotation.{Rotation, Lawful, rotation, live?, turnsOf}
+use Rattle.table.specs.Rotation.{Lawful, rotation, live?, turnsOf}
 use Rattle.table.specs.Lawful.{good-lawful}
 use Rattle.orbits.specs.Reach.{Reach}
 use Rattle.orbits.specs.Faces.{Face, along, mirrored}
-use Rattle.tracing.specs.declared.meeting.Sides.{Sides}
 use Rattle.tracing.specs.declared.meeting.Sides.the-variants.{TwoFaces, BothDarts, SameDart}
 use Rattle.tracing.specs.Step.{steps, step}
 use Rattle.tracing.specs.Place.{trace, flip}

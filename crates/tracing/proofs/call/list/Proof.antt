@@ -1,18 +1,9 @@
 -- `call::list` meets its contract: torn, short or written.
 use Rattle.tracing.specs.Call.{passed-good, failed-torn, list-torn, list-short, list-done}
-use Rattle.tracing.specs.Listing.{listing}
-use Rattle.table.specs.Rotation.{rotation}
-use lib.ListN.{length}
 use native.Mathlib.Omega.{arith}
-use Prim.Native.Nat.{_≤_, _<_}
 use borrow.Author.Needs.{needs}
 use Rattle.tracing.proofs.call.list.Statement.{statement}
 use Rattle.tracing.proofs.call.list.Tie as tie
-use Rattle.tracing.proofs.call.list.Reads as reads
-use Rattle.tracing.proofs.call.list.Lts as lts
-use Rattle.table.proofs.whole.check.Reads as check-reads
-use Rattle.tracing.proofs.count.measure.Reads as measure-reads
-use Rattle.tracing.proofs.listing.write_listing.Reads as write-listing-reads
 
 check-requires : tie.Need-check-requires
 check-requires c κs = search needs

@@ -3,8 +3,6 @@ use Rattle.tracing.specs.Present.{formed-dart, formed-not, formed-lone}
 use borrow.Author.Needs.{needs}
 use Rattle.tracing.proofs.corner.is_corner.Statement.{statement}
 use Rattle.tracing.proofs.corner.is_corner.Tie as tie
-use Rattle.tracing.proofs.corner.is_corner.Reads as reads
-use Rattle.tracing.proofs.corner.is_corner.Lts as lts
 
 returns : tie.Need-returns
 returns c = formed-dart _ (c .if1 .taken)

@@ -4,8 +4,6 @@ use native.Mathlib.Omega.{arith}
 use borrow.Author.Needs.{needs}
 use Rattle.tracing.proofs.corner.is_present.Statement.{statement}
 use Rattle.tracing.proofs.corner.is_present.Tie as tie
-use Rattle.tracing.proofs.corner.is_present.Reads as reads
-use Rattle.tracing.proofs.corner.is_present.Lts as lts
 
 add-result : tie.Need-add-result
 add-result c = search needs

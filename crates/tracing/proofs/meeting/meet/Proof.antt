@@ -3,10 +3,6 @@ use Rattle.tracing.specs.Meeting.{meets-itself, lone-first, lone-second,
 use borrow.Author.Needs.{needs}
 use Rattle.tracing.proofs.meeting.meet.Statement.{statement}
 use Rattle.tracing.proofs.meeting.meet.Tie as tie
-use Rattle.tracing.proofs.meeting.meet.Reads as reads
-use Rattle.tracing.proofs.meeting.meet.Lts as lts
-use Rattle.tracing.proofs.meeting.find.Reads as find-reads
-use Rattle.tracing.proofs.step.mirror.Reads as mirror-reads
 
 returns : tie.Need-returns
 returns c = meets-itself (c .before .before .pre) (c .if1 .taken)

@@ -3,9 +3,6 @@ use Rattle.tracing.specs.SidesFound.{edge-near, edge-stands, found-same-
 use native.Mathlib.Omega.{arith}
 use Rattle.tracing.proofs.meeting.sides_of.Statement.{statement}
 use Rattle.tracing.proofs.meeting.sides_of.Tie as tie
-use Rattle.tracing.proofs.meeting.sides_of.Reads as reads
-use Rattle.tracing.proofs.meeting.sides_of.Lts as lts
-use Rattle.tracing.proofs.meeting.find.Reads as find-reads
 
 cast-x : tie.Need-cast-x
 cast-x c = let n = edge-near (c .before .pre) in omega arith

@@ -25,7 +25,7 @@ use Rattle.tracing.specs.Size.{InRange, Looked, unmet, Seen, seen-none, 
 
 -- stores one after another
 
-sets-append : (l : List ℕ) (i : ℕ) (a b : List ℕ) → sets l i (a ++ b) ≡ sets (sets l i a) (i + length a) b
+pub sets-append : (l : List ℕ) (i : ℕ) (a b : List ℕ) → sets l i (a ++ b) ≡ sets (sets l i a) (i + length a) b
 sets-append l i [] b = rw add-zero
 sets-append l i (x ∷ a) b = sets-append (set l i x) (suc i) a b ∙ ap (λ k. sets (sets (set l i x) (suc i) a) k b) (omega arith)
 
@@ -181,7 +181,7 @@ grows f g e (suc m) n h = elim (ℕ-discrete n (suc m)) [
   | no q ↦ let less = grows f g e m n (omega arith) in rw (e m, length-append) (omega arith)
 ]
 
-next-room : (f g : ℕ → List ℕ) → ((n : ℕ) → f (suc n) ≡ f n ++ g n) → (m n : ℕ) → n < m → length (f n) + length (g n) ≤ length (f m)
+pub next-room : (f g : ℕ → List ℕ) → ((n : ℕ) → f (suc n) ≡ f n ++ g n) → (m n : ℕ) → n < m → length (f n) + length (g n) ≤ length (f m)
 next-room f g e m n h =
     let less = grows f g e m (suc n) h in
     let size : length (f (suc n)) ≡ length (f n) + length (g n) = ap length (e n) ∙ length-append (f n) (g n) in
@@ -193,10 +193,10 @@ pub record Front (a out₀ : List ℕ) (start at : ℕ) (out : List ℕ) : Type 
   pub size : length out ≡ length out₀
   pub words : out ≡ sets out₀ start a
 
-front-none : (out : List ℕ) (start : ℕ) → Front [] out start start out
+pub front-none : (out : List ℕ) (start : ℕ) → Front [] out start start out
 front-none out start = record { end = omega arith; size = refl; words = refl }
 
-front-more : {a out₀ : List ℕ} {start at : ℕ} {out : List ℕ} (b : List ℕ) {r : ℕ} {out′ : List ℕ} → Front a out₀ start at out → r ≡ at + length b → out′ ≡ sets out at b
+pub front-more : {a out₀ : List ℕ} {start at : ℕ} {out : List ℕ} (b : List ℕ) {r : ℕ} {out′ : List ℕ} → Front a out₀ start at out → r ≡ at + length b → out′ ≡ sets out at b
     → Front (a ++ b) out₀ start r out′
 front-more {a} {out₀} {start} {at} {out} b k e w =
     let end = k .end in

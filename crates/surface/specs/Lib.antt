@@ -1,0 +1,12 @@
+-- Surfaces: the connected parts of a mesh, their Euler numbers, and which of them are orientable.
+-- A file uses only those above it.
+pub mod Chain
+pub mod Links
+pub mod Labels
+pub mod Places
+pub mod Counts
+pub mod EdgeIn
+mod NoEdges
+mod Inside
+mod Joint
+pub mod Euler

@@ -1,0 +1,1 @@
+// Connected parts of a mesh, their Euler numbers, orientability.

@@ -5,8 +5,8 @@
 use Prim.Native.Nat.{ℕ, suc, _+_, _*_, _%_, _<_}
 use native.Mathlib.Omega.{arith}
 use native.Mathlib.Decide.{decLe}
-use mathlib.Core.Path.{_≡_, refl, sym, _∙_, ap}
-use mathlib.Core.Bool.{Bool, true, false, _&&_, _||_, true-or, or-true}
+use mathlib.Core.Path.{_≡_, sym, _∙_, ap}
+use mathlib.Core.Bool.{Bool, true, false, _&&_, _||_, and-or-distrib-left, true-or, or-true}
 use mathlib.Core.Logic.{_⊎_, inl, inr}
 use Rattle.table.specs.Layout.{vertices, edges, rev}
 use Rattle.table.specs.Rotation.{Rotation, Lawful, choose}
@@ -76,23 +76,15 @@ module _ {R R′ : Rotation} {e : ℕ} (L : Lawful R) (L′ : Lawful R′) (W : 
   -- a count over tests b i && Q (x i) is the sum of those of the two parts
   count-two : (b : ℕ → Bool) (x : ℕ → ℕ) (n : ℕ) → count (λ i. b i && Q (x i)) n ≡ count (λ i. b i && A (x i)) n + count (λ i. b i && B (x i)) n
   count-two b x n =
-      count-split _ _ _ n (λ i h. rw (two-parts (x i)) (spread (b i) (A (x i)) (B (x i))))
+      count-split _ _ _ n (λ i h. rw (two-parts (x i)) (and-or-distrib-left (b i) (A (x i)) (B (x i))))
       (λ i h s t. both-parts (x i) (both-right (b i) _ s) (both-right (b i) _ t))
-    where
-      spread : (b a c : Bool) → (b && (a || c)) ≡ ((b && a) || (b && c))
-      spread true a c = refl
-      spread false a c = refl
 
   faces-two : facesAt R′ Q ≡ facesAt R′ A + facesAt R′ B
   unfolding facesAt placesIn
   faces-two =
       faces-split (trace R′) (flip R′) places (placesIn R′ Q) (placesIn R′ A) (placesIn R′ B)
-      (λ i h. rw (two-parts (vertexAt R′ i)) (spread (on R′ i) (A (vertexAt R′ i)) (B (vertexAt R′ i))))
+      (λ i h. rw (two-parts (vertexAt R′ i)) (and-or-distrib-left (on R′ i) (A (vertexAt R′ i)) (B (vertexAt R′ i))))
       (λ i h s t. both-parts (vertexAt R′ i) (both-right (on R′ i) _ s) (both-right (on R′ i) _ t))
-    where
-      spread : (b a c : Bool) → (b && (a || c)) ≡ ((b && a) || (b && c))
-      spread true a c = refl
-      spread false a c = refl
 
   -- a face stays in its part
   two-walks : ¬ Face (trace R′) (flip R′) (W .first) (W .second)

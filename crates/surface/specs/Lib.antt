@@ -10,3 +10,5 @@ mod NoEdges
 mod Inside
 mod Joint
 pub mod Euler
+pub mod Sums
+pub mod Signed

@@ -12,3 +12,5 @@ mod Joint
 pub mod Euler
 pub mod Sums
 pub mod Signed
+pub mod Forest
+pub mod Linking

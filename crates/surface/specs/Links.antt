@@ -69,19 +69,22 @@ pub record Labelling (R : Rotation) (s : ℕ → Spot) : Type 0 where
   pub same : (d : ℕ) → R .live d ≡ true → s (R .from (rev d)) .label ≡ s (R .from d) .label
 
 -- the two ways of a link
-data Moves (k : Link) (s t : Spot) : Type 0 where
+pub data Moves (k : Link) (s t : Spot) : Type 0 where
   stays : s .label ≢ k .high → t ≡ s → Moves k s t
   goes : s .label ≡ k .high → t .label ≡ k .low → t .mark ≡ (s .mark + k .shift) % 2 → Moves k s t
 
-moves : (k : Link) (s : Spot) → Moves k s (moved k s)
+pub moves : (k : Link) (s : Spot) → Moves k s (moved k s)
 unfolding moved
 moves k s = elim (ℕ-discrete (s .label) (k .high)) [
   | yes e ↦ goes e (rw (eq-eqb (s .label) (k .high) e, moved)) (rw (eq-eqb (s .label) (k .high) e, moved))
   | no n ↦ stays n (rw (ne-eqb (s .label) (k .high) n, moved))
 ]
 
-begin-sound : (R : Rotation) → Sound R (spot [])
-unfolding spot
+-- at the beginning each vertex is its own label
+abbrev pub own : ℕ → Spot
+own w = record { label = w; mark = 0 }
+
+pub begin-sound : (R : Rotation) → Sound R own
 begin-sound R = record { joined = λ w. Chain.here; low = λ w. omega arith; forced = λ w m f. omega arith }
 
 -- marks that agree with the part of a vertex agree with that of each vertex joined with it
@@ -89,27 +92,26 @@ fits-joined : {R : Rotation} {v w : ℕ} {m : ℕ → ℕ} → Chain R v w → F
 fits-joined c f = record { fits = λ d l k. f .fits d l (chain-trans c k) }
 
 -- a link of two labels that are joined, whose shift is the difference of their marks
-record Links (R : Rotation) (k : Link) : Type 0 where
+pub record Links (R : Rotation) (k : Link) : Type 0 where
   pub down : k .low ≤ k .high
   pub chain : Chain R (k .low) (k .high)
   pub shift : (m : ℕ → ℕ) → FitsAt R (k .high) m → (m (k .low) + m (k .high) + k .shift) % 2 ≡ 0
 
-moved-sound : {R : Rotation} → Lawful R → (ks : List Link) (k : Link) → Links R k → Sound R (spot ks) → Sound R (spot (k ∷ ks))
-unfolding spot
-moved-sound {R} L ks k K S = record {
-  joined = λ w. elim (moves k (spot ks w)) [
+pub moved-sound : {R : Rotation} → Lawful R → (s : ℕ → Spot) (k : Link) → Links R k → Sound R s → Sound R (λ w. moved k (s w))
+moved-sound {R} L s k K S = record {
+  joined = λ w. elim (moves k (s w)) [
     | stays n e ↦ rw e (S .joined w)
     | goes q t m ↦ rw t (chain-trans (K .chain) (rw q at (S .joined w)))
   ];
-  low = λ w. elim (moves k (spot ks w)) [
+  low = λ w. elim (moves k (s w)) [
     | stays n e ↦ rw e (S .low w)
     | goes q t m ↦ let h = S .low w in let d = K .down in omega arith
   ];
-  forced = λ w m f. elim (moves k (spot ks w)) [
+  forced = λ w m f. elim (moves k (s w)) [
     | stays n e ↦ rw e (S .forced w m f)
     | goes q t r ↦
         let up : Chain R (k .high) w = rw q at (S .joined w) in
-        let was : (m (k .high) + m w + spot ks w .mark) % 2 ≡ 0 = rw q at (S .forced w m f) in
+        let was : (m (k .high) + m w + s w .mark) % 2 ≡ 0 = rw q at (S .forced w m f) in
         let by = K .shift m (fits-joined (chain-sym L up) f) in
         rw (t, r) (omega arith)
   ];
@@ -145,22 +147,22 @@ module _ {R : Rotation} (L : Lawful R) (s : ℕ → Spot) (S : Sound R s) (e : �
       let y = S .forced (R .from (2 * e + 1)) m (fits-joined edge-chain f) in
       omega arith
 
-  link-links : Links R (link R e (s (R .from (2 * e))) (s (R .from (2 * e + 1))))
+  pub link-links : Links R (link R e (s (R .from (2 * e))) (s (R .from (2 * e + 1))))
   unfolding link
   link-links =
       ordered L (s (R .from (2 * e)) .label) (s (R .from (2 * e + 1)) .label) _ label-chain
       (λ m g. label-shift m (fits-joined (S .joined (R .from (2 * e))) g))
 
 links-sound : {R : Rotation} → Lawful R → (es : List ℕ) → ((e : ℕ) → has e es ≡ true → R .live (2 * e) ≡ true) → Sound R (spot (links R es))
-unfolding links
+unfolding links spot
 links-sound {R} L [] on = begin-sound R
 links-sound {R} L (e ∷ es) on =
     let S = links-sound L es (λ k h. on k (has-tail k e es h)) in
-    moved-sound L (links R es) (link R e (spot (links R es) (R .from (2 * e))) (spot (links R es) (R .from (2 * e + 1))))
+    moved-sound L (spot (links R es)) (link R e (spot (links R es) (R .from (2 * e))) (spot (links R es) (R .from (2 * e + 1))))
     (link-links L (spot (links R es)) S e (on e (has-here e es))) S
 
 -- equal labels stay equal
-moved-same : (k : Link) (s t : Spot) → s .label ≡ t .label → moved k s .label ≡ moved k t .label
+pub moved-same : (k : Link) (s t : Spot) → s .label ≡ t .label → moved k s .label ≡ moved k t .label
 moved-same k s t q = by (moves k s) (moves k t)
   where
     by : Moves k s (moved k s) → Moves k t (moved k t) → moved k s .label ≡ moved k t .label
@@ -170,7 +172,7 @@ moved-same k s t q = by (moves k s) (moves k t)
     by (goes n e h) (goes p f g) = e ∙ sym f
 
 -- the ends of the edge that makes a link get one label
-link-same : (R : Rotation) (e : ℕ) (a b : Spot) → moved (link R e a b) a .label ≡ moved (link R e a b) b .label
+pub link-same : (R : Rotation) (e : ℕ) (a b : Spot) → moved (link R e a b) a .label ≡ moved (link R e a b) b .label
 unfolding link
 link-same R e a b = by (moves (link R e a b) a) (moves (link R e a b) b)
   where

@@ -1,1 +1,2 @@
 // Connected parts of a mesh, their Euler numbers, orientability.
+pub mod forest;

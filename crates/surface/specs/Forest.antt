@@ -6,10 +6,9 @@
 --     lift, liftTurn       a vertex points up to its parent's parent;     lift-shape, lift-forest     that changes nothing of s
 --     Found, Finding       the root of a vertex, and the loop that climbs to it
 --     FlatBelow, Flattening     each vertex points to its root, and the loop that makes it so
-use Prim.Native.Nat.{ℕ, zero, suc, _+_, _*_, _/_, _%_, _<_, _≤_}
+use Prim.Native.Nat.{ℕ, _+_, _%_, _<_, _≤_}
 use native.Mathlib.Omega.{arith}
-use native.Mathlib.Numerals.{add-one}
-use native.Mathlib.Decide.{ℕ-discrete, decLt}
+use native.Mathlib.Decide.{ℕ-discrete}
 use mathlib.Core.Path.{_≡_, refl, sym, _∙_, ap}
 use mathlib.Core.List.{List}
 use mathlib.Core.Logic.{_≢_}

@@ -14,3 +14,5 @@ pub mod Sums
 pub mod Signed
 pub mod Forest
 pub mod Linking
+pub mod Tally
+pub mod Tallying

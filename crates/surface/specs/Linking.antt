@@ -4,23 +4,21 @@
 --     taken-dead, taken-same, taken-up, taken-down     an edge that is not live, in one tree, and between two
 --     Linking, linking-none, linking-more     the loop over the edges
 --     Labelled, linked-flat     the end: labels and marks in the arrays
-use Prim.Native.Nat.{ℕ, zero, suc, _+_, _*_, _/_, _%_, _<_, _≤_, min, max}
+use Prim.Native.Nat.{ℕ, _+_, _*_, _/_, _%_, _<_, _≤_, min, max}
 use native.Mathlib.Omega.{arith}
-use native.Mathlib.Numerals.{add-one}
 use native.Mathlib.Decide.{ℕ-discrete}
 use mathlib.Core.Path.{_≡_, refl, sym, _∙_, ap}
-use mathlib.Core.Bool.{Bool, true, false}
+use mathlib.Core.Bool.{true}
 use mathlib.Core.List.{List}
 use mathlib.Core.Logic.{_≢_}
 use lib.ListN.{length, getD, set, replicate, length-replicate, getD-replicate, length-set}
 use lib.Seq.{getD-set-same, getD-set-other}
-use Rattle.table.specs.Layout.{vertices, edges, edgeWord, leaves, Live}
+use Rattle.table.specs.Layout.{vertices, edges, edgeWord, leaves}
 use Rattle.table.specs.Good.{Good}
-use Rattle.table.specs.Rotation.{Rotation, Lawful, rotation, live?, live-yes, yes-live, not-live, turnsOf}
+use Rattle.table.specs.Rotation.{Rotation, rotation, live?, live-yes, yes-live, turnsOf}
 use Rattle.table.specs.Lawful.{good-lawful}
-use Rattle.orbits.specs.Truth.{clash}
-use Rattle.surface.specs.Links.{Link, Spot, own, moved, link, Sound, Labelling, Links, link-links, Moves, moves, stays, goes, begin-sound, moved-sound, moved-same, link-same, side, first-side, second-side, live-edge, live-edge-low}
-use Rattle.surface.specs.Forest.{Shape, Points, Forest, Moved, moved-shape, moved-forest, Found, FlatBelow, Flattening}
+use Rattle.surface.specs.Links.{Link, Spot, own, moved, link, Sound, Labelling, link-links, Moves, moves, stays, goes, begin-sound, moved-sound, moved-same, link-same, side, first-side, second-side, live-edge, live-edge-low}
+use Rattle.surface.specs.Forest.{Shape, Points, Forest, Moved, moved-shape, moved-forest, Found, Flattening}
 
 -- the labels and marks after edge e was taken in
 pub record After (R : Rotation) (e : ℕ) (s : ℕ → Spot) (up turn : List ℕ) : Type 0 where

@@ -38,7 +38,10 @@ fn find(up: &mut [u16; 512], turn: &mut [u8; 512], v: usize) -> Root
     let mut mark: u8 = 0;
     loop {
         if up[at] as usize == at {
-            return Root { label: at, mark: mark };
+            return Root {
+                label: at,
+                mark: mark,
+            };
         }
         lift(up, turn, at);
         mark = (mark + turn[at]) % 2;

@@ -1,2 +1,3 @@
 // Connected parts of a mesh, their Euler numbers, orientability.
 pub mod forest;
+pub mod tally;

@@ -1,12 +1,10 @@
+-- `forest::flatten` meets its contract. The invariant: the vertices below v point to their roots.
 use Rattle.surface.specs.Forest.{Flattening, flattening-none, flattening-more}
 use Prim.Native.Nat.{_-_}
 use mathlib.Core.Path.{_≡_}
 use native.Mathlib.Omega.{arith}
 use Rattle.surface.proofs.forest.flatten.Statement.{statement}
 use Rattle.surface.proofs.forest.flatten.Tie as tie
-use Rattle.surface.proofs.forest.flatten.Reads as reads
-use Rattle.surface.proofs.forest.flatten.Lts as lts
-use Rattle.surface.proofs.forest.lift.Reads as lift-reads
 
 abbrev Inv-loop : tie.InvT-loop
 Inv-loop up₀ turn₀ v₀ up turn v = Flattening up₀ turn₀ v up turn
@@ -14,27 +12,21 @@ Inv-loop up₀ turn₀ v₀ up turn v = Flattening up₀ turn₀ v up turn
 abbrev μ-loop : tie.MeasureT-loop
 μ-loop up₀ turn₀ v₀ up turn v = 512 - v
 
--- src/forest.rt:93:5
 loop-holds : tie.Need-loop-holds Inv-loop μ-loop
 loop-holds c = flattening-none (c .pre)
 
--- src/forest.rt:94:9
 lift-requires : tie.Need-lift-requires Inv-loop μ-loop
 lift-requires c κs = (c .before .before .before .loop .inv .shape, c .before .before .loop-test .taken)
 
--- src/forest.rt:95:9
 add-v : tie.Need-add-v Inv-loop μ-loop
 add-v c = omega arith
 
--- src/forest.rt:93:5
 loop-less : tie.Need-loop-less Inv-loop μ-loop
 loop-less c = omega arith
 
--- src/forest.rt:93:5
 loop-again : tie.Need-loop-again Inv-loop μ-loop
 loop-again c = rw (c .lift .ensures .0, c .lift .ensures .1) (flattening-more (c .before .before .before .before .loop .inv) (c .before .before .before .loop-test .taken))
 
--- src/forest.rt:88:1
 returns : tie.Need-returns Inv-loop μ-loop
 returns c = let end : c .before .loop .v ≡ 512 = omega arith in rw end at (c .before .loop .inv)
 

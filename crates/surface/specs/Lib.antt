@@ -16,3 +16,4 @@ pub mod Forest
 pub mod Linking
 pub mod Tally
 pub mod Tallying
+pub mod EulerWord

@@ -31,7 +31,7 @@ unfoldable pub meshEuler : Rotation → ℤ
 meshEuler R = eulerOf (vertexCount R) (edgeCount R) (faceCount R)
 
 -- a difference of natural numbers is one or the opposite of one
-data Difference (a b : ℕ) (z : ℤ) : Type 0 where
+pub data Difference (a b : ℕ) (z : ℤ) : Type 0 where
   above : b ≤ a → z ≡ pos (a - b) → Difference a b z
   under : a < b → z ≡ negsuc (b - suc a) → Difference a b z
 
@@ -40,7 +40,7 @@ minus a b h =
     let sum : a ≡ a - b + b = omega arith in
     ap (λ k. pos k -ℤ pos b) sum ∙ +ℤ-negℤ-cancel (pos (a - b)) (pos b)
 
-difference : (a b : ℕ) → Difference a b (pos a -ℤ pos b)
+pub difference : (a b : ℕ) → Difference a b (pos a -ℤ pos b)
 difference a b = elim (decLe b a) [
   | yes h ↦ above h (minus a b h)
   | no h ↦

@@ -270,3 +270,22 @@ tallied {t} H K E = record {
   walks-at = λ r h. K .lone .at r h ∙ sym (walks-count (K .keyed .good) r);
   orientable-at = λ r h. twist-orientable (K .keyed .good) H r (E .twist) h;
 }
+
+-- a good table with its labels and marks, and four arrays of zeros
+pub record Tallies (t up turn vs es fs odd : List ℕ) : Type 0 where
+  pub good : Good t
+  pub labelled : Labelled t up turn
+  pub no-vertices : vs ≡ replicate vertices 0
+  pub no-edges : es ≡ replicate vertices 0
+  pub no-walks : fs ≡ replicate vertices 0
+  pub no-twists : odd ≡ replicate vertices 0
+
+module _ {t up turn vs es fs odd : List ℕ} (K : Tallies t up turn vs es fs odd) where
+  pub tallies-keyed : Keyed t up
+  tallies-keyed = labelled-keyed (K .good) (K .labelled)
+
+  pub tallies-vertexing : {fs′ : List ℕ} → WalkTally t darts fs′ → Vertexing t up 0 vs fs′
+  tallies-vertexing F = rw (K .no-vertices) (vertexing-none tallies-keyed F)
+
+  pub tallies-edging : Edging t up turn 0 es odd
+  tallies-edging = rw (K .no-edges, K .no-twists) (edging-none (K .good) (K .labelled))

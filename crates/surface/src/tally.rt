@@ -15,7 +15,8 @@ ghost use Rattle.table.specs.Layout.{vertices, edges, darts};
 ghost use Rattle.table.specs.Good.{Good};
 ghost use Rattle.surface.specs.Linking.{Labelled};
 ghost use Rattle.surface.specs.Tally.{Keyed, WalkTally};
-ghost use Rattle.surface.specs.Tallying.{Vertexing, Edging, Dartwise};
+ghost use Rattle.surface.specs.Tallying.{Vertexing, Edging, Dartwise, Tallies, PartTally};
+ghost use Rattle.surface.specs.Signed.{eulerOf};
 
 // Vertex v, if it is live, and its empty walk, if it is isolated.
 fn count_vertex(t: &[u16], up: &[u16; 512], vs: &mut [u16; 512], fs: &mut [u16; 512], v: usize)
@@ -111,4 +112,29 @@ fn count_walks(t: &[u16], up: &[u16; 512], fs: &mut [u16; 512])
         count_walk(t, up, &mut met, fs, d);
         d += 1;
     }
+}
+
+// V-E+F.
+pub fn euler(v: u16, e: u16, f: u16) -> i32
+    ensures { λ r. ⌜ r ≡ eulerOf v e f ⌝ }
+{
+    v as i32 - e as i32 + f as i32
+}
+
+// V, E, F and the twisted edges of each part, by its label.
+pub fn tally_parts(
+    t: &[u16],
+    up: &[u16; 512],
+    turn: &[u8; 512],
+    vs: &mut [u16; 512],
+    es: &mut [u16; 512],
+    fs: &mut [u16; 512],
+    odd: &mut [u16; 512],
+)
+    requires { ⌜ Tallies (now t) (now up) (now turn) (now vs) (now es) (now fs) (now odd) ⌝ }
+    ensures { λ _. ⌜ PartTally (now (t .entry)) (now (vs .exit)) (now (es .exit)) (now (fs .exit)) (now (odd .exit)) ⌝ }
+{
+    count_walks(t, up, fs);
+    count_vertices(t, up, vs, fs);
+    count_edges(t, up, turn, es, odd);
 }

@@ -3,7 +3,7 @@
 use Prim.Native.Nat.{ℕ, _+_, _<_, _^_}
 use native.Mathlib.Omega.{arith}
 use mathlib.Core.Path.{_≡_, _∙_}
-use lib.IntN.{ℤ, pos, _+ℤ_, _-ℤ_}
+use lib.IntN.{pos, _+ℤ_, _-ℤ_}
 use lib.Signed.{mag}
 use mir.Syntax.{w32}
 use mir.Val.{SFits, toZ, ofZ}
@@ -24,8 +24,11 @@ module _ (v e f : ℕ) (a : v < 65536) (b : e < 65536) (c : f < 65536) where
   unfolding eulerOf
   sum-is = rw (toZ-ofZ difference-fits, toZ-pos w32 {n = v} (omega arith), toZ-pos w32 {n = e} (omega arith), toZ-pos w32 {n = f} (omega arith))
 
+  pub euler-sfits : SFits w32 (eulerOf v e f)
+  euler-sfits = rw (euler-difference v e f) (record { sfits = mag-difference (v + f) e (2 ^ 31) (omega arith) (omega arith) })
+
   pub euler-fits : SFits w32 (toZ w32 (ofZ w32 (toZ w32 v -ℤ toZ w32 e)) +ℤ toZ w32 f)
-  euler-fits = rw (sum-is, euler-difference v e f) (record { sfits = mag-difference (v + f) e (2 ^ 31) (omega arith) (omega arith) })
+  euler-fits = rw sum-is euler-sfits
 
   pub euler-word : toZ w32 (ofZ w32 (toZ w32 (ofZ w32 (toZ w32 v -ℤ toZ w32 e)) +ℤ toZ w32 f)) ≡ eulerOf v e f
   euler-word = toZ-ofZ euler-fits ∙ sum-is

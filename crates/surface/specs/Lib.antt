@@ -17,3 +17,5 @@ pub mod Linking
 pub mod Tally
 pub mod Tallying
 pub mod EulerWord
+pub mod Rows
+pub mod Rowing

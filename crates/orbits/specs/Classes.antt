@@ -6,15 +6,16 @@
 --     reps-count                 any system of representatives, indexed as one likes, is as large as there are classes
 --     carry-classes              a map that takes classes to classes, one to one and onto, keeps their number
 --     classes-same, -split, -le  equal live sets; a live set in two exclusive parts; no more classes than live numbers
-use mathlib.Core.Path.{_≡_}
-use mathlib.Core.Bool.{Bool, true, _&&_, _||_, Bool-discrete, and-or-distrib-right}
+--     classes-none, -some, -one  no live number; some live number; all live numbers in one class
+use mathlib.Core.Path.{_≡_, refl, sym, _∙_}
+use mathlib.Core.Bool.{Bool, true, false, _&&_, _||_, Bool-discrete, and-or-distrib-right}
 use Prim.Native.Nat.{ℕ, zero, _+_, _<_, _≤_}
 use native.Mathlib.Decide.{ℕ-discrete, decLt}
 use native.Mathlib.Omega.{arith}
 use lib.Dec.{eqb}
 use borrow.Author.Tests.{eq-eqb, eqb-true}
 use Rattle.orbits.specs.Truth.{truth, holds, fails, clash, both, both-left, both-right, false-unless, First, first, found, none}
-use Rattle.orbits.specs.Count.{count, count-same, count-none, none-counted, count-split, count-fewer, count-onto, Partner}
+use Rattle.orbits.specs.Count.{count, count-same, count-none, count-all, none-counted, count-some, count-split, count-fewer, count-onto, Partner}
 
 pub record Partition (N : ℕ) (R : ℕ → ℕ → Type 0) (r : ℕ → ℕ → Bool) : Type 0 where
   pub self : (i : ℕ) → i < N → R i i
@@ -106,22 +107,30 @@ pub record Reps (M N : ℕ) (R : ℕ → ℕ → Type 0) (t live : ℕ → Bool)
 pub reps-count : {M N : ℕ} {R : ℕ → ℕ → Type 0} {r : ℕ → ℕ → Bool} {t live : ℕ → Bool} {φ : ℕ → ℕ} → Partition N R r → Keeps N R live
     → Reps M N R t live φ → count t M ≡ classes r N live
 unfolding classes
-reps-count {M} {N} {R} {r} {t} {live} {φ} P K S =
-    count-onto (λ j i. R (φ j) i) t (head r live) M N
-    (λ j h p.
-    let low = S .low j h p in
-    let l = least-of P (φ j) low in
-    record { to = l .at; low = l .low; pass = head-says r live (l .at) (K .keep (φ j) (l .at) low (l .low) (l .meet) (S .on j h p)) (l .first); pair = l .meet })
-    (λ i h p.
-    let q = S .hit i h (head-live r live i p) in
-    record { to = q .to; low = q .low; pass = q .pass; pair = P .flip i (φ (q .to)) h (S .low (q .to) (q .low) (q .pass)) (q .pair) })
-    (λ i j k h l m p q u a b.
-    let li = S .low i h p in
-    let lj = S .low j l q in
-    S .one i j h l p q (P .join (φ i) k (φ j) li m lj a (P .flip (φ j) k lj m b)))
-    (λ i j k h l m p q u a b.
-    let lk = S .low k m u in
-    least-one P i j h l (head-least r live i p) (head-least r live j q) (P .join i (φ k) j h lk l (P .flip (φ k) i lk h a) b))
+reps-count {M} {N} {R} {r} {t} {live} {φ} P K S = count-onto (λ j i. R (φ j) i) t (head r live) M N least-named named one-name one-least
+  where
+    least-named : (j : ℕ) → j < M → t j ≡ true → Partner (λ j i. R (φ j) i) (head r live) N j
+    least-named j h p =
+        let low = S .low j h p in
+        let l = least-of P (φ j) low in
+        let on = K .keep (φ j) (l .at) low (l .low) (l .meet) (S .on j h p) in
+        record { to = l .at; low = l .low; pass = head-says r live (l .at) on (l .first); pair = l .meet }
+
+    named : (i : ℕ) → i < N → head r live i ≡ true → Partner (λ i j. R (φ j) i) t M i
+    named i h p =
+        let q = S .hit i h (head-live r live i p) in
+        record { to = q .to; low = q .low; pass = q .pass; pair = P .flip i (φ (q .to)) h (S .low (q .to) (q .low) (q .pass)) (q .pair) }
+
+    one-name : (i j k : ℕ) → i < M → j < M → k < N → t i ≡ true → t j ≡ true → head r live k ≡ true → R (φ i) k → R (φ j) k → i ≡ j
+    one-name i j k h l m p q u a b =
+        let li = S .low i h p in
+        let lj = S .low j l q in
+        S .one i j h l p q (P .join (φ i) k (φ j) li m lj a (P .flip (φ j) k lj m b))
+
+    one-least : (i j k : ℕ) → i < N → j < N → k < M → head r live i ≡ true → head r live j ≡ true → t k ≡ true → R (φ k) i → R (φ k) j → i ≡ j
+    one-least i j k h l m p q u a b =
+        let lk = S .low k m u in
+        least-one P i j h l (head-least r live i p) (head-least r live j q) (P .join i (φ k) j h lk l (P .flip (φ k) i lk h a) b)
 
 -- φ takes the live classes of S below M to those of R below N, one to one and onto
 pub record Carry (M N : ℕ) (S R : ℕ → ℕ → Type 0) (on live : ℕ → Bool) (φ : ℕ → ℕ) : Type 0 where
@@ -168,3 +177,26 @@ classes-split r N live a b e apart =
 pub classes-le : (r : ℕ → ℕ → Bool) (N : ℕ) (live : ℕ → Bool) → classes r N live ≤ count live N
 unfolding classes
 classes-le r N live = count-fewer (head r live) live N (λ i h. head-live r live i)
+
+-- no live number, no class; a live number, a class; all live numbers in one class, one
+pub classes-none : (r : ℕ → ℕ → Bool) (N : ℕ) (live : ℕ → Bool) → ((i : ℕ) → i < N → live i ≡ false) → classes r N live ≡ zero
+unfolding classes
+classes-none r N live out = count-none (head r live) N (λ i h. false-unless (head r live i) (λ t. clash (head-live r live i t) (out i h)))
+
+pub classes-some : {N : ℕ} {R : ℕ → ℕ → Type 0} {r : ℕ → ℕ → Bool} {live : ℕ → Bool} → Partition N R r → Keeps N R live → {x : ℕ} → x < N → live x ≡ true
+    → zero < classes r N live
+unfolding classes
+classes-some {N} {R} {r} {live} P K {x} h t =
+    let l = least-of P x h in
+    count-some (head r live) N (l .at) (l .low) (head-says r live (l .at) (K .keep x (l .at) h (l .low) (l .meet) t) (l .first))
+
+pub classes-one : {N : ℕ} {R : ℕ → ℕ → Type 0} {r : ℕ → ℕ → Bool} {live : ℕ → Bool} → Partition N R r → Keeps N R live → {x : ℕ} → x < N → live x ≡ true
+    → ((i : ℕ) → i < N → live i ≡ true → R i x) → classes r N live ≡ 1
+classes-one {live = live} P K {x} h t all =
+    sym (reps-count {M = 1} {t = λ i. true} {live = live} {φ = λ i. x} P K (record {
+      low = λ j l u. h;
+      on = λ j l u. t;
+      hit = λ i l u. record { to = zero; low = omega arith; pass = refl; pair = all i l u };
+      one = λ i j l m u w q. omega arith;
+    }))
+    ∙ count-all (λ i. true) 1 (λ i l. refl)

@@ -168,6 +168,14 @@ pub record Partner (G : ℕ → ℕ → Type 0) (q : ℕ → Bool) (m i : ℕ) :
   pub pass : q to ≡ true
   pub pair : G i to
 
+-- partners of the others are left when one is taken out
+partners-left : (G : ℕ → ℕ → Type 0) (p q : ℕ → Bool) (n m a : ℕ) → ((i : ℕ) → i < n → p i ≡ true → Partner G q m i)
+    → ((i : ℕ) → i < n → p i ≡ true → ¬ G i a) → (i : ℕ) → i < n → p i ≡ true → Partner G (without q a) m i
+partners-left G p q n m a total apart i h t =
+    let mine = total i h t in
+    let other : mine .to ≢ a = λ e. apart i h t (rw e at (mine .pair)) in
+    record { to = mine .to; low = mine .low; pass = without-other q a (mine .to) other ∙ mine .pass; pair = mine .pair }
+
 pub count-into : (G : ℕ → ℕ → Type 0) (p q : ℕ → Bool) (n m : ℕ)
     → ((i : ℕ) → i < n → p i ≡ true → Partner G q m i)
     → ((i j k : ℕ) → i < n → j < n → k < m → p i ≡ true → p j ≡ true → q k ≡ true → G i k → G j k → i ≡ j)
@@ -178,17 +186,15 @@ count-into G p q (suc n) m total inj = elim (truth (p n)) [
   | fails f ↦ rw f (count-into G p q n m (λ i h. total i (omega arith)) (λ i j k h l. inj i j k (omega arith) (omega arith)))
   | holds t ↦
       let last = total n (omega arith) t in
-      let rest : count p n ≤ count (without q (last .to)) m =
-      count-into G p (without q (last .to)) n m
-      (λ i h s.
-      let mine = total i (omega arith) s in
-      let other : mine .to ≢ last .to =
-      λ e. let same : i ≡ n = inj i n (last .to) (omega arith) (omega arith) (last .low) s t (last .pass) (rw e at (mine .pair)) (last .pair) in omega arith in
-      record { to = mine .to; low = mine .low; pass = without-other q (last .to) (mine .to) other ∙ mine .pass; pair = mine .pair })
-      (λ i j k h l b s u w. inj i j k (omega arith) (omega arith) b s u (without-on q (last .to) k w)) in
       let one = count-without q (last .to) m (last .low) (last .pass) in
+      let rest = count-into G p (without q (last .to)) n m (left t last) (λ i j k h l b s u w. inj i j k (omega arith) (omega arith) b s u (without-on q (last .to) k w)) in
       rw (t, one) (omega arith)
 ]
+  where
+    left : p n ≡ true → (last : Partner G q m n) (i : ℕ) → i < n → p i ≡ true → Partner G (without q (last .to)) m i
+    left t last = partners-left G p q n m (last .to) (λ i h. total i (omega arith)) (λ i h s g.
+        let same : i ≡ n = inj i n (last .to) (omega arith) (omega arith) (last .low) s t (last .pass) g (last .pair) in
+        omega arith)
 
 -- a test that implies another
 pub count-fewer : (p q : ℕ → Bool) (n : ℕ) → ((i : ℕ) → i < n → p i ≡ true → q i ≡ true) → count p n ≤ count q n

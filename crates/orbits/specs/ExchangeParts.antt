@@ -6,11 +6,12 @@
 use mathlib.Core.Path.{_≡_, sym, _∙_, ap}
 use mathlib.Core.Logic.{_≢_, _↔_}
 use mathlib.Core.Bool.{Bool}
-use Prim.Native.Nat.{ℕ, zero, suc, pred, _-_, _+_, _<_}
+use Prim.Native.Nat.{ℕ, zero, suc, _-_, _+_, _<_, _≤_}
+use native.Mathlib.Nat.{lt-irrefl}
 use native.Mathlib.Decide.{ℕ-discrete, decLt}
 use native.Mathlib.Omega.{arith}
-use Rattle.orbits.specs.Truth.{First, first, found, none}
-use Rattle.orbits.specs.Iterate.{iter, iter-zero, iter-suc, iter-add, Inj}
+use Rattle.orbits.specs.Truth.{First, found, none}
+use Rattle.orbits.specs.Iterate.{iter, iter-zero, iter-suc, iter-add, Inj, meeting}
 use Rattle.orbits.specs.Reach.{Reach, reach-step, reach-one, reach-sym, reach-ind}
 use Rattle.orbits.specs.Swap.{Place, place, at-left, at-right, off}
 use Rattle.orbits.specs.Merge.{Merge}
@@ -26,47 +27,37 @@ pub record Arc (f : ℕ → ℕ) (x y j : ℕ) : Type 0 where
 
 -- y ends the way to it
 arc-end : {f : ℕ → ℕ} {x y : ℕ} → x ≢ y → Reach f x y → Arc f x y y
-arc-end {f} {x} {y} d r = by (first (λ k. iter f (suc k) x ≡ y) (λ k. ℕ-discrete (iter f (suc k) x) y) (r .steps))
+arc-end {f} {x} {y} d r = by (meeting f x y (suc (r .steps)))
   where
     moves : zero < r .steps
-    moves = elim (decLt zero (r .steps)) [
-      | yes h ↦ h
-      | no h ↦
-          let none : r .steps ≡ zero = omega arith in
-          absurd (d (sym (iter-zero f x) ∙ ap (λ k. iter f k x) (sym none) ∙ r .lands))
+    moves = elim (ℕ-discrete (r .steps) zero) [
+      | yes h ↦ absurd (d (sym (iter-zero f x) ∙ ap (λ k. iter f k x) (sym h) ∙ r .lands))
+      | no h ↦ omega arith
     ]
 
-    by : First (λ k. iter f (suc k) x ≡ y) (r .steps) → Arc f x y y
-    by (found k l e before) = record {
-      steps = suc k;
-      some = omega arith;
-      lands = e;
-      clear = λ j pos m.
-          let one : suc (pred j) ≡ j = omega arith in
-          rw one at (before (pred j) (omega arith));
-    }
-    by (none out) =
-        let m = moves in
-        let one : suc (pred (r .steps)) ≡ r .steps = omega arith in
-        absurd ((rw one at (out (pred (r .steps)) (omega arith))) (r .lands))
+    by : First (λ k. (zero < k) × (iter f k x ≡ y)) (suc (r .steps)) → Arc f x y y
+    by (found k l p before) = record { steps = k; some = p .0; lands = p .1; clear = λ j pos m z. before j m (pos, z) }
+    by (none out) = absurd (out (r .steps) (omega arith) (moves, r .lands))
 
 -- and x is not on it
 arc-start : {f : ℕ → ℕ} {x y : ℕ} → x ≢ y → Reach f x y → ¬ Arc f x y x
-arc-start {f} {x} {y} d r a = elim (decLt (e .steps) (a .steps)) [
-  | yes l ↦ a .clear (e .steps) (e .some) l (e .lands)
-  | no l ↦ elim (ℕ-discrete (e .steps) (a .steps)) [
-    | yes s ↦ d (sym (a .lands) ∙ ap (λ k. iter f k x) (sym s) ∙ e .lands)
-    | no s ↦
-        let sum : a .steps + (e .steps - a .steps) ≡ e .steps = omega arith in
-        let some = a .some in
-        let short : iter f (e .steps - a .steps) x ≡ y =
-        ap (iter f (e .steps - a .steps)) (sym (a .lands)) ∙ sym (iter-add f (a .steps) (e .steps - a .steps) x) ∙ ap (λ k. iter f k x) sum ∙ e .lands in
-        e .clear (e .steps - a .steps) (omega arith) (omega arith) short
-  ]
-]
+arc-start {f} {x} {y} d r a = by (arc-end d r)
   where
-    e : Arc f x y y
-    e = arc-end d r
+    -- k steps lead back to x: then y is met k steps sooner
+    sooner : (k j : ℕ) → iter f k x ≡ x → iter f (k + j) x ≡ y → iter f j x ≡ y
+    sooner k j e z = ap (iter f j) (sym e) ∙ sym (iter-add f k j x) ∙ z
+
+    by : Arc f x y y → ⊥
+    by e = elim (decLt (e .steps) (a .steps)) [
+      | yes l ↦ a .clear (e .steps) (e .some) l (e .lands)
+      | no l ↦ elim (ℕ-discrete (e .steps) (a .steps)) [
+        | yes s ↦ d (sym (a .lands) ∙ ap (λ k. iter f k x) (sym s) ∙ e .lands)
+        | no s ↦
+            let sum : a .steps + (e .steps - a .steps) ≡ e .steps = omega arith in
+            let some = a .some in
+            e .clear (e .steps - a .steps) (omega arith) (omega arith) (sooner (a .steps) (e .steps - a .steps) (a .lands) (rw sum (e .lands)))
+      ]
+    ]
 
 module _ {f : ℕ → ℕ} {x y : ℕ} (d : x ≢ y) (r : Reach f x y) where
   reach-arc : (j : ℕ) → Reach (exch f x y) y j → Arc f x y j
@@ -94,18 +85,20 @@ module _ {f : ℕ → ℕ} {x y : ℕ} (d : x ≢ y) (r : Reach f x y) where
       })
 
   arc-reach : (j : ℕ) → Arc f x y j → Reach (exch f x y) y j
-  arc-reach j a =
-      let some = a .some in
-      let one : suc (pred (a .steps)) ≡ a .steps = omega arith in
-      rw (one, a .lands) at (along (pred (a .steps)) (omega arith))
+  arc-reach j a = reached (a .steps) (omega (arith, a .some)) (omega arith) (a .lands)
     where
+      start : (k : ℕ) → suc k < a .steps → iter f (suc k) x ≢ x
+      start k l e = arc-start d r (record { steps = suc k; some = omega arith; lands = e; clear = λ j pos m. a .clear j pos (omega arith) })
+
       along : (k : ℕ) → k < a .steps → Reach (exch f x y) y (iter f (suc k) x)
       along zero l = rw (iter-suc f 0 x, iter-zero f x, ← (exch-right f x y)) (reach-one y)
       along (suc k) l =
-          let start : iter f (suc k) x ≢ x =
-          λ e. arc-start d r (record { steps = suc k; some = omega arith; lands = e; clear = λ j pos m. a .clear j pos (omega arith) }) in
-          rw (iter-suc f (suc k) x, ← (exch-off f x y (iter f (suc k) x) start (a .clear (suc k) (omega arith) l)))
+          rw (iter-suc f (suc k) x, ← (exch-off f x y (iter f (suc k) x) (start k l) (a .clear (suc k) (omega arith) l)))
           (reach-step (along k (omega arith)))
+
+      reached : (k : ℕ) → zero < k → k ≤ a .steps → iter f k x ≡ j → Reach (exch f x y) y j
+      reached zero pos l e = absurd (lt-irrefl 0 pos)
+      reached (suc k) pos l e = rw e at (along k l)
 
   pub exch-arc : (j : ℕ) → Reach (exch f x y) y j ↔ Arc f x y j
   exch-arc j = (reach-arc j, arc-reach j)

@@ -10,14 +10,14 @@ use native.Mathlib.Decide.{ℕ-discrete}
 use native.Mathlib.Omega.{arith}
 use Rattle.orbits.specs.Reach.{Reach, reach-here, reach-one, reach-trans, reach-sym, reach-low, reach-ind}
 use Rattle.orbits.specs.Classes.{Partition}
-use Rattle.orbits.specs.Swap.{tr, tr-twice, tr-swap, tr-keeps}
+use Rattle.orbits.specs.Swap.{tr, tr-swap, tr-keeps}
 use Rattle.orbits.specs.Merge.{Join, inside, across, back, Merge, join-then, join-tr, join-flat, join-map}
 use Rattle.orbits.specs.Orbits.{On}
 use Rattle.orbits.specs.Exchange.{exch, exch-joins}
 use Rattle.orbits.specs.ExchangeParts.{exch-parts}
 use Rattle.orbits.specs.Mirror.{Mirror, mirror-world, opposite-low, opposite-reach, no-self}
 use Rattle.orbits.specs.Faces.{Face, along, mirrored, faced, faces, face-flip, face-partition, orbits-pair}
-use Rattle.orbits.specs.MirrorExchange.{exch2, exch2-at, exch2-world, exch2-mirror, exch2-back, exch2-left, exch2-right, moved-low, exch2-less, exch2-more, exch2-same, less-joins, more-parts, same-parts, mirror-apart}
+use Rattle.orbits.specs.MirrorExchange.{exch2, exch2-at, exch2-world, exch2-mirror, exch2-back, exch2-left, exch2-right, exch2-undo, tr2, tr2-low, exch2-less, exch2-more, exch2-same, less-joins, more-parts, same-parts, mirror-apart}
 
 module _ {N : ℕ} {f m : ℕ → ℕ} {live : ℕ → Bool} (E : Mirror N f m live) {x y : ℕ} (a : On N live x) (b : On N live y) where
   -- The faces after it. In all cases a step of the new map stays inside the old faces with those of x and y joined,
@@ -26,6 +26,7 @@ module _ {N : ℕ} {f m : ℕ → ℕ} {live : ℕ → Bool} (E : Mirror N f m l
   opposite-face {i} h = mirrored (rw (E .twice (f i) (E .fwd i h)) (reach-one i))
 
   exch2-inside : (i j : ℕ) → i < N → j < N → Face (exch2 f m x y) m i j → Join (Face f m) x y i j
+  unfolding tr2
   exch2-inside i j h l q = by q
     where
       P : Partition N (Face f m) (faced f m N)
@@ -33,7 +34,7 @@ module _ {N : ℕ} {f m : ℕ → ℕ} {live : ℕ → Bool} (E : Mirror N f m l
 
       step : (k : ℕ) → k < N → Join (Face f m) x y i k → Join (Face f m) x y i (exch2 f m x y k)
       step k n t =
-          let low = moved-low E a b k n in
+          let low = tr2-low E a b k n in
           rw (exch2-at f m x y k)
           (join-then P (a .lt) (b .lt) h low (E .fwd _ low)
           (join-tr P (a .lt) (b .lt) (a .lt) (b .lt) h (along reach-here) (along reach-here)
@@ -64,16 +65,13 @@ module _ {N : ℕ} {f m : ℕ → ℕ} {live : ℕ → Bool} (E : Mirror N f m l
       y-side = mirrored (rw (E .twice (f x) (E .fwd x (a .lt)), ← (exch2-right E a b c)) (reach-one y))
 
       undone : (k : ℕ) → g (tr (m (f y)) (m (f x)) (tr x y k)) ≡ f k
-      undone k =
-          ap g (tr-swap (m (f y)) (m (f x)) (tr x y k)) ∙ exch2-at f m x y (tr (m (f x)) (m (f y)) (tr x y k))
-          ∙ ap (λ j. f (tr x y j)) (tr-twice (m (f x)) (m (f y)) (tr x y k)) ∙ ap f (tr-twice x y k)
+      undone k = ap g (tr-swap (m (f y)) (m (f x)) (tr x y k)) ∙ exch2-undo f m x y k
 
       step : (k : ℕ) → k < N → Join (Face g m) x y i k → Join (Face g m) x y i (f k)
       step k n t =
           let u = opposite-low E (a .lt) in
           let v = opposite-low E (b .lt) in
-          let low : tr (m (f y)) (m (f x)) (tr x y k) < N =
-          tr-keeps (λ j. j < N) (m (f y)) (m (f x)) (tr x y k) v u (tr-keeps (λ j. j < N) x y k (a .lt) (b .lt) n) in
+          let low = tr-keeps (λ j. j < N) (m (f y)) (m (f x)) (tr x y k) v u (tr-keeps (λ j. j < N) x y k (a .lt) (b .lt) n) in
           rw (← (undone k))
           (join-then P (a .lt) (b .lt) h low (exch2-world E a b .perm .fwd _ low)
           (join-tr P (a .lt) (b .lt) v u h x-side y-side

@@ -2,16 +2,17 @@
 --     Face, faced, faces     on one orbit or on mirror orbits; the test; how many live classes
 --     orbits-pair            twice as many orbits
 --     faces-live, faces-split     equal live sets; a live set in two exclusive parts
+--     faces-none, faces-some, faces-one     no live number; some live number; all live numbers on one face
 --     reps-faces             one number for each live face: as many as there are faces
 use mathlib.Core.Path.{_≡_, sym, _∙_, ap, subst}
 use mathlib.Core.Bool.{Bool, true, false, not, _&&_, _||_, true-or, or-true, false-or}
-use Prim.Native.Nat.{ℕ, _+_, _*_, _<_}
+use Prim.Native.Nat.{ℕ, zero, _+_, _*_, _<_}
 use native.Mathlib.Omega.{arith}
 use borrow.Author.Tests.{not-true}
 use Rattle.orbits.specs.Truth.{Truth, truth, holds, fails, clash, both, both-left, both-right, same-truth, false-unless}
 use Rattle.orbits.specs.Count.{count, count-same, count-part, Partner}
 use Rattle.orbits.specs.Reach.{Reach, reaches, reach-here, reach-trans, reach-sym, reach-says, says-reach}
-use Rattle.orbits.specs.Classes.{Partition, Keeps, least, head, classes, classes-same, classes-split, Least, least-of, least-one, least-means, least-says, head-live, head-least, head-says, Reps, reps-count}
+use Rattle.orbits.specs.Classes.{Partition, Keeps, least, head, classes, classes-same, classes-split, classes-none, classes-some, classes-one, Least, least-of, least-one, least-means, least-says, head-live, head-least, head-says, Reps, reps-count}
 use Rattle.orbits.specs.Orbits.{orbits, On, reach-partition, reach-live, reach-on}
 use Rattle.orbits.specs.Mirror.{Mirror, mirror-world, mirror-on, reach-mirror, mirror-reach, no-self}
 
@@ -69,9 +70,10 @@ module _ {N : ℕ} {f m : ℕ → ℕ} {live : ℕ → Bool} (E : Mirror N f m l
   first-head i h =
       same-truth (head (reaches f N) live i && least (faced f m N) i) (head (faced f m N) live i)
       (λ t. head-says (faced f m N) live i (head-live (reaches f N) live i (both-left _ (least (faced f m N) i) t)) (both-right (head (reaches f N) live i) _ t))
-      (λ t.
-      let first = head-least (faced f m N) live i t in
-      both (head-says (reaches f N) live i (head-live (faced f m N) live i t) (least-face i h first)) first)
+      (λ t. lower t (head-least (faced f m N) live i t))
+    where
+      lower : head (faced f m N) live i ≡ true → least (faced f m N) i ≡ true → (head (reaches f N) live i && least (faced f m N) i) ≡ true
+      lower t first = both (head-says (reaches f N) live i (head-live (faced f m N) live i t) (least-face i h first)) first
 
   -- the orbits whose least member is not the least of their face: one of each face
   other : ℕ → Bool
@@ -88,8 +90,7 @@ module _ {N : ℕ} {f m : ℕ → ℕ} {live : ℕ → Bool} (E : Mirror N f m l
   -- such a one lies on the mirror of the orbit of the face's least member a
   other-side : (i a : ℕ) → i < N → a < N → other i ≡ true → least (faced f m N) a ≡ true → Face f m i a → Reach f i (m a)
   other-side i a h l t u (along r) =
-      let same : i ≡ a =
-      least-one (reach-partition (mirror-world E .perm)) i a h l (head-least (reaches f N) live i (other-head i t)) (least-face a l u) r in
+      let same = least-one (reach-partition (mirror-world E .perm)) i a h l (head-least (reaches f N) live i (other-head i t)) (least-face a l u) r in
       absurd (clash u (rw same at (other-upper i t)))
   other-side i a h l t u (mirrored r) = r
 
@@ -97,21 +98,26 @@ module _ {N : ℕ} {f m : ℕ → ℕ} {live : ℕ → Bool} (E : Mirror N f m l
   other-hit : (i : ℕ) → On N live i → (a : Least N (Face f m) (faced f m N) i) → Least N (Reach f) (reaches f N) (m (a .at))
       → Partner (λ i j. Face f m i j) other N i
   unfolding other
-  other-hit i o a b =
-      let mine : On N live (a .at) = record { lt = a .low; on = face-keeps .keep i (a .at) (o .lt) (a .low) (a .meet) (o .on) } in
-      let lives : On N live (b .at) = reach-on (mirror-world E) (mirror-on E mine) (b .meet) in
-      let back : Reach f (b .at) (m (a .at)) = reach-sym (mirror-world E .perm) (E .low (a .at) (a .low)) (b .meet) in
-      let meet : Face f m (a .at) (b .at) = face-flip (b .low) (a .low) (mirrored back) in
-      let upper : least (faced f m N) (b .at) ≡ false =
-      false-unless _ (λ u.
-      let same : a .at ≡ b .at = least-one face-partition (a .at) (b .at) (a .low) (b .low) (a .first) u meet in
-      no-self E lives (subst (λ k. Reach f (b .at) (m k)) same back)) in
-      record {
-        to = b .at;
-        low = b .low;
-        pass = both (head-says (reaches f N) live (b .at) (lives .on) (b .first)) (ap not upper);
-        pair = face-trans (a .low) (b .low) (a .meet) meet;
-      }
+  other-hit i o a b = record {
+    to = b .at;
+    low = b .low;
+    pass = both (head-says (reaches f N) live (b .at) (lives .on) (b .first)) (ap not upper);
+    pair = face-trans (a .low) (b .low) (a .meet) meet;
+  }
+    where
+      lives : On N live (b .at)
+      lives = reach-on (mirror-world E) (mirror-on E (record { lt = a .low; on = face-keeps .keep i (a .at) (o .lt) (a .low) (a .meet) (o .on) })) (b .meet)
+
+      back : Reach f (b .at) (m (a .at))
+      back = reach-sym (mirror-world E .perm) (E .low (a .at) (a .low)) (b .meet)
+
+      meet : Face f m (a .at) (b .at)
+      meet = face-flip (b .low) (a .low) (mirrored back)
+
+      upper : least (faced f m N) (b .at) ≡ false
+      upper = false-unless (least (faced f m N) (b .at)) (λ u.
+          let same = least-one face-partition (a .at) (b .at) (a .low) (b .low) (a .first) u meet in
+          no-self E lives (subst (λ k. Reach f (b .at) (m k)) same back))
 
   other-reps : Reps N N (Face f m) other live (λ i. i)
   other-reps = record {
@@ -131,13 +137,13 @@ module _ {N : ℕ} {f m : ℕ → ℕ} {live : ℕ → Bool} (E : Mirror N f m l
 
   pub orbits-pair : orbits f N live ≡ 2 * faces f m N live
   unfolding orbits faces classes other
-  orbits-pair =
-      let parts = count-part (head (reaches f N) live) (least (faced f m N)) N in
-      let one : count (λ i. head (reaches f N) live i && least (faced f m N) i) N ≡ count (head (faced f m N) live) N =
-      count-same _ _ N first-head in
-      let two : count (λ i. head (reaches f N) live i && not (least (faced f m N) i)) N ≡ count (head (faced f m N) live) N =
-      reps-count face-partition face-keeps other-reps in
-      omega arith
+  orbits-pair = omega (arith, count-part (head (reaches f N) live) (least (faced f m N)) N, one, two)
+    where
+      one : count (λ i. head (reaches f N) live i && least (faced f m N) i) N ≡ count (head (faced f m N) live) N
+      one = count-same _ _ N first-head
+
+      two : count (λ i. head (reaches f N) live i && not (least (faced f m N) i)) N ≡ count (head (faced f m N) live) N
+      two = reps-count face-partition face-keeps other-reps
 
 pub reps-faces : {M N : ℕ} {f m : ℕ → ℕ} {t live : ℕ → Bool} {φ : ℕ → ℕ} → Mirror N f m live → Reps M N (Face f m) t live φ
     → count t M ≡ faces f m N live
@@ -153,3 +159,17 @@ pub faces-split : (f m : ℕ → ℕ) (N : ℕ) (live a b : ℕ → Bool) → ((
     → ((i : ℕ) → i < N → a i ≡ true → b i ≡ true → ⊥) → faces f m N live ≡ faces f m N a + faces f m N b
 unfolding faces
 faces-split f m N = classes-split (faced f m N) N
+
+-- no live number, no face; a live number, a face; all live numbers on one face, one
+pub faces-none : (f m : ℕ → ℕ) (N : ℕ) (live : ℕ → Bool) → ((i : ℕ) → i < N → live i ≡ false) → faces f m N live ≡ zero
+unfolding faces
+faces-none f m N = classes-none (faced f m N) N
+
+pub faces-some : {N : ℕ} {f m : ℕ → ℕ} {live : ℕ → Bool} → Mirror N f m live → {x : ℕ} → On N live x → zero < faces f m N live
+unfolding faces
+faces-some E o = classes-some (face-partition E) (face-keeps E) (o .lt) (o .on)
+
+pub faces-one : {N : ℕ} {f m : ℕ → ℕ} {live : ℕ → Bool} → Mirror N f m live → {x : ℕ} → On N live x → ((i : ℕ) → On N live i → Face f m i x)
+    → faces f m N live ≡ 1
+unfolding faces
+faces-one E o all = classes-one (face-partition E) (face-keeps E) (o .lt) (o .on) (λ i h t. all i (record { lt = h; on = t }))

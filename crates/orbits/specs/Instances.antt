@@ -17,7 +17,7 @@ use Rattle.orbits.specs.ExchangeParts.{exch-more}
 use Rattle.orbits.specs.Mirror.{Mirror, mirror-world, period-half}
 use Rattle.orbits.specs.Faces.{faces, faced}
 use Rattle.orbits.specs.MirrorExchange.{exch2, exch2-mirror, exch2-less, exch2-more, exch2-same}
-use Rattle.orbits.specs.PassThrough.{reach-alone, pass-out-orbits}
+use Rattle.orbits.specs.PassThrough.{reach-alone, faces-alone, pass-out-orbits}
 
 all : ℕ → Bool
 all i = true
@@ -148,6 +148,11 @@ taken-out = pass-out-orbits (mirror-world one-face) (on 0 (omega arith)) next (o
 taken-out-counted : orbits (exch joined 0 2) 4 (without all 2) ≡ 2
 unfolding orbits classes head least reaches count iter without joined exch2 exch tr stay flip all
 taken-out-counted = refl
+
+-- 0 and its mirror 1 are fixed: a face of their own
+own-face : faces stay flip 4 all ≡ suc (faces stay flip 4 (without (without all 0) 1))
+unfolding stay flip
+own-face = faces-alone two-faces (on 0 (omega arith)) refl
 
 -- without the mirror: 0 and 1 exchanged, and exchanged again
 pair-joins : orbits stay 4 all ≡ suc (orbits (exch stay 0 1) 4 all)

@@ -4,9 +4,9 @@
 --     Period, period   the least number of steps, at least one, after which i comes back
 --     period-on        it is at most the number of points of any set that f stays in, so at most N: period-le
 use mathlib.Core.Path.{_≡_, refl, sym, _∙_, ap}
-use mathlib.Core.Logic.{_≢_}
+use mathlib.Core.Logic.{_≢_, Dec·and}
 use mathlib.Core.Bool.{Bool, true}
-use Prim.Native.Nat.{ℕ, zero, suc, pred, _+_, _-_, _<_, _≤_}
+use Prim.Native.Nat.{ℕ, zero, suc, _+_, _-_, _<_, _≤_}
 use native.Mathlib.Nat.{add-zero, add-suc, lt-irrefl}
 use native.Mathlib.Decide.{ℕ-discrete, decLt}
 use native.Mathlib.Omega.{arith}
@@ -82,52 +82,36 @@ pub period-apart : {N : ℕ} {f : ℕ → ℕ} → Inj N f → {i : ℕ} → i <
     → iter f a i ≡ iter f b i → a ≡ b
 period-apart I {i} h p = laps-apart I i (p .steps) h (p .least)
 
+-- the first time, from one step on and before n, that the steps from i meet t
+pub meeting : (f : ℕ → ℕ) (i t n : ℕ) → First (λ k. (zero < k) × (iter f k i ≡ t)) n
+meeting f i t n = first (λ k. (zero < k) × (iter f k i ≡ t)) (λ k. Dec·and (decLt zero k) (ℕ-discrete (iter f k i) t)) n
+
 pub period : {N : ℕ} {f : ℕ → ℕ} → Inj N f → (i : ℕ) → i < N → Period f i
-period {N} {f} I i h = by (first (λ k. iter f (suc k) i ≡ i) (λ k. ℕ-discrete (iter f (suc k) i) i) N)
+period {N} {f} I i h = by (meeting f i i (suc N))
   where
-    by : First (λ k. iter f (suc k) i ≡ i) N → Period f i
-    by (found k l e before) = record {
-      steps = suc k;
-      some = omega arith;
-      back = e;
-      least = λ j pos m.
-          let back : suc (pred j) ≡ j = omega arith in
-          rw back at (before (pred j) (omega arith));
-    }
-    by (none out) = absurd (lt-irrefl N (crowd fits))
-      where
-        apart : (a b : ℕ) → a < suc N → b < suc N → iter f a i ≡ iter f b i → a ≡ b
-        apart = laps-apart I i (suc N) h (λ j pos m.
-            let back : suc (pred j) ≡ j = omega arith in
-            rw back at (out (pred j) (omega arith)))
+    -- the pigeonhole: no return in N steps would make N + 1 points below N
+    crowd : ((k : ℕ) → k < suc N → ¬ ((zero < k) × (iter f k i ≡ i))) → count (λ k. true) (suc N) ≤ count (λ k. true) N
+    crowd out =
+        count-into (λ k s. iter f k i ≡ s) (λ k. true) (λ k. true) (suc N) N
+        (λ k l t. record { to = iter f k i; low = iter-low I k i h; pass = refl; pair = refl })
+        (λ a b s l m c t u w d e. laps-apart I i (suc N) h (λ k pos m z. out k m (pos, z)) a b l m (d ∙ sym e))
 
-        fits : count (λ k. true) (suc N) ≤ count (λ k. true) N
-        fits =
-            count-into (λ k s. iter f k i ≡ s) (λ k. true) (λ k. true) (suc N) N
-            (λ k l t. record { to = iter f k i; low = iter-low I k i h; pass = refl; pair = refl })
-            (λ a b s l m c t u w d e. apart a b l m (d ∙ sym e))
-
-        crowd : count (λ k. true) (suc N) ≤ count (λ k. true) N → N < N
-        crowd le =
-            let all = count-all (λ k. true) (suc N) (λ k l. refl) in
-            let low = count-le (λ k. true) N in
-            omega arith
+    by : First (λ k. (zero < k) × (iter f k i ≡ i)) (suc N) → Period f i
+    by (found k l p before) = record { steps = k; some = p .0; back = p .1; least = λ j pos m z. before j m (pos, z) }
+    by (none out) = absurd (lt-irrefl N (omega (arith, crowd out, count-all (λ k. true) (suc N) (λ k l. refl), count-le (λ k. true) N)))
 
 pub period-on : {N : ℕ} {f : ℕ → ℕ} → Inj N f → (live : ℕ → Bool) → ((i : ℕ) → i < N → live i ≡ true → live (f i) ≡ true)
     → {i : ℕ} → i < N → live i ≡ true → (p : Period f i) → p .steps ≤ count live N
-period-on {N} {f} I live keep {i} h on p =
-    let all : count (λ k. true) (p .steps) ≡ p .steps = count-all (λ k. true) (p .steps) (λ k l. refl) in
-    let into : count (λ k. true) (p .steps) ≤ count live N =
-    count-into (λ k s. iter f k i ≡ s) (λ k. true) live (p .steps) N
-    (λ k l t. record { to = iter f k i; low = stays k .0; pass = stays k .1; pair = refl })
-    (λ a b s l m c t u w d e. period-apart I h p a b l m (d ∙ sym e)) in
-    omega arith
+period-on {N} {f} I live keep {i} h on p = omega (arith, into, count-all (λ k. true) (p .steps) (λ k l. refl))
   where
     stays : (k : ℕ) → (iter f k i < N) × (live (iter f k i) ≡ true)
     stays k = iter-keeps (λ s. (s < N) × (live s ≡ true)) f (λ s q. (I .fwd s (q .0), keep s (q .0) (q .1))) k i (h, on)
 
+    into : count (λ k. true) (p .steps) ≤ count live N
+    into =
+        count-into (λ k s. iter f k i ≡ s) (λ k. true) live (p .steps) N
+        (λ k l t. record { to = iter f k i; low = stays k .0; pass = stays k .1; pair = refl })
+        (λ a b s l m c t u w d e. period-apart I h p a b l m (d ∙ sym e))
+
 pub period-le : {N : ℕ} {f : ℕ → ℕ} → Inj N f → {i : ℕ} → i < N → (p : Period f i) → p .steps ≤ N
-period-le {N} I h p =
-    let on = period-on I (λ k. true) (λ j l t. t) h refl p in
-    let low = count-le (λ k. true) N in
-    omega arith
+period-le {N} I h p = omega (arith, period-on I (λ k. true) (λ j l t. t) h refl p, count-le (λ k. true) N)

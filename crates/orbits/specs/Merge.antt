@@ -7,7 +7,7 @@
 --     merge-classes the number falls by one
 use mathlib.Core.Path.{_≡_}
 use mathlib.Core.Logic.{_≢_}
-use mathlib.Core.Bool.{Bool, true}
+use mathlib.Core.Bool.{Bool, true, false}
 use Prim.Native.Nat.{ℕ, suc, _<_}
 use native.Mathlib.Decide.{ℕ-discrete, decLt}
 use native.Mathlib.Omega.{arith}
@@ -81,16 +81,21 @@ module _ {N : ℕ} {R R′ : ℕ → ℕ → Type 0} {r r′ : ℕ → ℕ → B
       → classes r N live ≡ suc (classes r′ N live)
   unfolding classes
   lower x y h l on M a b lt =
-      count-one (head r live) (head r′ live) (b .at) N (b .low)
-      (head-says r live (b .at) (K .keep y (b .at) l (b .low) (b .meet) on) (b .first))
-      (false-unless (head r′ live (b .at)) (λ t.
-      least-means P′ (b .at) (a .at) (b .low) (head-least r′ live (b .at) t) lt
-      (M .onto (b .at) (a .at) (b .low) (a .low) (back (P .flip y (b .at) l (b .low) (b .meet)) (a .meet)))))
-      (λ i m d. same-truth (head r live i) (head r′ live i)
+      count-one (head r live) (head r′ live) (b .at) N (b .low) (head-says r live (b .at) (K .keep y (b .at) l (b .low) (b .meet) on) (b .first)) gone (λ i m d.
+      same-truth (head r live i) (head r′ live i)
       (λ t. head-says r′ live i (head-live r live i t) (still i m d (head-least r live i t)))
-      (λ t. head-says r live i (head-live r′ live i t)
-      (least-says P i m (λ j n q. least-means P′ i j m (head-least r′ live i t) n (M .onto i j m (omega arith) (inside q))))))
+      (λ t. head-says r live i (head-live r′ live i t) (was i m (head-least r′ live i t))))
     where
+      to-b : R (b .at) y
+      to-b = P .flip y (b .at) l (b .low) (b .meet)
+
+      gone : head r′ live (b .at) ≡ false
+      gone = false-unless (head r′ live (b .at)) (λ t.
+          least-means P′ (b .at) (a .at) (b .low) (head-least r′ live (b .at) t) lt (M .onto (b .at) (a .at) (b .low) (a .low) (back to-b (a .meet))))
+
+      was : (i : ℕ) → i < N → least r′ i ≡ true → least r i ≡ true
+      was i m t = least-says P i m (λ j n q. least-means P′ i j m t n (M .onto i j m (omega arith) (inside q)))
+
       still : (i : ℕ) → i < N → i ≢ b .at → least r i ≡ true → least r′ i ≡ true
       still i m d t = least-says P′ i m (λ j n q. by j (omega arith) n (M .into i j m (omega arith) q))
         where
@@ -98,7 +103,7 @@ module _ {N : ℕ} {R R′ : ℕ → ℕ → Type 0} {r r′ : ℕ → ℕ → B
           by j o n (inside q) = least-means P i j m t n q
           by j o n (across p q) =
               let top : i ≡ a .at = least-one P i (a .at) m (a .low) t (a .first) (P .join i x (a .at) m h (a .low) p (a .meet)) in
-              least-means P (b .at) j (b .low) (b .first) (omega arith) (P .join (b .at) y j (b .low) l o (P .flip y (b .at) l (b .low) (b .meet)) q)
+              least-means P (b .at) j (b .low) (b .first) (omega arith) (P .join (b .at) y j (b .low) l o to-b q)
           by j o n (back p q) = d (least-one P i (b .at) m (b .low) t (b .first) (P .join i y (b .at) m l (b .low) p (b .meet)))
 
   pub merge-classes : (x y : ℕ) → x < N → y < N → live x ≡ true → live y ≡ true → Merge N R R′ x y → classes r N live ≡ suc (classes r′ N live)

@@ -107,11 +107,7 @@ data Lap (f m : ℕ → ℕ) (i n a s : ℕ) : Type 0 where
   home : (t : ℕ) → t < n → a ≡ n + t → m (iter f t i) ≡ s → Lap f m i n a s
 
 pub period-half : {N : ℕ} {f m : ℕ → ℕ} {live : ℕ → Bool} → Mirror N f m live → {i : ℕ} → On N live i → (p : Period f i) → 2 * p .steps ≤ count live N
-period-half {N} {f} {m} {live} E {i} o p =
-    let all : count (λ k. true) (p .steps + p .steps) ≡ p .steps + p .steps = count-all (λ k. true) (p .steps + p .steps) (λ k l. refl) in
-    let into : count (λ k. true) (p .steps + p .steps) ≤ count live N =
-    count-into (Lap f m i (p .steps)) (λ k. true) live (p .steps + p .steps) N (λ a l t. lap a l) (λ a b s l n c t u w. apart a b s) in
-    omega arith
+period-half {N} {f} {m} {live} E {i} o p = omega (arith, into, count-all (λ k. true) (p .steps + p .steps) (λ k l. refl))
   where
     at : (k : ℕ) → On N live (iter f k i)
     at k = reach-on (mirror-world E) o (record { steps = k; lands = refl })
@@ -130,12 +126,16 @@ period-half {N} {f} {m} {live} E {i} o p =
         let there : Reach f i (m (iter f t i)) = record { steps = a; lands = e } in
         no-self E o (reach-trans there (reach-mirror E (o .lt) (record { steps = t; lands = refl })))
 
+    unmirror : (t u : ℕ) → m (iter f t i) ≡ m (iter f u i) → iter f t i ≡ iter f u i
+    unmirror t u e = sym (E .twice (iter f t i) (at t .lt)) ∙ ap m e ∙ E .twice (iter f u i) (at u .lt)
+
     apart : (a b s : ℕ) → Lap f m i (p .steps) a s → Lap f m i (p .steps) b s → a ≡ b
     apart a b s (out h d) (out l e) = period-apart (mirror-world E .perm) (o .lt) p a b h l (d ∙ sym e)
     apart a b s (out h d) (home u l y e) = absurd (never a u (d ∙ sym e))
     apart a b s (home t h x d) (out l e) = absurd (never b t (e ∙ sym d))
     apart a b s (home t h x d) (home u l y e) =
-        let same : t ≡ u =
-        period-apart (mirror-world E .perm) (o .lt) p t u h l
-        (sym (E .twice (iter f t i) (at t .lt)) ∙ ap m (d ∙ sym e) ∙ E .twice (iter f u i) (at u .lt)) in
+        let same = period-apart (mirror-world E .perm) (o .lt) p t u h l (unmirror t u (d ∙ sym e)) in
         omega arith
+
+    into : count (λ k. true) (p .steps + p .steps) ≤ count live N
+    into = count-into (Lap f m i (p .steps)) (λ k. true) live (p .steps + p .steps) N (λ a l t. lap a l) (λ a b s l n c t u w. apart a b s)

@@ -1,7 +1,8 @@
 -- The mirrored exchange: the values of f at x and y are exchanged, and those at their opposites m (f x) and m (f y). The
 -- mirror is then a mirror of the new map. The number of orbits changes by -2, +2 or 0, as y lies to the orbit of x.
---     exch2            the exchange
+--     exch2            the exchange;     exch2-left, exch2-right, exch2-undo    its values
 --     exch2-mirror     the mirror stays
+--     Lies, lies       which of the three cases it is
 --     exch2-less       y neither on the orbit of x nor on its mirror: two orbits less
 --     exch2-more       y on the orbit of x, and not x: two orbits more
 --     exch2-same       y on the mirror of the orbit of x: as many orbits
@@ -11,7 +12,7 @@ use mathlib.Core.Logic.{_≢_}
 use mathlib.Core.Bool.{Bool}
 use Prim.Native.Nat.{ℕ, suc, _<_}
 use native.Mathlib.Decide.{ℕ-discrete}
-use Rattle.orbits.specs.Reach.{Reach, reach-here, reach-trans, reach-sym}
+use Rattle.orbits.specs.Reach.{Reach, reach-here, reach-trans, reach-sym, reach-dec}
 use Rattle.orbits.specs.Swap.{tr, tr-left, tr-right, tr-off, tr-twice, tr-keeps, place, at-left, at-right, off}
 use Rattle.orbits.specs.Merge.{Join, inside, across, back, Merge}
 use Rattle.orbits.specs.Orbits.{orbits, World, On}
@@ -19,12 +20,32 @@ use Rattle.orbits.specs.Exchange.{exch, exch-exch, exch-swap, exch-world
 use Rattle.orbits.specs.ExchangeParts.{exch-parts, exch-more}
 use Rattle.orbits.specs.Mirror.{Mirror, mirror-world, mirror-reach, mirror-unreach, opposite-low, opposite-on, opposite-inj, opposite-apart, opposite-reach, no-self}
 
+-- x and y exchanged, and their opposites
+unfoldable pub tr2 : (ℕ → ℕ) → (ℕ → ℕ) → ℕ → ℕ → ℕ → ℕ
+tr2 f m x y i = tr x y (tr (m (f x)) (m (f y)) i)
+
 unfoldable pub exch2 : (ℕ → ℕ) → (ℕ → ℕ) → ℕ → ℕ → ℕ → ℕ
 exch2 f m x y = exch (exch f x y) (m (f x)) (m (f y))
 
-pub exch2-at : (f m : ℕ → ℕ) (x y i : ℕ) → exch2 f m x y i ≡ f (tr x y (tr (m (f x)) (m (f y)) i))
-unfolding exch2 exch
+pub exch2-at : (f m : ℕ → ℕ) (x y i : ℕ) → exch2 f m x y i ≡ f (tr2 f m x y i)
+unfolding exch2 exch tr2
 exch2-at f m x y i = refl
+
+pub exch2-undo : (f m : ℕ → ℕ) (x y k : ℕ) → exch2 f m x y (tr (m (f x)) (m (f y)) (tr x y k)) ≡ f k
+unfolding exch2 exch
+exch2-undo f m x y k = ap (λ j. f (tr x y j)) (tr-twice (m (f x)) (m (f y)) (tr x y k)) ∙ ap f (tr-twice x y k)
+
+-- where y lies to the orbit of x
+pub data Lies (f m : ℕ → ℕ) (x y : ℕ) : Type 0 where
+  elsewhere : ¬ Reach f x y → ¬ Reach f x (m y) → Lies f m x y
+  on-orbit : Reach f x y → Lies f m x y
+  on-mirror : Reach f x (m y) → Lies f m x y
+
+pub lies : {N : ℕ} {f m : ℕ → ℕ} {live : ℕ → Bool} → Mirror N f m live → (x y : ℕ) → x < N → Lies f m x y
+lies {m = m} E x y h = elim (reach-dec (mirror-world E .perm) x y h) [
+  | yes r ↦ on-orbit r
+  | no n ↦ elim (reach-dec (mirror-world E .perm) x (m y) h) [ yes r ↦ on-mirror r | no k ↦ elsewhere n k ]
+]
 
 module _ {N : ℕ} {f m : ℕ → ℕ} {live : ℕ → Bool} (E : Mirror N f m live) {x y : ℕ} (a : On N live x) (b : On N live y) where
   pub exch2-world : World N (exch2 f m x y) live
@@ -37,15 +58,41 @@ module _ {N : ℕ} {f m : ℕ → ℕ} {live : ℕ → Bool} (E : Mirror N f m l
   exch2-back e =
       ap₂ (exch (exch f x y)) (sym e) (ap (λ k. m (f k)) e ∙ E .turn x (a .lt)) ∙ exch-swap (exch f x y) y x ∙ exch-exch f x y
 
-  -- else x and y are apart from the two opposites
+  -- else the four numbers are apart, and it is plain where each of them goes
   x-off : y ≢ m (f x) → x ≢ m (f y)
   x-off c e = c (sym (ap (λ k. m (f k)) e ∙ E .turn y (b .lt)))
 
+  tr2-left : y ≢ m (f x) → tr2 f m x y x ≡ y
+  unfolding tr2
+  tr2-left c = ap (tr x y) (tr-off (m (f x)) (m (f y)) x (opposite-apart E a) (x-off c)) ∙ tr-left x y
+
+  tr2-right : y ≢ m (f x) → tr2 f m x y y ≡ x
+  unfolding tr2
+  tr2-right c = ap (tr x y) (tr-off (m (f x)) (m (f y)) y c (opposite-apart E b)) ∙ tr-right x y
+
+  tr2-over : y ≢ m (f x) → tr2 f m x y (m (f x)) ≡ m (f y)
+  unfolding tr2
+  tr2-over c = ap (tr x y) (tr-left (m (f x)) (m (f y))) ∙ tr-off x y (m (f y)) (λ z. x-off c (sym z)) (λ z. opposite-apart E b (sym z))
+
+  tr2-home : y ≢ m (f x) → tr2 f m x y (m (f y)) ≡ m (f x)
+  unfolding tr2
+  tr2-home c = ap (tr x y) (tr-right (m (f x)) (m (f y))) ∙ tr-off x y (m (f x)) (λ z. opposite-apart E a (sym z)) (λ z. c (sym z))
+
+  tr2-off : (i : ℕ) → i ≢ x → i ≢ y → i ≢ m (f x) → i ≢ m (f y) → tr2 f m x y i ≡ i
+  unfolding tr2
+  tr2-off i p q r s = ap (tr x y) (tr-off (m (f x)) (m (f y)) i r s) ∙ tr-off x y i p q
+
+  pub tr2-low : (i : ℕ) → i < N → tr2 f m x y i < N
+  unfolding tr2
+  tr2-low i h =
+      tr-keeps (λ k. k < N) x y (tr (m (f x)) (m (f y)) i) (a .lt) (b .lt)
+      (tr-keeps (λ k. k < N) (m (f x)) (m (f y)) i (opposite-low E (a .lt)) (opposite-low E (b .lt)) h)
+
   pub exch2-left : y ≢ m (f x) → exch2 f m x y x ≡ f y
-  exch2-left c = exch2-at f m x y x ∙ ap (λ k. f (tr x y k)) (tr-off (m (f x)) (m (f y)) x (opposite-apart E a) (x-off c)) ∙ ap f (tr-left x y)
+  exch2-left c = exch2-at f m x y x ∙ ap f (tr2-left c)
 
   pub exch2-right : y ≢ m (f x) → exch2 f m x y y ≡ f x
-  exch2-right c = exch2-at f m x y y ∙ ap (λ k. f (tr x y k)) (tr-off (m (f x)) (m (f y)) y c (opposite-apart E b)) ∙ ap f (tr-right x y)
+  exch2-right c = exch2-at f m x y y ∙ ap f (tr2-right c)
 
   -- the opposite of an exchanged number is the exchanged opposite
   opposite-tr : (u v k : ℕ) → u < N → v < N → k < N → m (f (tr u v k)) ≡ tr (m (f u)) (m (f v)) (m (f k))
@@ -56,55 +103,41 @@ module _ {N : ℕ} {f m : ℕ → ℕ} {live : ℕ → Bool} (E : Mirror N f m l
         rw (tr-off u v k d e) (sym (tr-off (m (f u)) (m (f v)) (m (f k)) (λ z. d (opposite-inj E n h z)) (λ z. e (opposite-inj E n l z))))
   ]
 
-  pub moved-low : (i : ℕ) → i < N → tr x y (tr (m (f x)) (m (f y)) i) < N
-  moved-low i h =
-      tr-keeps (λ k. k < N) x y (tr (m (f x)) (m (f y)) i) (a .lt) (b .lt)
-      (tr-keeps (λ k. k < N) (m (f x)) (m (f y)) i (opposite-low E (a .lt)) (opposite-low E (b .lt)) h)
-
   opposite-exch2 : (i : ℕ) → i < N → m (exch2 f m x y i) ≡ tr (m (f x)) (m (f y)) (tr x y (m (f i)))
+  unfolding tr2
   opposite-exch2 i h =
       let u = opposite-low E (a .lt) in
       let v = opposite-low E (b .lt) in
       let low : tr (m (f x)) (m (f y)) i < N = tr-keeps (λ k. k < N) (m (f x)) (m (f y)) i u v h in
       ap m (exch2-at f m x y i)
       ∙ opposite-tr x y (tr (m (f x)) (m (f y)) i) (a .lt) (b .lt) low
-      ∙ ap (tr (m (f x)) (m (f y))) (opposite-tr (m (f x)) (m (f y)) i u v h
-      ∙ ap₂ (λ p q. tr p q (m (f i))) (E .turn x (a .lt)) (E .turn y (b .lt)))
+      ∙ ap (tr (m (f x)) (m (f y))) (opposite-tr (m (f x)) (m (f y)) i u v h)
+      ∙ ap₂ (λ p q. tr (m (f x)) (m (f y)) (tr p q (m (f i)))) (E .turn x (a .lt)) (E .turn y (b .lt))
 
   exch2-turn : (i : ℕ) → i < N → m (exch2 f m x y (m (exch2 f m x y i))) ≡ i
-  exch2-turn i h =
-      ap (λ k. m (exch2 f m x y k)) (opposite-exch2 i h)
-      ∙ ap m (exch2-at f m x y (tr (m (f x)) (m (f y)) (tr x y (m (f i))))
-      ∙ ap (λ k. f (tr x y k)) (tr-twice (m (f x)) (m (f y)) (tr x y (m (f i))))
-      ∙ ap f (tr-twice x y (m (f i))))
-      ∙ E .turn i h
+  exch2-turn i h = ap (λ k. m (exch2 f m x y k)) (opposite-exch2 i h) ∙ ap m (exch2-undo f m x y (m (f i))) ∙ E .turn i h
 
-  -- the opposite of i is not where the exchange takes i
-  exch2-clear : y ≢ m (f x) → (i : ℕ) → On N live i → tr x y (tr (m (f x)) (m (f y)) i) ≢ m (f i)
-  exch2-clear c i o q = elim (place (m (f x)) (m (f y)) i) [
-    | at-left e ↦
-        x-off c (sym (sym (ap (tr x y) (ap (tr (m (f x)) (m (f y))) e ∙ tr-left (m (f x)) (m (f y)))
-        ∙ tr-off x y (m (f y)) (λ z. x-off c (sym z)) (λ z. opposite-apart E b (sym z)))
-        ∙ q ∙ ap (λ k. m (f k)) e ∙ E .turn x (a .lt)))
-    | at-right e ↦
-        c (sym (sym (ap (tr x y) (ap (tr (m (f x)) (m (f y))) e ∙ tr-right (m (f x)) (m (f y)))
-        ∙ tr-off x y (m (f x)) (λ z. opposite-apart E a (sym z)) (λ z. c (sym z)))
-        ∙ q ∙ ap (λ k. m (f k)) e ∙ E .turn y (b .lt)))
-    | off d e ↦
-        let r : tr x y i ≡ m (f i) = ap (tr x y) (sym (tr-off (m (f x)) (m (f y)) i d e)) ∙ q in
-        elim (place x y i) [
-          | at-left s ↦ c (sym (tr-left x y) ∙ ap (tr x y) (sym s) ∙ r ∙ ap (λ k. m (f k)) s)
-          | at-right s ↦ x-off c (sym (tr-right x y) ∙ ap (tr x y) (sym s) ∙ r ∙ ap (λ k. m (f k)) s)
-          | off s t ↦ opposite-apart E o (sym (tr-off x y i s t) ∙ r)
-        ]
+  -- no number goes to its opposite
+  tr2-clear : y ≢ m (f x) → (i : ℕ) → On N live i → tr2 f m x y i ≢ m (f i)
+  tr2-clear c i o q = elim (place (m (f x)) (m (f y)) i) [
+    | at-left e ↦ x-off c (sym (sym (tr2-over c) ∙ meet e ∙ E .turn x (a .lt)))
+    | at-right e ↦ c (sym (sym (tr2-home c) ∙ meet e ∙ E .turn y (b .lt)))
+    | off d e ↦ elim (place x y i) [
+      | at-left s ↦ c (sym (tr2-left c) ∙ meet s)
+      | at-right s ↦ x-off c (sym (tr2-right c) ∙ meet s)
+      | off s t ↦ opposite-apart E o (sym (tr2-off i s t d e) ∙ q)
+    ]
   ]
+    where
+      meet : {k : ℕ} → i ≡ k → tr2 f m x y k ≡ m (f k)
+      meet e = rw e at q
 
   exch2-cross : (i : ℕ) → On N live i → exch2 f m x y i ≢ m i
   exch2-cross i o e = elim (ℕ-discrete y (m (f x))) [
     | yes s ↦ E .cross i o ((rw (exch2-back s) at e))
     | no c ↦
-        exch2-clear c i o
-        (opposite-inj E (moved-low i (o .lt)) (opposite-low E (o .lt))
+        tr2-clear c i o
+        (opposite-inj E (tr2-low i (o .lt)) (opposite-low E (o .lt))
         (ap m (sym (exch2-at f m x y i) ∙ e) ∙ E .twice i (o .lt) ∙ sym (E .turn i (o .lt))))
   ]
 

@@ -3,14 +3,15 @@
 --     World, On        f is injective below N and keeps `live`; x is a live number below N
 --     merge-orbits     two orbits joined are one less
 --     orbits-live, orbits-split     equal live sets; a live set in two exclusive parts
+--     orbits-none, orbits-some, orbits-one     no live number; some live number; all live numbers on one orbit
 --     reps-orbits      one number for each live orbit: as many as there are orbits
 use mathlib.Core.Path.{_≡_, refl, _∙_}
-use mathlib.Core.Bool.{Bool, true, _||_}
-use Prim.Native.Nat.{ℕ, suc, _+_, _<_, _≤_}
+use mathlib.Core.Bool.{Bool, true, false, _||_}
+use Prim.Native.Nat.{ℕ, zero, suc, _+_, _<_, _≤_}
 use Rattle.orbits.specs.Count.{count}
 use Rattle.orbits.specs.Iterate.{Inj, Period, period-on}
 use Rattle.orbits.specs.Reach.{Reach, reaches, reach-here, reach-trans, reach-sym, reach-low, reach-ind, reach-says, says-reach}
-use Rattle.orbits.specs.Classes.{Partition, Keeps, classes, classes-same, classes-split, Reps, reps-count}
+use Rattle.orbits.specs.Classes.{Partition, Keeps, classes, classes-same, classes-split, classes-none, classes-some, classes-one, Reps, reps-count}
 use Rattle.orbits.specs.Merge.{Merge, merge-classes}
 
 unfoldable pub orbits : (ℕ → ℕ) → ℕ → (ℕ → Bool) → ℕ
@@ -66,3 +67,17 @@ pub orbits-split : (f : ℕ → ℕ) (N : ℕ) (live a b : ℕ → Bool) → ((i
     → ((i : ℕ) → i < N → a i ≡ true → b i ≡ true → ⊥) → orbits f N live ≡ orbits f N a + orbits f N b
 unfolding orbits
 orbits-split f N = classes-split (reaches f N) N
+
+-- no live number, no orbit; a live number, an orbit; all live numbers on one orbit, one
+pub orbits-none : (f : ℕ → ℕ) (N : ℕ) (live : ℕ → Bool) → ((i : ℕ) → i < N → live i ≡ false) → orbits f N live ≡ zero
+unfolding orbits
+orbits-none f N = classes-none (reaches f N) N
+
+pub orbits-some : {N : ℕ} {f : ℕ → ℕ} {live : ℕ → Bool} → World N f live → {x : ℕ} → On N live x → zero < orbits f N live
+unfolding orbits
+orbits-some W o = classes-some (reach-partition (W .perm)) (world-keeps W) (o .lt) (o .on)
+
+pub orbits-one : {N : ℕ} {f : ℕ → ℕ} {live : ℕ → Bool} → World N f live → {x : ℕ} → On N live x → ((i : ℕ) → On N live i → Reach f i x)
+    → orbits f N live ≡ 1
+unfolding orbits
+orbits-one W o all = classes-one (reach-partition (W .perm)) (world-keeps W) (o .lt) (o .on) (λ i h t. all i (record { lt = h; on = t }))

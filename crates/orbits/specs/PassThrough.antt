@@ -1,90 +1,25 @@
--- Points taken out of the orbits. g goes on from each number that is kept to the next kept one on the orbit of f, passing
--- over those between. Where each live orbit of f has a kept number, g has as many orbits on the kept numbers as f on the live ones.
---     Skip             j is the first kept number after i
---     Skips           g skips over all that is not kept
---     reach-skip       among kept numbers the two maps have the same orbits;     orbits-skip    and as many
---     face-skip, faces-skip     the same for faces
---     pass-out         one number z that has a predecessor s: to exchange the values at s and z takes z out
---     orbits-alone     a number alone in its orbit: without it there is one orbit less
+-- Points put into an orbit, or taken out. A number that f fixes is alone in its orbit. One that has a predecessor is taken
+-- out by the exchange of the values at the two: the other orbits, and what is left of this one, stay.
+--     reach-alone, orbits-alone, alone-world     a fixed number is alone; without it there is one orbit less
+--     faces-alone, alone-mirror     a fixed number with its mirror: without the two there is one face less, and the mirror stays
+--     pass-out         f s = z: the map that goes from s straight to f z follows f on the other numbers
+--     pass-out-orbits  so without z it has as many orbits as f;     pass-in-orbits    the other way round
 use mathlib.Core.Path.{_≡_, refl, sym, _∙_, ap}
-use mathlib.Core.Logic.{_≢_, _↔_}
+use mathlib.Core.Logic.{_≢_}
 use mathlib.Core.Bool.{Bool, true, false}
 use Prim.Native.Nat.{ℕ, suc, _<_}
 use native.Mathlib.Decide.{ℕ-discrete}
 use native.Mathlib.Omega.{arith}
 use Rattle.orbits.specs.Truth.{clash, false-unless}
-use Rattle.orbits.specs.Count.{Partner, count-one, without, without-at, without-other, without-on}
-use Rattle.orbits.specs.Reach.{Reach, reaches, reach-here, reach-step, reach-one, reach-trans, reach-sym, reach-ind}
-use Rattle.orbits.specs.Classes.{head, classes, least-says, head-live, head-says, carry-classes}
-use Rattle.orbits.specs.Orbits.{orbits, World, On, reach-partition, reach-on, world-keeps}
-use Rattle.orbits.specs.Exchange.{exch, exch-left, exch-right, exch-off, exch-world}
-use Rattle.orbits.specs.Mirror.{Mirror, mirror-world}
-use Rattle.orbits.specs.Faces.{Face, along, mirrored, faces, orbits-pair}
-
-pub data Skip (f : ℕ → ℕ) (kept : ℕ → Bool) : ℕ → ℕ → Type 0 where
-  land : {i j : ℕ} → kept j ≡ true → f i ≡ j → Skip f kept i j
-  pass : {i j : ℕ} → kept (f i) ≡ false → Skip f kept (f i) j → Skip f kept i j
-
-pub skip-reach : {f : ℕ → ℕ} {kept : ℕ → Bool} {i j : ℕ} → Skip f kept i j → Reach f i j
-skip-reach (land {i = i} k e) = rw (← e) (reach-one i)
-skip-reach (pass {i = i} k s) = reach-trans (reach-one i) (skip-reach s)
-
-pub record Skips (N : ℕ) (f g : ℕ → ℕ) (live kept : ℕ → Bool) : Type 0 where
-  pub sub : (i : ℕ) → On N kept i → live i ≡ true
-  pub skip : (i : ℕ) → On N kept i → Skip f kept i (g i)
-  pub meet : (i : ℕ) → On N live i → Partner (Reach f) kept N i
-
--- on the way along f: k is the last kept number, or lies between it and the next
-data Way (N : ℕ) (f g : ℕ → ℕ) (kept : ℕ → Bool) (i k : ℕ) : Type 0 where
-  here : Reach g i k → Way N f g kept i k
-  between : (last : ℕ) → Reach g i last → kept k ≡ false → Skip f kept k (g last) → Way N f g kept i k
-
-module _ {N : ℕ} {f g : ℕ → ℕ} {live kept : ℕ → Bool} (W : World N f live) (U : World N g kept) (S : Skips N f g live kept) where
-  pub reach-skip : {i j : ℕ} → On N kept i → On N kept j → Reach g i j ↔ Reach f i j
-  reach-skip {i} {j} o p = (forth, λ r. arrive (reach-ind f (Way N f g kept i) i (here reach-here) (λ k s w. step w) j r))
-    where
-      forth : Reach g i j → Reach f i j
-      forth r = reach-ind g (Reach f i) i reach-here (λ k s t. reach-trans t (skip-reach (S .skip k (reach-on U o s)))) j r
-
-      next : (k last : ℕ) → Reach g i last → Skip f kept k (g last) → Way N f g kept i (f k)
-      next k last t (land n e) = here (rw e (reach-step t))
-      next k last t (pass n s) = between last t n s
-
-      step : {k : ℕ} → Way N f g kept i k → Way N f g kept i (f k)
-      step {k} (here t) = next k k t (S .skip k (reach-on U o t))
-      step {k} (between last t n s) = next k last t s
-
-      arrive : Way N f g kept i j → Reach g i j
-      arrive (here t) = t
-      arrive (between last t n s) = absurd (clash (p .on) n)
-
-  pub orbits-skip : orbits g N kept ≡ orbits f N live
-  unfolding orbits
-  orbits-skip =
-      carry-classes {φ = λ i. i} (reach-partition (U .perm)) (reach-partition (W .perm)) (world-keeps U) (world-keeps W) (record {
-        low = λ j h t. h;
-        lives = λ j h t. S .sub j (record { lt = h; on = t });
-        fit = λ i j h l s t. reach-skip (record { lt = h; on = s }) (record { lt = l; on = t }) .0;
-        unfit = λ i j h l s t. reach-skip (record { lt = h; on = s }) (record { lt = l; on = t }) .1;
-        hit = λ i h t. S .meet i (record { lt = h; on = t });
-      })
-
-  -- faces, with a mirror of either map: those of a kept number are on one orbit
-  pub face-skip : {m n : ℕ → ℕ} → ((j : ℕ) → On N kept j → On N kept (n j)) → ((j : ℕ) → On N kept j → Reach f (n j) (m j))
-      → {i j : ℕ} → On N kept i → On N kept j → Face g n i j ↔ Face f m i j
-  face-skip {m} {n} low near {i} {j} o p = (forth, back)
-    where
-      forth : Face g n i j → Face f m i j
-      forth (along r) = along (reach-skip o p .0 r)
-      forth (mirrored r) = mirrored (reach-trans (reach-skip o (low j p) .0 r) (near j p))
-
-      back : Face f m i j → Face g n i j
-      back (along r) = along (reach-skip o p .1 r)
-      back (mirrored r) = mirrored (reach-skip o (low j p) .1 (reach-trans r (reach-sym (W .perm) (low j p .lt) (near j p))))
-
-pub faces-skip : {N : ℕ} {f g m n : ℕ → ℕ} {live kept : ℕ → Bool} → Mirror N f m live → Mirror N g n kept → Skips N f g live kept
-    → faces g n N kept ≡ faces f m N live
-faces-skip E G S = omega (arith, orbits-pair E, orbits-pair G, orbits-skip (mirror-world E) (mirror-world G) S)
+use Rattle.orbits.specs.Count.{count-one, without, without-at, without-other, without-on}
+use Rattle.orbits.specs.Reach.{Reach, reaches, reach-here, reach-one, reach-sym, reach-ind}
+use Rattle.orbits.specs.Classes.{head, classes, least-says, head-live, head-says}
+use Rattle.orbits.specs.Orbits.{orbits, World, On, reach-partition, reach-on}
+use Rattle.orbits.specs.Exchange.{exch, exch-left, exch-right, exch-off, exch-exch, exch-world}
+use Rattle.orbits.specs.Swap.{place, at-left, at-right, off}
+use Rattle.orbits.specs.Mirror.{Mirror, mirror-world, mirror-part, mirror-on, mirror-next}
+use Rattle.orbits.specs.Faces.{faces, orbits-pair}
+use Rattle.orbits.specs.Follow.{land, pass, Follows, orbits-follow}
 
 -- a fixed number is alone in its orbit
 pub reach-alone : {f : ℕ → ℕ} {z j : ℕ} → f z ≡ z → Reach f z j → j ≡ z
@@ -109,6 +44,47 @@ orbits-alone {N} {f} {live} {z} W o e =
     (false-unless _ (λ t. clash (head-live (reaches f N) (without live z) z t) (without-at live z)))
     (λ i h d. rw (without-other live z i d))
 
+-- a fixed number and its mirror, which is fixed too: a face of their own
+module _ {N : ℕ} {f m : ℕ → ℕ} {live : ℕ → Bool} {z : ℕ} (E : Mirror N f m live) (o : On N live z) (e : f z ≡ z) where
+  mirror-fixed : f (m z) ≡ m z
+  mirror-fixed = ap (λ k. f (m k)) (sym e) ∙ mirror-next E z (o .lt)
+
+  alone-part : World N f (without (without live z) (m z))
+  alone-part = alone-world (alone-world (mirror-world E) (o .lt) e) (E .low z (o .lt)) mirror-fixed
+
+  mirror-there : On N (without live z) (m z)
+  mirror-there = record { lt = E .low z (o .lt); on = without-other live z (m z) (E .still z o) ∙ mirror-on E o .on }
+
+  -- taken out together
+  z-out : without (without live z) (m z) z ≡ false
+  z-out = without-other (without live z) (m z) z (λ q. E .still z o (sym q)) ∙ without-at live z
+
+  kept : (i : ℕ) → i ≢ z → i ≢ m z → without (without live z) (m z) i ≡ live i
+  kept i p q = without-other (without live z) (m z) i q ∙ without-other live z i p
+
+  pub alone-mirror : Mirror N f m (without (without live z) (m z))
+  alone-mirror = mirror-part E (without (without live z) (m z)) (alone-part .inv) keep (λ i p.
+      without-on live z i (without-on (without live z) (m z) i (p .on)))
+    where
+      keep : (i : ℕ) → i < N → without (without live z) (m z) (m i) ≡ without (without live z) (m z) i
+      keep i h = elim (place z (m z) i) [
+        | at-left q ↦ rw q (without-at (without live z) (m z) ∙ sym z-out)
+        | at-right q ↦ rw (q, E .twice z (o .lt)) (z-out ∙ sym (without-at (without live z) (m z)))
+        | off p q ↦
+            kept (m i) (λ r. q (sym (E .twice i h) ∙ ap m r)) (λ r. p (sym (E .twice i h) ∙ ap m r ∙ E .twice z (o .lt)))
+            ∙ E .keep i h ∙ sym (kept i p q)
+      ]
+
+  pub faces-alone : faces f m N live ≡ suc (faces f m N (without (without live z) (m z)))
+  faces-alone =
+      omega (
+        arith,
+        orbits-pair E,
+        orbits-pair alone-mirror,
+        orbits-alone (mirror-world E) o e,
+        orbits-alone (alone-world (mirror-world E) (o .lt) e) mirror-there mirror-fixed,
+      )
+
 module _ {N : ℕ} {f : ℕ → ℕ} {live : ℕ → Bool} {s z : ℕ} (W : World N f live) (o : On N live s) (e : f s ≡ z) (d : s ≢ z) where
   target : On N live z
   target = rw e at (reach-on W o (reach-one s))
@@ -116,9 +92,11 @@ module _ {N : ℕ} {f : ℕ → ℕ} {live : ℕ → Bool} {s z : ℕ} (W : Worl
   pub pass-out-world : World N (exch f s z) (without live z)
   pass-out-world = alone-world (exch-world W o target) (target .lt) (exch-right f s z ∙ e)
 
-  pub pass-out : Skips N f (exch f s z) live (without live z)
+  pub pass-out : Follows N N (exch f s z) f (without live z) live (without live z) (λ i. i)
   pass-out = record {
-    sub = λ i p. without-on live z i (p .on);
+    lives = λ i p. record { lt = p .lt; on = without-on live z i (p .on) };
+    mark = λ i p. p .on;
+    one = λ i j p q e. e;
     skip = λ i p. elim (ℕ-discrete i s) [
       | yes q ↦ rw (q, exch-left f s z) (pass {i = s} (rw e (without-at live z)) (land (stays z target (λ r. d (W .perm .inj s z (o .lt) (target .lt) (e ∙ sym r)))) (ap f e)))
       | no q ↦
@@ -136,4 +114,10 @@ module _ {N : ℕ} {f : ℕ → ℕ} {live : ℕ → Bool} {s z : ℕ} (W : Worl
       stays i p r = without-other live z (f i) r ∙ W .inv i (p .lt) ∙ p .on
 
   pub pass-out-orbits : orbits (exch f s z) N (without live z) ≡ orbits f N live
-  pass-out-orbits = orbits-skip W pass-out-world pass-out
+  pass-out-orbits = orbits-follow pass-out-world W pass-out
+
+-- the other way round: a fixed number z is put in after s
+pub pass-in-orbits : {N : ℕ} {f : ℕ → ℕ} {live : ℕ → Bool} {s z : ℕ} → World N f live → On N live s → On N live z → f z ≡ z → s ≢ z
+    → orbits (exch f s z) N live ≡ orbits f N (without live z)
+pass-in-orbits {N} {f} {live} {s} {z} W o p e d =
+    sym (rw (exch-exch f s z) at (pass-out-orbits (exch-world W o p) o (exch-left f s z ∙ e) d))

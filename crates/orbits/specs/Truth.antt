@@ -1,6 +1,7 @@
 -- Deciding: a Boolean is true or false, with the equation in hand; and the first number that passes a test.
 --     truth        the two cases of a Boolean
---     both         a conjunction holds exactly if its two parts do
+--     both         a conjunction holds exactly if its two parts do:  both, both-left, both-right
+--     same-truth   two Booleans that imply one another are equal
 --     first        among the numbers below n, the first with a property, or that none has it
 use mathlib.Core.Path.{_≡_, refl, sym}
 use mathlib.Core.Bool.{Bool, true, false, _&&_}
@@ -35,22 +36,17 @@ both-right a true e = refl
 both-right true false e = e
 both-right false false e = e
 
+-- a Boolean that is not true
 pub not-both : (a b : Bool) → ((a ≡ true) → (b ≡ true) → ⊥) → (a && b) ≡ false
 not-both true true h = absurd (h refl refl)
 not-both true false h = refl
 not-both false true h = refl
 not-both false false h = refl
 
--- a Boolean is true exactly if it is not false
-pub true-unless : (b : Bool) → (b ≡ false → ⊥) → b ≡ true
-true-unless true h = refl
-true-unless false h = absurd (h refl)
-
 pub false-unless : (b : Bool) → (b ≡ true → ⊥) → b ≡ false
 false-unless true h = absurd (h refl)
 false-unless false h = refl
 
--- two Booleans that imply one another are equal
 pub same-truth : (a b : Bool) → (a ≡ true → b ≡ true) → (b ≡ true → a ≡ true) → a ≡ b
 same-truth true b h k = sym (h refl)
 same-truth false true h k = k refl

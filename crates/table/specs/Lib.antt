@@ -2,6 +2,8 @@ pub mod Layout
 pub mod Good
 pub mod Rotation
 pub mod Lawful
+pub mod Writes
+pub mod Signed
 pub mod Answers
 pub mod Counting
 pub mod Darts

@@ -3,15 +3,14 @@ use Prim.Native.Nat.{ℕ, zero, suc, _+_, _<_, _≤_}
 use native.Mathlib.Omega.{arith}
 use native.Mathlib.Numerals.{add-one}
 use native.Mathlib.Decide.{ℕ-discrete, decLt}
-use mathlib.Core.Path.{_≡_, refl, sym, _∙_, ap}
-use mathlib.Core.List.{List, [], _∷_, _++_, map}
+use mathlib.Core.Path.{_≡_, sym, _∙_, ap}
+use mathlib.Core.List.{List}
 use mathlib.Core.Logic.{_≢_}
-use lib.ListN.{length}
-use Rattle.table.specs.Rotation.{Rotation, Lawful, rotation}
+use Rattle.table.specs.Rotation.{rotation}
 use Rattle.table.specs.Lawful.{good-lawful}
-use Rattle.orbits.specs.Iterate.{iter, iter-zero, iter-suc, Inj, Period}
+use Rattle.orbits.specs.Iterate.{iter, iter-zero, iter-suc, Period}
 use Rattle.tracing.specs.Step.{steps, step}
-use Rattle.tracing.specs.Walk.{walk, run, run-length, walk-run, step-inj, walk-period, walk-period-le}
+use Rattle.tracing.specs.Walk.{walk, run, walk-run, walk-period, walk-period-le}
 use Rattle.tracing.specs.Stands.{Stands, stands-step, stands-low}
 
 pub record Along (f : ℕ → ℕ) (s n at : ℕ) : Type 0 where

@@ -1,27 +1,19 @@
 -- Each live edge has exactly two listed steps on it, its sides.
-use Prim.Native.Nat.{ℕ, zero, suc, _+_, _-_, _*_, _/_, _%_, _<_, _≤_}
+use Prim.Native.Nat.{ℕ, _+_, _-_, _*_, _/_, _%_, _<_}
 use native.Mathlib.Omega.{arith}
-use native.Mathlib.Nat.{mul-suc, add-zero}
+use native.Mathlib.Nat.{add-zero}
 use native.Mathlib.Decide.{ℕ-discrete}
-use mathlib.Core.Path.{_≡_, refl, sym, _∙_, ap, ap₂}
-use mathlib.Core.Bool.{Bool, true, false, _&&_}
-use mathlib.Core.List.{List, [], _∷_, _++_}
+use mathlib.Core.Path.{_≡_, refl}
+use mathlib.Core.Bool.{Bool, true}
+use mathlib.Core.List.{List, [], _∷_}
 use mathlib.Core.Logic.{_≢_}
-use lib.Dec.{eqb, ltb}
-use lib.ListN.{length}
-use borrow.Author.Tests.{eq-eqb, ne-eqb, lt-ltb, le-ltb, ltb-true}
-use Rattle.table.specs.Layout.{darts, edges, rev}
+use lib.Dec.{eqb}
+use borrow.Author.Tests.{eq-eqb, ne-eqb}
+use Rattle.table.specs.Layout.{rev}
 use Rattle.table.specs.Rotation.{Rotation, Lawful}
-use Rattle.orbits.specs.Truth.{truth, holds, fails, both, both-left, both-right}
-use Rattle.orbits.specs.Count.{count, more, count-same, count-short}
-use Rattle.orbits.specs.Iterate.{iter, iter-suc, iter-low, Period}
-use Rattle.orbits.specs.Orbits.{On}
-use Rattle.orbits.specs.Mirror.{period-half}
-use Rattle.tracing.specs.Step.{steps, type?, is-zero, is-one, stepType, step, back, step-live, step-word, mirror-live, mirror-word, back-dart, back-type}
-use Rattle.tracing.specs.Place.{places, trace, flip, on, place, is-step, is-still, trace-step, trace-still, flip-step, flip-still, on-step}
-use Rattle.tracing.specs.Walk.{walk, run, run-length, walk-run, walk-period, walk-period-le, step-inj}
+use Rattle.orbits.specs.Count.{more}
+use Rattle.tracing.specs.Step.{type?, is-zero, is-one, stepType, back}
 use Rattle.tracing.specs.Has.{countIn, times}
-use Rattle.tracing.specs.Mirrored.{Part, mirrored}
 use Rattle.tracing.specs.Twice.{listedSteps, one-way}
 
 -- "A step is on its dart's edge"

@@ -1,8 +1,8 @@
 -- The number of steps of a walk: it is back at its start, dart and type, then and not before,
 -- "within twice as many steps as edges".
-use Prim.Native.Nat.{ℕ, zero, suc, _+_, _-_, _*_, _/_, _%_, _<_, _≤_}
+use Prim.Native.Nat.{ℕ, zero, suc, _*_, _/_, _<_, _≤_}
 use native.Mathlib.Omega.{arith}
-use mathlib.Core.Path.{_≡_, refl, sym, _∙_, ap, ap₂}
+use mathlib.Core.Path.{_≡_, refl, sym, _∙_, ap}
 use mathlib.Core.Bool.{Bool, true, false, _&&_}
 use mathlib.Core.Logic.{_≢_}
 use lib.Dec.{ltb}
@@ -11,11 +11,10 @@ use borrow.Author.Tests.{lt-ltb, le-ltb}
 use Rattle.table.specs.Layout.{darts, edges, rev}
 use Rattle.table.specs.Rotation.{Rotation, Lawful}
 use Rattle.orbits.specs.Count.{count, more, count-same, count-short}
-use Rattle.orbits.specs.Truth.{both}
 use Rattle.orbits.specs.Iterate.{iter, iter-zero, iter-suc, iter-low, Period}
 use Rattle.orbits.specs.Mirror.{period-half}
 use Rattle.tracing.specs.Step.{steps, type?, is-zero, is-one, step, step-live, step-word, mirror-live, mirror-word}
-use Rattle.tracing.specs.Place.{places, trace, flip, on, place, is-step, is-still, trace-step, trace-still, flip-step, flip-still, on-step, rev-still}
+use Rattle.tracing.specs.Place.{places, trace, on, place, is-step, is-still, trace-step, trace-still, flip-step, flip-still, on-step, rev-still}
 use Rattle.tracing.specs.Walk.{walk, run-length, walk-run, walk-period, walk-period-le, step-inj}
 use Rattle.tracing.specs.Mirrored.{Part, mirrored}
 

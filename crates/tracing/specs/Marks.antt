@@ -1,12 +1,10 @@
 -- The marks of the corners that have been met: one for each dart, 0 or 1.
-use Prim.Native.Nat.{ℕ, zero, suc, _+_, _*_, _<_, _≤_}
-use native.Mathlib.Omega.{arith}
+use Prim.Native.Nat.{ℕ, _+_, _<_}
 use native.Mathlib.Numerals.{add-one}
 use native.Mathlib.Decide.{ℕ-discrete}
 use mathlib.Core.Path.{_≡_, refl, sym, _∙_, ap}
 use mathlib.Core.Bool.{Bool, true, false}
-use mathlib.Core.List.{List, [], _∷_, _++_, map, append-assoc}
-use mathlib.Core.Logic.{_≢_}
+use mathlib.Core.List.{List, [], _∷_, _++_, map}
 use lib.ListN.{length, getD, set, replicate, length-set, length-replicate, getD-replicate}
 use lib.Seq.{getD-set-same, getD-set-other}
 use Rattle.table.specs.Layout.{darts}
@@ -19,10 +17,6 @@ use Rattle.tracing.specs.Listing.{has, has-here, has-there}
 unfoldable pub mark : List ℕ → List ℕ → List ℕ
 mark m [] = m
 mark m (c ∷ cs) = mark (set m c 1) cs
-
-pub mark-none : (m : List ℕ) → mark m [] ≡ m
-unfolding mark
-mark-none m = refl
 
 pub mark-append : (m a b : List ℕ) → mark m (a ++ b) ≡ mark (mark m a) b
 unfolding mark

@@ -1,16 +1,16 @@
 -- Which corners a walk meets: those whose places are on its orbit or on the mirror of it.
-use Prim.Native.Nat.{ℕ, zero, suc, _+_, _-_, _*_, _/_, _%_, _<_, _≤_}
+use Prim.Native.Nat.{ℕ, zero, suc, _*_, _/_, _<_, _≤_}
 use native.Mathlib.Omega.{arith}
 use native.Mathlib.Decide.{ℕ-discrete}
 use mathlib.Core.Path.{_≡_, refl, sym, _∙_, ap}
-use mathlib.Core.Bool.{Bool, true, false}
-use mathlib.Core.List.{List, [], _∷_, _++_, map}
+use mathlib.Core.Bool.{true}
+use mathlib.Core.List.{[], _∷_}
 use Rattle.table.specs.Layout.{darts}
 use Rattle.table.specs.Rotation.{Rotation, Lawful}
 use Rattle.orbits.specs.Iterate.{iter}
 use Rattle.orbits.specs.Reach.{Reach, Within, reach-here, reach-step, reach-ind, reach-within}
 use Rattle.orbits.specs.Faces.{Face, along, mirrored}
-use Rattle.tracing.specs.Step.{steps, type?, is-zero, is-one, step, mirror, mirror-zero, corner, corner-zero, corner-one, corner-mirror, step-word, mirror-word}
+use Rattle.tracing.specs.Step.{steps, type?, is-zero, is-one, step, mirror, mirror-zero, corner, corner-zero, corner-one, corner-mirror, step-word}
 use Rattle.tracing.specs.Place.{trace, flip, trace-step, trace-still, flip-step}
 use Rattle.tracing.specs.Walk.{walk, corners, run, walk-run, walk-period, walk-period-le}
 use Rattle.tracing.specs.Listing.{has, has-here}

@@ -1,7 +1,7 @@
 -- Tracing is a mirrored permutation of the places: the exchange lemmas and the face counts of crate `orbits` apply to it.
-use Prim.Native.Nat.{ℕ, zero, suc, _+_, _-_, _*_, _/_, _%_, _<_, _≤_}
-use mathlib.Core.Path.{_≡_, refl, sym, _∙_, ap}
-use mathlib.Core.Bool.{Bool, true, false}
+use Prim.Native.Nat.{ℕ, _<_}
+use mathlib.Core.Path.{_≡_}
+use mathlib.Core.Bool.{Bool, true}
 use Rattle.table.specs.Rotation.{Rotation, Lawful}
 use Rattle.orbits.specs.Mirror.{Mirror}
 use Rattle.tracing.specs.Place.{places, trace, flip, on, trace-low, flip-low, flip-flip, trace-turn, on-trace, on-flip, flip-other, trace-other}

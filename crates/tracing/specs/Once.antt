@@ -1,31 +1,29 @@
 -- The listed walks meet every corner exactly once. A walk passes no step twice, and never a step and its mirror.
-use Prim.Native.Nat.{ℕ, zero, suc, _+_, _-_, _*_, _/_, _%_, _<_, _≤_}
+use Prim.Native.Nat.{ℕ, zero, suc, _+_, _*_, _/_, _<_, _≤_}
 use native.Mathlib.Omega.{arith}
-use native.Mathlib.Nat.{add-zero}
-use native.Mathlib.Decide.{ℕ-discrete, decLt}
 use mathlib.Core.Path.{_≡_, refl, sym, _∙_, ap, ap₂}
 use mathlib.Core.Bool.{Bool, true, false, _&&_}
-use mathlib.Core.List.{List, [], _∷_, _++_, map}
-use mathlib.Core.Logic.{_≢_}
+use mathlib.Core.List.{List, [], _∷_, map}
 use lib.Dec.{eqb, ltb}
-use borrow.Author.Tests.{eq-eqb, ne-eqb, eqb-true, lt-ltb, le-ltb}
+use borrow.Author.Tests.{eq-eqb, eqb-true, lt-ltb, le-ltb}
 use Rattle.table.specs.Layout.{vertices, darts}
 use Rattle.table.specs.Rotation.{Rotation, Lawful}
-use Rattle.orbits.specs.Truth.{truth, holds, fails, clash, both, both-left, both-right, false-unless, not-both}
-use Rattle.orbits.specs.Count.{count, more, count-none, count-same}
+use Rattle.orbits.specs.Truth.{both, both-right, false-unless, not-both}
+use Rattle.orbits.specs.Count.{count, more, count-none}
 use Rattle.orbits.specs.Iterate.{iter, Period, period-apart}
-use Rattle.orbits.specs.Reach.{Reach, Within, reach-trans, reach-sym}
+use Rattle.orbits.specs.Reach.{Reach, reach-trans, reach-sym}
 use Rattle.orbits.specs.Orbits.{On, reach-on}
 use Rattle.orbits.specs.Mirror.{mirror-world, no-self}
-use Rattle.orbits.specs.Faces.{Face, along, mirrored, face-flip, face-trans}
+use Rattle.orbits.specs.Faces.{face-flip, face-trans}
 use Rattle.tracing.specs.Step.{steps, step, mirror, corner, corner-dart}
 use Rattle.tracing.specs.Place.{places, trace, flip, on, flip-step, on-step}
 use Rattle.tracing.specs.Walk.{walk, corners, run, walk-run, walk-period, walk-period-le, step-inj}
-use Rattle.tracing.specs.Listing.{has, has-here, gather, starts, alones, loneAt, loneCorner, faces}
-use Rattle.tracing.specs.Has.{has-empty, has-cons, here, later, has-parts, left, right, has-mapped, countIn, countIn-append, countIn-map, times, times-none, times-gather, times-gather-none, count-single}
+use Rattle.tracing.specs.Listing.{has, gather, starts, alones, loneAt, loneCorner, faces}
+use Rattle.tracing.specs.Has.{has-empty, has-cons, here, later, has-parts, left, right, has-mapped, countIn, countIn-append, countIn-map, times, times-none, times-gather, count-single}
 use Rattle.tracing.specs.Mirrored.{whole, mirrored as tracing-mirror}
 use Rattle.tracing.specs.Meets.{at-corner, plain, turned, has-run, has-walk, has-corners, corners-has, step-reach, trace-reach}
-use Rattle.tracing.specs.FaceCount.{start?, start-live, has-start, starts-count, alones-count, lone-there, Covered, covered, starts-one}
+use Rattle.tracing.specs.Starts.{start?, start-live, has-start, starts-count, alones-count, lone-there}
+use Rattle.tracing.specs.Cover.{covered, starts-one}
 
 -- the corners that a listed face's walk meets; "An empty walk meets its vertex's corner"
 unfoldable pub cornersOf : Rotation → ℕ → List ℕ
@@ -139,7 +137,7 @@ module _ (R : Rotation) (L : Lawful R) where
     | left h ↦ let b = has-start R darts c h in from-dart (b .low) (b .start)
     | right h ↦
         let i = has-mapped loneCorner (alones R vertices) c h in
-        let a = lone-there R L vertices (i .at) (i .among) in
+        let a = lone-there R vertices (i .at) (i .among) in
         from-lone (i .at) (L .there-low (i .at) (L .alone-there (i .at) a)) a (sym (i .gives))
   ]
 

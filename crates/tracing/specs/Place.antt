@@ -1,16 +1,16 @@
 -- The places of a tracing: the step words, and for each isolated vertex two still places, one for each type.
 -- Tracing permutes the places that are there, and the mirror at each corner undoes it: what the counts of faces rest on.
-use Prim.Native.Nat.{ℕ, zero, suc, _+_, _-_, _*_, _/_, _%_, _<_, _≤_}
+use Prim.Native.Nat.{ℕ, _+_, _-_, _*_, _/_, _<_, _≤_}
 use native.Mathlib.Omega.{arith}
-use mathlib.Core.Path.{_≡_, refl, sym, _∙_, ap}
+use mathlib.Core.Path.{_≡_, _∙_, ap}
 use mathlib.Core.Bool.{Bool, true, false}
 use mathlib.Core.Logic.{_≢_}
 use lib.Dec.{ltb}
 use borrow.Author.Tests.{lt-ltb, le-ltb, ltb-true, ltb-false}
-use Rattle.table.specs.Layout.{rev, darts}
+use Rattle.table.specs.Layout.{rev}
 use Rattle.table.specs.Rotation.{Rotation, Lawful, choose}
 use Rattle.orbits.specs.Truth.{truth, holds, fails}
-use Rattle.tracing.specs.Step.{steps, Type?, is-zero, is-one, type?, step, mirror, step-word, mirror-word, step-live, mirror-live, mirror-mirror, mirror-other, step-other, step-turn}
+use Rattle.tracing.specs.Step.{steps, is-zero, is-one, type?, step, mirror, step-word, mirror-word, step-live, mirror-live, mirror-mirror, mirror-other, step-other, step-turn}
 
 -- 4,096 step words, then two still places for each of 512 vertices
 abbrev pub places : ℕ
@@ -24,7 +24,7 @@ trace R s = choose (ltb s steps) (step R s) s
 unfoldable pub flip : Rotation → ℕ → ℕ
 flip R s = choose (ltb s steps) (mirror R s) (rev s)
 
-abbrev either : Bool → Bool → Bool → Bool
+abbrev pub either : Bool → Bool → Bool → Bool
 either true a b = a
 either false a b = b
 

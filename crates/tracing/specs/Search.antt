@@ -1,19 +1,18 @@
 -- A walk searched for one of two steps: the loop's invariant, its measure, and what is known at its end.
-use Prim.Native.Nat.{ℕ, zero, suc, _+_, _-_, _<_, _≤_}
+use Prim.Native.Nat.{ℕ, zero, suc, _+_, _<_, _≤_}
 use native.Mathlib.Omega.{arith}
 use native.Mathlib.Decide.{ℕ-discrete}
-use native.Mathlib.Numerals.{add-one}
-use mathlib.Core.Path.{_≡_, refl, sym, _∙_, ap}
-use mathlib.Core.List.{List, [], _∷_, _++_}
+use mathlib.Core.Path.{_≡_, sym, _∙_, ap}
+use mathlib.Core.List.{List, _++_}
 use mathlib.Core.Logic.{_≢_}
 use lib.ListN.{length, length-append}
-use Rattle.table.specs.Rotation.{Rotation, rotation}
+use Rattle.table.specs.Rotation.{rotation}
 use Rattle.table.specs.Lawful.{good-lawful}
 use Rattle.orbits.specs.Iterate.{iter, iter-zero, iter-suc, Period}
 use Rattle.orbits.specs.Reach.{Reach, reach-within, reach-step}
 use Rattle.tracing.specs.Step.{steps, step}
-use Rattle.tracing.specs.Walk.{walk, run, run-length, onward, onward-rest, walk-period, walk-period-le}
-use Rattle.tracing.specs.Stands.{Stands, stands-step, stands-low}
+use Rattle.tracing.specs.Walk.{run, run-length, onward, onward-rest, walk-period, walk-period-le}
+use Rattle.tracing.specs.Stands.{Stands, stands-low}
 use Rattle.tracing.specs.Along.{Walking, walking-none, walking-more, along-few, along-period}
 
 -- how many steps are left until the walk is back at s
@@ -41,11 +40,12 @@ searching-more {t} {s} {p} {q} {at} {next} k e np nq ns = record {
   so-far = k .so-far + 1;
   walking = walking-more (k .walking) e ns;
   missed = λ j a b. elim (ℕ-discrete j (suc (k .so-far))) [
-      yes z ↦
+    | yes z ↦
         let here : iter (step (rotation t)) j s ≡ next =
-            ap (λ i. iter (step (rotation t)) i s) z ∙ iter-suc (step (rotation t)) (k .so-far) s ∙ ap (step (rotation t)) (k .walking .along .here) ∙ sym e in
+        ap (λ i. iter (step (rotation t)) i s) z ∙ iter-suc (step (rotation t)) (k .so-far) s ∙ ap (step (rotation t)) (k .walking .along .here) ∙ sym e in
         rw here (np, nq)
-    | no z ↦ k .missed j a (omega arith) ];
+    | no z ↦ k .missed j a (omega arith)
+  ];
 }
 
 found-reach : {t : List ℕ} {s p q at next : ℕ} → Searching t s p q at → next ≡ step (rotation t) at → Reach (step (rotation t)) s next
@@ -72,13 +72,14 @@ found-neither {t} {s} {p} {q} {at} {next} k e np nq h = record {
   first = λ x. absurd (np x);
   second = λ x. absurd (nq x);
   neither = λ x y z r.
-    let w = reach-within (along-period (k .walking .along) (sym e ∙ h)) r in
-    let few = w .few in
-    elim (ℕ-discrete (w .steps) zero) [
-      yes a ↦
-        let start : s ≡ z = sym (iter-zero (step (rotation t)) s) ∙ ap (λ i. iter (step (rotation t)) i s) (sym a) ∙ w .lands in
-        rw (← start, ← h) (np, nq)
-    | no a ↦ rw (w .lands) at (k .missed (w .steps) (omega arith) (omega arith)) ];
+      let w = reach-within (along-period (k .walking .along) (sym e ∙ h)) r in
+      let few = w .few in
+      elim (ℕ-discrete (w .steps) zero) [
+        | yes a ↦
+            let start : s ≡ z = sym (iter-zero (step (rotation t)) s) ∙ ap (λ i. iter (step (rotation t)) i s) (sym a) ∙ w .lands in
+            rw (← start, ← h) (np, nq)
+        | no a ↦ rw (w .lands) at (k .missed (w .steps) (omega arith) (omega arith))
+      ];
 }
 
 -- the measure

@@ -1,27 +1,26 @@
 -- What the code that counts the listed walks promises, and the invariants of its loops.
-use Prim.Native.Nat.{ℕ, zero, suc, _+_, _-_, _*_, _/_, _%_, _<_, _≤_}
+use Prim.Native.Nat.{ℕ, zero, suc, _+_, _*_, _/_, _<_, _≤_}
 use native.Mathlib.Omega.{arith}
 use native.Mathlib.Numerals.{add-one}
 use native.Mathlib.Decide.{ℕ-discrete}
 use mathlib.Core.Path.{_≡_, refl, sym, _∙_, ap, ap₂}
 use mathlib.Core.Bool.{Bool, true, false, not}
-use mathlib.Core.List.{List, [], _∷_, _++_, map, append-nil}
+use mathlib.Core.List.{List, [], _∷_, map, append-nil}
 use mathlib.Core.Logic.{_≢_}
 use lib.Dec.{eqb}
 use lib.ListN.{length, getD, set, length-append, length-set, length-map, length-replicate}
 use borrow.Author.Tests.{eq-eqb, ne-eqb}
-use Rattle.table.specs.Layout.{words as table-words, vertices, darts, isolated, edgeOf, edgeWord, vertexWord, Live}
+use Rattle.table.specs.Layout.{words as table-words, vertices, darts, isolated, edgeOf, edgeWord, vertexWord}
 use Rattle.table.specs.Good.{Good}
-use Rattle.table.specs.Rotation.{Rotation, rotation, live?, yes-live, live-case, Case, holds, fails, alone?, alone-yes, alone-word}
+use Rattle.table.specs.Rotation.{Rotation, rotation, live?, yes-live, live-case, holds, fails, alone?, alone-yes, alone-word}
 use Rattle.orbits.specs.Truth.{truth, holds as yes-true, fails as yes-false, false-unless}
-use Rattle.orbits.specs.Iterate.{iter}
 use Rattle.tracing.specs.declared.count.Size.{Size}
 use Rattle.tracing.specs.Step.{step, corner}
 use Rattle.tracing.specs.Walk.{walk, corners, run, run-length}
-use Rattle.tracing.specs.Listing.{has, only, gather, gather-none, gather-one, gather-append, metBy, fresh, starts, starts-suc, written, written-walk, written-lone, lone-yes, lone-no, alones, alones-suc, loneCorner, faces, faceCount, listing}
+use Rattle.tracing.specs.Listing.{has, only, gather, gather-one, gather-append, metBy, fresh, starts, starts-suc, written, written-walk, written-lone, lone-yes, lone-no, alones, alones-suc, loneCorner, faces, faceCount, listing}
 use Rattle.tracing.specs.Stands.{Stands, stands-corner}
 use Rattle.tracing.specs.Along.{Walking, walking-none, walking-more, walking-all, walking-few}
-use Rattle.tracing.specs.Marks.{mark, mark-none, mark-append, mark-length, mark-step, mark-reads, bit, unmarked}
+use Rattle.tracing.specs.Marks.{mark, mark-append, mark-length, mark-step, mark-reads, bit, unmarked}
 
 -- the walk from s has n steps, and its corners have been marked
 pub record Marked (t : List ℕ) (s : ℕ) (m : List ℕ) (n : ℕ) (m′ : List ℕ) : Type 0 where
@@ -155,6 +154,7 @@ looked-walk {t} {d} {m} {n} h e f k =
 pub record Measured (t : List ℕ) (r : Size) : Type 0 where
   pub walks : r .walks ≡ faceCount (rotation t)
   pub words : r .words ≡ length (listing (rotation t))
+  pub short : r .words ≤ 8391680
 
 -- a loop over the darts: the corners of the walks that start below d are marked
 pub record Seen (t : List ℕ) (d : ℕ) (m : List ℕ) : Type 0 where
@@ -269,7 +269,10 @@ unfolding faceCount listing faces
 measured {t} {walks} {words} {n} k a =
     let R = rotation t in
     let alone = lone-words R (alones R vertices) in
+    let few = a .few in
+    let most = k .short in
     record {
       walks = rw (length-append, length-map) (ap₂ _+_ (k .count) (a .count));
       words = rw (gather-append, length-append, alone) (ap₂ (λ x y. x + 2 * y) (k .size) (a .count));
+      short = omega arith;
     }

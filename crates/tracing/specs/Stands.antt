@@ -1,16 +1,16 @@
 -- A good table with a live dart, or with a step on one: what the code that walks it is handed, and what it may then read.
-use Prim.Native.Nat.{ℕ, zero, suc, _+_, _-_, _*_, _/_, _%_, _<_, _≤_}
+use Prim.Native.Nat.{ℕ, _+_, _*_, _/_, _%_, _<_, _≤_}
 use native.Mathlib.Omega.{arith}
-use mathlib.Core.Path.{_≡_, refl, sym, _∙_, ap}
-use mathlib.Core.Bool.{Bool, true, false}
+use mathlib.Core.Path.{_≡_, sym, _∙_}
+use mathlib.Core.Bool.{true}
 use mathlib.Core.List.{List}
 use lib.ListN.{length}
 use borrow.Author.Tests.{ne-eqb}
-use Rattle.table.specs.Layout.{words, darts, edges, edgeOf, prevAt, edgeAt, nextWord, prevWord, edgeWord, rev, Live}
+use Rattle.table.specs.Layout.{words, darts, edgeOf, nextWord, prevWord, edgeWord, rev}
 use Rattle.table.specs.Good.{Good}
-use Rattle.table.specs.Rotation.{Rotation, Lawful, rotation, live?, nextDart-live, prevDart-live, live-yes, yes-live, turnsOf}
+use Rattle.table.specs.Rotation.{rotation, live?, nextDart-live, prevDart-live, live-yes}
 use Rattle.table.specs.Lawful.{good-lawful}
-use Rattle.tracing.specs.Step.{steps, type?, is-zero, is-one, next-dart, stepType, around, around-next, around-prev, step, mirror, corner, corner-zero, corner-one, step-live, mirror-live}
+use Rattle.tracing.specs.Step.{steps, type?, is-zero, is-one, next-dart, around, around-next, step, corner, corner-zero, corner-one, step-live}
 
 pub record LiveDart (t : List ℕ) (d : ℕ) : Type 0 where
   pub good : Good t

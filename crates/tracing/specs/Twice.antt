@@ -1,30 +1,28 @@
 -- The listed walks pass every live edge exactly twice: of a step and its way back, one is listed.
 -- "A step is on its dart's edge; the two listed steps on an edge are its sides."
-use Prim.Native.Nat.{ℕ, zero, suc, _+_, _-_, _*_, _/_, _%_, _<_, _≤_}
+use Prim.Native.Nat.{ℕ, _+_, _*_, _/_, _<_}
 use native.Mathlib.Omega.{arith}
-use native.Mathlib.Decide.{ℕ-discrete}
 use mathlib.Core.Path.{_≡_, refl, sym, _∙_, ap, ap₂}
-use mathlib.Core.Bool.{Bool, true, false, _&&_}
-use mathlib.Core.List.{List, [], _∷_, _++_}
-use mathlib.Core.Logic.{_≢_}
+use mathlib.Core.Bool.{true, _&&_}
+use mathlib.Core.List.{List}
 use lib.Dec.{eqb}
-use borrow.Author.Tests.{eq-eqb, ne-eqb, eqb-true}
-use Rattle.table.specs.Layout.{darts, rev}
+use borrow.Author.Tests.{eq-eqb, eqb-true}
+use Rattle.table.specs.Layout.{darts}
 use Rattle.table.specs.Rotation.{Rotation, Lawful}
-use Rattle.orbits.specs.Truth.{truth, holds, fails, both, both-right, false-unless}
-use Rattle.orbits.specs.Count.{count, more}
-use Rattle.orbits.specs.Reach.{Reach, reach-here, reach-one, reach-trans, reach-sym}
+use Rattle.orbits.specs.Truth.{both, both-right, false-unless}
+use Rattle.orbits.specs.Reach.{Reach, reach-one, reach-trans, reach-sym}
 use Rattle.orbits.specs.Orbits.{On, reach-on}
 use Rattle.orbits.specs.Mirror.{mirror-world, mirror-reach, no-self}
 use Rattle.orbits.specs.Faces.{Face, along, mirrored, face-flip, face-trans}
-use Rattle.tracing.specs.Step.{steps, Type?, is-zero, is-one, type?, stepType, step, back, mirror, corner, step-live, step-word, mirror-step, mirror-word, corner-live, back-dart, back-type}
-use Rattle.tracing.specs.Place.{places, trace, flip, on, flip-step, trace-step, on-step}
+use Rattle.tracing.specs.Step.{steps, step, back, mirror, corner, step-live, step-word, mirror-step, mirror-word, corner-live}
+use Rattle.tracing.specs.Place.{places, trace, flip, on, flip-step, trace-step}
 use Rattle.tracing.specs.Walk.{walk}
 use Rattle.tracing.specs.Listing.{has, gather, starts}
-use Rattle.tracing.specs.Has.{countIn, times, times-none, times-gather, times-gather-none, count-single}
+use Rattle.tracing.specs.Has.{times, times-none, times-gather, times-gather-none, count-single}
 use Rattle.tracing.specs.Mirrored.{whole, mirrored as tracing-mirror}
 use Rattle.tracing.specs.Meets.{has-walk, walk-has}
-use Rattle.tracing.specs.FaceCount.{start?, start-live, has-start, starts-count, covered, corner-face, starts-one}
+use Rattle.tracing.specs.Starts.{start?, start-live, has-start, starts-count}
+use Rattle.tracing.specs.Cover.{covered, corner-face, starts-one}
 use Rattle.tracing.specs.Once.{walk-once, step-on}
 
 -- the steps of the listed walks, in the order of the listing
@@ -114,7 +112,7 @@ module _ (R : Rotation) (L : Lawful R) where
   ]
 
   -- with a step, the step after it is listed
-  step-times : (x : ℕ) → x < steps → R .live (x / 2) ≡ true → times (step R x) (listedSteps R) ≡ times x (listedSteps R)
+  pub step-times : (x : ℕ) → x < steps → R .live (x / 2) ≡ true → times (step R x) (listedSteps R) ≡ times x (listedSteps R)
   step-times x h l = let p = passed x h l in go (p .at) (p .low) (p .start) (p .face)
     where
       next : trace R x ≡ step R x

@@ -1,10 +1,10 @@
 -- A walk: the steps from a start up to the first return to it, dart and type, document 01, "Corners and walks".
 -- The definition computes; `walk-run` says that it is the run of as many steps as its start's period under `step`.
-use Prim.Native.Nat.{ℕ, zero, suc, _+_, _-_, _*_, _/_, _%_, _<_, _≤_}
+use Prim.Native.Nat.{ℕ, zero, suc, _+_, _<_, _≤_}
 use native.Mathlib.Omega.{arith}
 use native.Mathlib.Decide.{ℕ-discrete}
 use mathlib.Core.Path.{_≡_, refl, sym, _∙_, ap}
-use mathlib.Core.Bool.{Bool, true, false}
+use mathlib.Core.Bool.{true, false}
 use mathlib.Core.List.{List, [], _∷_, _++_, map, append-assoc}
 use mathlib.Core.Logic.{_≢_}
 use lib.Dec.{eqb}
@@ -31,10 +31,6 @@ corners R s = map (corner R) (walk R s)
 unfoldable pub run : (ℕ → ℕ) → ℕ → ℕ → List ℕ
 run f s zero = []
 run f s (suc n) = run f s n ++ (iter f n s ∷ [])
-
-pub run-zero : (f : ℕ → ℕ) (s : ℕ) → run f s zero ≡ []
-unfolding run
-run-zero f s = refl
 
 pub run-suc : (f : ℕ → ℕ) (s n : ℕ) → run f s (suc n) ≡ run f s n ++ (iter f n s ∷ [])
 unfolding run
@@ -75,10 +71,6 @@ module _ (R : Rotation) where
   pub walk-run : (s : ℕ) (p : Period (step R) s) → p .steps ≤ steps → walk R s ≡ run (step R) s (p .steps)
   unfolding walk
   walk-run s p h = onward-run (step R) s p steps h
-
-  pub corners-run : (s : ℕ) (p : Period (step R) s) → p .steps ≤ steps → corners R s ≡ map (corner R) (run (step R) s (p .steps))
-  unfolding corners
-  corners-run s p h = ap (map (corner R)) (walk-run s p h)
 
 module _ (R : Rotation) (L : Lawful R) where
   -- a step has an inverse, its mirror's

@@ -1,21 +1,19 @@
 -- What the code that writes the listing promises, and the invariants of its loops: the words so far stand at the front of the slice.
-use Prim.Native.Nat.{ℕ, zero, suc, _+_, _-_, _*_, _/_, _%_, _<_, _≤_}
+use Prim.Native.Nat.{ℕ, zero, suc, _+_, _-_, _*_, _/_, _<_, _≤_}
 use native.Mathlib.Omega.{arith}
 use native.Mathlib.Numerals.{add-one}
 use native.Mathlib.Decide.{ℕ-discrete}
-use native.Mathlib.Nat.{add-zero, add-suc, suc-add, zero-add}
-use mathlib.Core.Path.{_≡_, refl, sym, _∙_, ap, ap₂}
-use mathlib.Core.Bool.{Bool, true, false}
+use native.Mathlib.Nat.{add-zero, zero-add}
+use mathlib.Core.Path.{_≡_, refl, _∙_, ap}
 use mathlib.Core.List.{List, [], _∷_, _++_, map, map-append}
 use mathlib.Core.Logic.{_≢_}
 use lib.ListN.{length, set, drop, length-append, length-set}
 use lib.Seq.{sets, sets-eq, length-sets}
-use Rattle.table.specs.Layout.{words as table-words, vertices, darts, isolated, edgeOf, edgeWord, vertexWord}
+use Rattle.table.specs.Layout.{vertices, darts, isolated, vertexWord}
 use Rattle.table.specs.Good.{Good}
-use Rattle.table.specs.Rotation.{Rotation, rotation, live?, alone?, alone-yes, alone-word}
+use Rattle.table.specs.Rotation.{Rotation, rotation, alone?, alone-yes, alone-word}
 use Rattle.table.specs.Lawful.{good-lawful}
-use Rattle.orbits.specs.Truth.{truth, holds, fails, false-unless}
-use Rattle.orbits.specs.Iterate.{iter, Period}
+use Rattle.orbits.specs.Truth.{false-unless}
 use Rattle.tracing.specs.declared.count.Size.{Size}
 use Rattle.tracing.specs.Step.{step}
 use Rattle.tracing.specs.Walk.{walk, run, run-suc, run-length, walk-run, walk-period, walk-period-le}

@@ -1,5 +1,7 @@
 // Tracing a good table: steps, walks, faces, the face count and the listing.
+pub mod call;
+pub mod corner;
 pub mod count;
 pub mod listing;
-pub mod step;
 pub mod meeting;
+pub mod step;

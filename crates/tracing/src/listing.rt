@@ -1,4 +1,5 @@
 // The listing, written to a lent slice that is long enough.
+use crate::corner::LONE;
 use crate::count::look;
 use crate::count::measure;
 use crate::step::step;
@@ -66,7 +67,7 @@ fn write_lone(t: &[u16], out: &mut [u16], at: usize, v: usize) -> usize
         return at;
     }
     out[at] = 0;
-    out[at + 1] = 32768 + (v as u16);
+    out[at + 1] = LONE + (v as u16);
     at + 2
 }
 

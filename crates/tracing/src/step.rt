@@ -2,7 +2,6 @@
 use table::layout::EDGE;
 use table::layout::PREV;
 ghost use mathlib.Core.Path.{_≡_};
-ghost use Prim.Native.Nat.{_<_};
 ghost use Rattle.table.specs.Rotation.{rotation};
 ghost use Rattle.tracing.specs.Step.{around, step as stepOf, corner as cornerOf, mirror as mirrorOf};
 ghost use Rattle.tracing.specs.Stands.{Stands, LiveDart};
@@ -12,10 +11,12 @@ fn around(t: &[u16], k: u16, d: usize) -> u16
     requires { ⌜ LiveDart (now t) d ⌝ }
     ensures { λ r. ⌜ r ≡ around (rotation (now (t .entry))) k d ⌝ }
 {
+    let next = t[d];
+    let prev = t[PREV + d];
     if k == 0 {
-        return t[d] * 2;
+        return next * 2;
     }
-    t[PREV + d] * 2 + 1
+    prev * 2 + 1
 }
 
 // The step after s.

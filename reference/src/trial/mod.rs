@@ -1,6 +1,7 @@
-//! Tables, edits and damage made from a seed, for tests that compare or that try a claim on many inputs.
+//! Tables, edits, damage and job files made from a seed, for tests that compare or that try a claim on many inputs.
 
 pub mod damage;
 pub mod edits;
+pub mod jobs;
 pub mod random;
 pub mod tables;

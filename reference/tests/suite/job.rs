@@ -1,6 +1,12 @@
 //! The job program.
 
+use reference::counts::counts;
 use reference::job::job;
+use reference::run::run;
+use reference::table::empty_mesh;
+use reference::trial::jobs::{random_edits, random_job, record};
+use reference::trial::random::Random;
+use reference::weave::plain;
 
 fn bytes(hex: &str) -> Vec<u8> {
     hex.split_whitespace().map(|b| u8::from_str_radix(b, 16).unwrap()).collect()
@@ -75,4 +81,41 @@ fn parts_come_upward_and_isolated_vertices_last_among_the_walks() {
     let output = "mesh 3 1 3 3 5\npart 1 2 o\npart 4 2 o\npart 9 1 n\n\
                   walk 0 2 14/0:OUO 14/1:UOU\nwalk 1 0 *1\nwalk 2 0 *4\nweave plain\n";
     assert_eq!(job(input), output);
+}
+
+/// A job of random edits prints what the calls answer on the table after the run.
+#[test]
+fn a_job_is_a_run() {
+    let mut random = Random::new(0x10b);
+    for _ in 0..150 {
+        let count = random.below(80);
+        let edits = random_edits(&mut random, count);
+        let mut table = empty_mesh();
+        let run = run(&mut table, &edits);
+        let mut lines = Vec::new();
+        for (i, answer) in run.answers.iter().enumerate() {
+            lines.extend(answer.err().map(|refusal| format!("no {} {}", i + 1, refusal.number())));
+        }
+        let c = counts(&table).unwrap();
+        lines.push(format!("mesh {} {} {} {} {}", c.vertices, c.edges, c.faces, c.parts.len(), c.euler()));
+        let output = job(&edits.into_iter().flat_map(record).collect::<Vec<u8>>());
+        let printed: Vec<&str> = output.lines().collect();
+        assert_eq!(printed[..lines.len()], lines);
+        assert_eq!(printed.len(), lines.len() + c.parts.len() + c.faces + 1);
+        let weave = if plain(&table).unwrap() { "weave plain" } else { "weave mixed" };
+        assert_eq!(printed.last(), Some(&weave));
+    }
+}
+
+/// Whatever bytes come in, the report stands at the end.
+#[test]
+fn any_bytes_are_answered() {
+    let mut random = Random::new(0x10c);
+    for _ in 0..300 {
+        let count = random.below(40);
+        let output = job(&random_job(&mut random, count));
+        assert!(output.contains("mesh ") && output.ends_with('\n'));
+        let noise: Vec<u8> = (0..random.below(30)).map(|_| random.word() as u8).collect();
+        assert!(job(&noise).contains("mesh "));
+    }
 }

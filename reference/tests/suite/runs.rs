@@ -67,9 +67,9 @@ fn every_clause_after_a_run() {
     assert!(accepted > 5_000 && declined > 1_000, "{accepted} accepted, {declined} declined");
 }
 
-/// "the listed walks meet every corner once and every live edge twice"
+/// The listed walks meet every corner once and every live edge twice.
 fn corners_once_and_edges_twice(table: &[u16]) {
-    let (mut corners, mut edges, mut around) = (vec![0; DARTS], vec![0; EDGES], vec![0; VERTICES]);
+    let (mut corners, mut sides, mut around) = (vec![0; DARTS], vec![0; EDGES], vec![0; VERTICES]);
     for walk in Faces::of(table).walks {
         match walk {
             Walk::Empty(v) => around[v as usize] += 1,
@@ -77,21 +77,17 @@ fn corners_once_and_edges_twice(table: &[u16]) {
                 assert!(steps.len() <= 2 * live_edges(table).count(), "twice as many steps as edges");
                 for s in steps {
                     corners[corner_met(table, s) as usize] += 1;
-                    edges[s.edge() as usize] += 1;
+                    sides[s.edge() as usize] += 1;
                 }
             }
         }
     }
     assert!(darts().all(|d| corners[d as usize] == i32::from(dart_is_live(table, d))));
-    assert!(edges_all(|e| edges[e as usize] == 2 * i32::from(edge_is_live(table, e))));
+    assert!(edges().all(|e| sides[e as usize] == 2 * i32::from(edge_is_live(table, e))));
     assert!(vertices().all(|v| around[v as usize] == i32::from(vertex_is_isolated(table, v))));
 }
 
-fn edges_all(holds: impl Fn(Edge) -> bool) -> bool {
-    edges().all(holds)
-}
-
-/// "V-E+F is at most 2", even if the part is orientable, at most 1 if not; and the parts add up to the mesh.
+/// V-E+F is at most 2, even if the part is orientable, at most 1 if not; and the parts add up to the mesh.
 fn euler_numbers(table: &[u16]) {
     let c = counts(table).unwrap();
     for part in &c.parts {

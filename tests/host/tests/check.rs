@@ -3,7 +3,7 @@
 
 use host::guarded::Guarded;
 use host::planner;
-use reference::check::is_good;
+use reference::check::{check, is_good};
 use reference::edit::edit;
 use reference::table::{empty_mesh, EDGES, LEAVES, NEXT, PREVIOUS, TURNS, VERTEX, VERTICES, WORDS};
 use reference::trial::damage::damage;
@@ -23,12 +23,11 @@ struct Seen {
 impl Seen {
     /// Compare the two verdicts on a slice.
     fn compare(&mut self, table: &[u16]) {
-        let good = is_good(table);
-        assert_eq!(planner::check(table), if good { 0 } else { -1 });
-        if good {
-            self.good += 1;
-        } else {
-            self.torn += 1;
+        let expected = check(table);
+        assert_eq!(planner::check(table), planner::as_number(expected.map(|()| 0)));
+        match expected {
+            Ok(()) => self.good += 1,
+            Err(_) => self.torn += 1,
         }
     }
 

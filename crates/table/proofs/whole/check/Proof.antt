@@ -1,62 +1,23 @@
-use Rattle.table.specs.Check.{check-good, check-torn}
-use Rattle.table.specs.Vertices.{counted-good, good-counted}
-use Rattle.table.specs.Counting.{counts-broken, counts-of}
-use Rattle.table.specs.Darts.{good-ruled}
-use mathlib.Core.Path.{_∙_, sym}
+use Rattle.table.specs.Check.{checkedAs}
+use mathlib.Core.Path.{sym, ap, _∙_}
 use borrow.Author.Needs.{needs}
 use Rattle.table.proofs.whole.check.Statement.{statement}
 use Rattle.table.proofs.whole.check.Tie as tie
+use Rattle.table.proofs.whole.check.Reads as reads
+use Rattle.table.proofs.whole.check.Lts as lts
+use Rattle.table.proofs.whole.is_good.Reads as is-good-reads
 
+-- src/whole.rt:32:8
+is-good-requires : tie.Need-is-good-requires
+is-good-requires c κs = search needs
+
+-- src/whole.rt:33:9
 returns : tie.Need-returns
-returns c = check-torn _ (λ g. c .if1 .taken (g .size))
+returns c = sym (ap checkedAs (sym (c .before .is-good .ensures) ∙ c .if1 .taken))
 
-live-darts-requires : tie.Need-live-darts-requires
-live-darts-requires c κs = search needs
-
-enum-known-live : tie.Need-enum-known-live
-enum-known-live c = search needs
-
-enum-told : tie.Need-enum-told
-enum-told c = search needs
-
+-- src/whole.rt:29:1
 returns-2 : tie.Need-returns-2
-returns-2 c = check-torn _ (λ g. counts-broken (c .before .before .live-darts .ensures) (c .enum-told .given .1) (good-ruled _ g))
-
-all-led-darts-requires : tie.Need-all-led-darts-requires
-all-led-darts-requires c κs = (c .before .before .before .before .if1 .left, counts-of _ (c .before .before .before .live-darts .ensures) (c .before .live .given .1) .1)
-
-enum-known-led : tie.Need-enum-known-led
-enum-known-led c = search needs
-
-enum-told-2 : tie.Need-enum-told-2
-enum-told-2 c = search needs
-
-returns-3 : tie.Need-returns-3
-returns-3 c = let r = counts-of _ (c .before .before .before .before .before .before .live-darts .ensures) (c .before .before .before .before .live .given .1) .1 in
-    check-torn _ (λ g. counts-broken (c .before .before .all-led-darts .ensures) (c .enum-told2 .given .1) (good-counted _ (c .before .before .before .before .before .before .before .if1 .left) r g .0))
-
-returns-4 : tie.Need-returns-4
-returns-4 c = let live = counts-of _ (c .before .before .before .before .before .before .before .before .live-darts .ensures) (c .before .before .before .before .before .before .live .given .1) in
-    let led = counts-of _ (c .before .before .before .before .all-led-darts .ensures) (c .before .before .led .given .1) in
-    check-torn _ (λ g. c .if2 .taken (led .0 ∙ good-counted _ (c .before .before .before .before .before .before .before .before .before .if1 .left) (live .1) g .1 ∙ sym (live .0)))
-
-returns-5 : tie.Need-returns-5
-returns-5 c = let live = counts-of _ (c .before .before .before .before .before .before .before .before .live-darts .ensures) (c .before .before .before .before .before .before .live .given .1) in
-    let led = counts-of _ (c .before .before .before .before .all-led-darts .ensures) (c .before .before .led .given .1) in
-    check-good _ (counted-good _ (c .before .before .before .before .before .before .before .before .before .if1 .left) (live .1) (led .1) (sym (led .0) ∙ c .if2 .left ∙ live .0))
+returns-2 c = sym (ap checkedAs (sym (c .before .is-good .ensures) ∙ c .if1 .left))
 
 pub check-spec : {M : Type 1} → statement M
-check-spec =
-    tie.close
-    (tie.spec
-    returns
-    live-darts-requires
-    enum-known-live
-    enum-told
-    returns-2
-    all-led-darts-requires
-    enum-known-led
-    enum-told-2
-    returns-3
-    returns-4
-    returns-5)
+check-spec = tie.close (tie.spec is-good-requires returns returns-2)

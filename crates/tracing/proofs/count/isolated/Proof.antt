@@ -6,8 +6,6 @@ use native.Mathlib.Omega.{arith}
 use Prim.Native.Nat.{_-_}
 use Rattle.tracing.proofs.count.isolated.Statement.{statement}
 use Rattle.tracing.proofs.count.isolated.Tie as tie
-use Rattle.tracing.proofs.count.isolated.Reads as reads
-use Rattle.tracing.proofs.count.isolated.Lts as lts
 
 abbrev Inv-loop : tie.InvT-loop
 Inv-loop t n₀ v₀ n v = Lone t v n

@@ -3,9 +3,6 @@ use Rattle.tracing.specs.Size.{looked-dead, looked-met, looked-walk, sta
 use borrow.Author.Needs.{needs}
 use Rattle.tracing.proofs.count.look.Statement.{statement}
 use Rattle.tracing.proofs.count.look.Tie as tie
-use Rattle.tracing.proofs.count.look.Reads as reads
-use Rattle.tracing.proofs.count.look.Lts as lts
-use Rattle.tracing.proofs.count.mark_walk.Reads as mark-walk-reads
 
 add-if1 : tie.Need-add-if1
 add-if1 c = search needs

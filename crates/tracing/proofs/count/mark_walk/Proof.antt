@@ -2,15 +2,10 @@
 -- It ends because a walk has fewer than 4,096 steps before it returns.
 use Rattle.tracing.specs.Size.{Marking, marking-none, marking-more, marking-all, marking-corner}
 use Rattle.tracing.specs.Along.{walking-few}
-use mathlib.Core.Path.{_≡_}
 use native.Mathlib.Omega.{arith}
 use Prim.Native.Nat.{_-_}
 use Rattle.tracing.proofs.count.mark_walk.Statement.{statement}
 use Rattle.tracing.proofs.count.mark_walk.Tie as tie
-use Rattle.tracing.proofs.count.mark_walk.Reads as reads
-use Rattle.tracing.proofs.count.mark_walk.Lts as lts
-use Rattle.tracing.proofs.step.corner.Reads as corner-reads
-use Rattle.tracing.proofs.step.step.Reads as step-reads
 
 abbrev Inv-loop : tie.InvT-loop
 Inv-loop t met₀ s at₀ n₀ met at n = Marking t s met₀ n at met

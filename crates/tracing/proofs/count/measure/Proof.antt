@@ -5,10 +5,6 @@ use native.Mathlib.Omega.{arith}
 use Prim.Native.Nat.{_-_}
 use Rattle.tracing.proofs.count.measure.Statement.{statement}
 use Rattle.tracing.proofs.count.measure.Tie as tie
-use Rattle.tracing.proofs.count.measure.Reads as reads
-use Rattle.tracing.proofs.count.measure.Lts as lts
-use Rattle.tracing.proofs.count.isolated.Reads as isolated-reads
-use Rattle.tracing.proofs.count.look.Reads as look-reads
 
 abbrev Inv-loop : tie.InvT-loop
 Inv-loop t met₀ walks₀ words₀ d₀ met walks words d = Counting t d walks words met

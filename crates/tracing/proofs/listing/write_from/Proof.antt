@@ -6,10 +6,6 @@ use lib.ListN.{length, length-set}
 use borrow.Author.Needs.{needs}
 use Rattle.tracing.proofs.listing.write_from.Statement.{statement}
 use Rattle.tracing.proofs.listing.write_from.Tie as tie
-use Rattle.tracing.proofs.listing.write_from.Reads as reads
-use Rattle.tracing.proofs.listing.write_from.Lts as lts
-use Rattle.tracing.proofs.count.look.Reads as look-reads
-use Rattle.tracing.proofs.listing.write_walk.Reads as write-walk-reads
 
 look-requires : tie.Need-look-requires
 look-requires c κs = search needs

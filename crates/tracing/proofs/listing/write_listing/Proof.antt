@@ -3,10 +3,6 @@ use Rattle.tracing.specs.Writing.{walks-room, lones-room, listed-parts}
 use borrow.Author.Needs.{needs}
 use Rattle.tracing.proofs.listing.write_listing.Statement.{statement}
 use Rattle.tracing.proofs.listing.write_listing.Tie as tie
-use Rattle.tracing.proofs.listing.write_listing.Reads as reads
-use Rattle.tracing.proofs.listing.write_listing.Lts as lts
-use Rattle.tracing.proofs.listing.write_lones.Reads as write-lones-reads
-use Rattle.tracing.proofs.listing.write_walks.Reads as write-walks-reads
 
 write-walks-requires : tie.Need-write-walks-requires
 write-walks-requires c κs = (c .before .before .before .pre .0, walks-room _ _ (c .before .before .before .pre .1))

@@ -5,8 +5,6 @@ use native.Mathlib.Omega.{arith}
 use borrow.Author.Needs.{needs}
 use Rattle.tracing.proofs.listing.write_lone.Statement.{statement}
 use Rattle.tracing.proofs.listing.write_lone.Tie as tie
-use Rattle.tracing.proofs.listing.write_lone.Reads as reads
-use Rattle.tracing.proofs.listing.write_lone.Lts as lts
 
 add-if1 : tie.Need-add-if1
 add-if1 c = search needs

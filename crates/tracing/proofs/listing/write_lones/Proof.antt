@@ -5,9 +5,6 @@ use native.Mathlib.Omega.{arith}
 use Prim.Native.Nat.{_-_}
 use Rattle.tracing.proofs.listing.write_lones.Statement.{statement}
 use Rattle.tracing.proofs.listing.write_lones.Tie as tie
-use Rattle.tracing.proofs.listing.write_lones.Reads as reads
-use Rattle.tracing.proofs.listing.write_lones.Lts as lts
-use Rattle.tracing.proofs.listing.write_lone.Reads as write-lone-reads
 
 abbrev Inv-loop : tie.InvT-loop
 Inv-loop t out₀ start at₀ v₀ out at v = Ending t v start at out₀ out

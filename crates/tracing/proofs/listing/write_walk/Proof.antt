@@ -1,15 +1,11 @@
 -- `listing::write_walk` meets its contract. The invariant: the walk is under way, and its steps so far are written.
 use Rattle.tracing.specs.Writing.{Stepping, stepping-none, stepping-within, stepping-more, stepping-all}
 use Rattle.tracing.specs.Along.{walking-few}
-use mathlib.Core.Path.{_∙_}
 use lib.ListN.{length-set}
 use native.Mathlib.Omega.{arith}
 use Prim.Native.Nat.{_-_}
 use Rattle.tracing.proofs.listing.write_walk.Statement.{statement}
 use Rattle.tracing.proofs.listing.write_walk.Tie as tie
-use Rattle.tracing.proofs.listing.write_walk.Reads as reads
-use Rattle.tracing.proofs.listing.write_walk.Lts as lts
-use Rattle.tracing.proofs.step.step.Reads as step-reads
 
 abbrev Inv-loop : tie.InvT-loop
 Inv-loop t out₀ start s at₀ n₀ out at n = Stepping t s start out₀ n at out

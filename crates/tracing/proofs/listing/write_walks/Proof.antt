@@ -5,9 +5,6 @@ use native.Mathlib.Omega.{arith}
 use Prim.Native.Nat.{_-_}
 use Rattle.tracing.proofs.listing.write_walks.Statement.{statement}
 use Rattle.tracing.proofs.listing.write_walks.Tie as tie
-use Rattle.tracing.proofs.listing.write_walks.Reads as reads
-use Rattle.tracing.proofs.listing.write_walks.Lts as lts
-use Rattle.tracing.proofs.listing.write_from.Reads as write-from-reads
 
 abbrev Inv-loop : tie.InvT-loop
 Inv-loop t out₀ met₀ at₀ d₀ out met at d = Writing t d at met out₀ out

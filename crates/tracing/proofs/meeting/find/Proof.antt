@@ -2,9 +2,6 @@
 use Rattle.tracing.specs.Search.{Searching, left, searching-none, searching-more, searching-less, found-first, found-second, found-neither}
 use Rattle.tracing.proofs.meeting.find.Statement.{statement}
 use Rattle.tracing.proofs.meeting.find.Tie as tie
-use Rattle.tracing.proofs.meeting.find.Reads as reads
-use Rattle.tracing.proofs.meeting.find.Lts as lts
-use Rattle.tracing.proofs.step.step.Reads as step-reads
 
 abbrev Inv-loop : tie.InvT-loop
 Inv-loop t s p q at₀ at = Searching t s p q at

@@ -7,8 +7,6 @@ use native.Mathlib.Omega.{arith}
 use borrow.Author.Needs.{needs}
 use Rattle.tracing.proofs.step.corner.Statement.{statement}
 use Rattle.tracing.proofs.step.corner.Tie as tie
-use Rattle.tracing.proofs.step.corner.Reads as reads
-use Rattle.tracing.proofs.step.corner.Lts as lts
 
 cast-d : tie.Need-cast-d
 cast-d c = search needs

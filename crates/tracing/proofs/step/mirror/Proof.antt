@@ -3,9 +3,6 @@ use Rattle.tracing.specs.Step.{mirror}
 use borrow.Author.Needs.{needs}
 use Rattle.tracing.proofs.step.mirror.Statement.{statement}
 use Rattle.tracing.proofs.step.mirror.Tie as tie
-use Rattle.tracing.proofs.step.mirror.Reads as reads
-use Rattle.tracing.proofs.step.mirror.Lts as lts
-use Rattle.tracing.proofs.step.around.Reads as around-reads
 
 sub-around : tie.Need-sub-around
 sub-around c = search needs

@@ -6,9 +6,6 @@ use native.Mathlib.Omega.{arith}
 use borrow.Author.Needs.{needs}
 use Rattle.tracing.proofs.step.step.Statement.{statement}
 use Rattle.tracing.proofs.step.step.Tie as tie
-use Rattle.tracing.proofs.step.step.Reads as reads
-use Rattle.tracing.proofs.step.step.Lts as lts
-use Rattle.tracing.proofs.step.around.Reads as around-reads
 
 cast-d : tie.Need-cast-d
 cast-d c = search needs

@@ -1,0 +1,14 @@
+pub mod Turns
+pub mod Verdicts
+pub mod Held
+pub mod Splice
+pub mod Link
+pub mod Unlink
+pub mod Edge
+pub mod Ready
+pub mod Deleted
+pub mod Inserted
+pub mod RoundTrip
+pub mod Edits
+pub mod Passed
+pub mod Changes

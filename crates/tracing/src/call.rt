@@ -1,0 +1,24 @@
+// The call for the listing: it checks the table and measures before it writes.
+use crate::count::measure;
+use crate::listing::write_listing;
+use table::answer::Answer;
+use table::answer::Refusal;
+use table::whole::check;
+ghost use mathlib.Core.Path.{_≡_};
+ghost use lib.ListN.{length};
+ghost use Rattle.tracing.specs.Call.{listAnswer, listOut};
+
+// Writes the listing to the front of `out`, and answers its number of words.
+pub fn list(t: &[u16], out: &mut [u16]) -> Answer
+    ensures { λ r. ⌜ (r ≡ listAnswer (now (t .entry)) (length (now (out .entry)))) × (now (out .exit) ≡ listOut (now (t .entry)) (now (out .entry))) ⌝ }
+{
+    let Answer::Done(_) = check(t) else {
+        return Answer::Declined(Refusal::Torn);
+    };
+    let n = measure(t).words;
+    if out.len() < n {
+        return Answer::Declined(Refusal::ShortSlice);
+    }
+    write_listing(t, out);
+    Answer::Done(n as u32)
+}

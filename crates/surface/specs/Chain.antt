@@ -13,6 +13,7 @@ use Rattle.table.specs.Layout.{rev}
 use Rattle.table.specs.Rotation.{Rotation, Lawful}
 use Rattle.table.specs.Lawful.{rev-rev}
 use Rattle.orbits.specs.Truth.{same-truth}
+use Rattle.surgery.specs.PlacesIn.{Kept}
 use Rattle.tracing.specs.Step.{type?, is-zero, is-one}
 
 -- "a chain of live edges joins them"; with no edge in it, a chain joins a vertex with itself: "an isolated vertex is a part alone"
@@ -39,10 +40,7 @@ chain-back {R} L d l = rw (rev-rev d) at (chain-edge R (rev d) (L .live-rev d �
 pub chain-sym : {R : Rotation} {u v : ℕ} → Lawful R → Chain R u v → Chain R v u
 chain-sym {R} {u} {v} L c = chain-ind R u (λ w. Chain R w u) here (λ d l m t. chain-trans (chain-back L d l) t) v c
 
--- a test that the ends of each live edge pass alike
-pub record Kept (R : Rotation) (Q : ℕ → Bool) : Type 0 where
-  pub edge : (d : ℕ) → R .live d ≡ true → Q (R .from (rev d)) ≡ Q (R .from d)
-
+-- a test that the ends of each live edge pass alike is the same on a whole part
 pub chain-kept : {R : Rotation} {Q : ℕ → Bool} {u v : ℕ} → Kept R Q → Chain R u v → Q v ≡ Q u
 chain-kept {R} {Q} {u} {v} K c = chain-ind R u (λ w. Q w ≡ Q u) refl (λ d l m t. K .edge d l ∙ t) v c
 

@@ -11,8 +11,9 @@ use Rattle.orbits.specs.Count.{count}
 use Rattle.orbits.specs.Faces.{faces}
 use Rattle.tracing.specs.Place.{places, trace, flip}
 use Rattle.tracing.specs.FaceCount.{facesIn, faces-part}
-use Rattle.surface.specs.Chain.{Kept, Orientable}
-use Rattle.surface.specs.Places.{placesIn, placesIn-part}
+use Rattle.surgery.specs.PlacesIn.{Kept}
+use Rattle.surface.specs.Chain.{Orientable}
+use Rattle.surgery.specs.PlacesIn.{placesIn, placesIn-part}
 
 -- "V, E, F are live vertices, live edges, listed walks"; F is tracing's `faceCount`
 unfoldable pub vertexCount : Rotation → ℕ
@@ -33,11 +34,11 @@ edgesIn R Q = count (λ e. R .live (2 * e) && Q (R .from (2 * e))) edges
 unfoldable pub walksIn : Rotation → (ℕ → Bool) → ℕ
 walksIn R Q = facesIn R (placesIn R Q)
 
-unfoldable pub facesAt : Rotation → (ℕ → Bool) → ℕ
+abbrev pub facesAt : Rotation → (ℕ → Bool) → ℕ
 facesAt R Q = faces (trace R) (flip R) places (placesIn R Q)
 
 pub walks-faces : {R : Rotation} {Q : ℕ → Bool} → Lawful R → Kept R Q → walksIn R Q ≡ facesAt R Q
-unfolding walksIn facesAt
+unfolding walksIn
 walks-faces {R} {Q} L K = faces-part R L (placesIn R Q) (placesIn-part L K)
 
 -- V-E+F is at most 2, even if the part is orientable, and at most 1 if not; here with F the number of faces

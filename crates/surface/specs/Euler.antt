@@ -11,11 +11,12 @@ use Rattle.table.specs.Rotation.{Rotation, Lawful}
 use Rattle.orbits.specs.Truth.{truth, holds, fails, clash, false-unless}
 use Rattle.orbits.specs.Count.{none-counted, count-find}
 use Rattle.tracing.specs.Place.{on}
+use Rattle.surgery.specs.Without.{Without}
 use Rattle.surface.specs.Chain.{here, PartOf, part-kept}
 use Rattle.surface.specs.Links.{live-edge, live-edge-low}
 use Rattle.surface.specs.Labels.{chain-dec}
 use Rattle.surface.specs.Counts.{edgeCount, facesAt, walksIn, walks-faces, EulerLaws}
-use Rattle.surface.specs.EdgeIn.{EdgeIn, edge-fewer}
+use Rattle.surface.specs.WithEdge.{edge-fewer}
 use Rattle.surface.specs.NoEdges.{bare-laws}
 use Rattle.surface.specs.Inside.{away-part, away-laws, inside-part, inside-laws}
 use Rattle.surface.specs.Joint.{first-part, second-part, joint-laws}
@@ -23,7 +24,7 @@ use Rattle.surface.specs.Joint.{first-part, second-part, joint-laws}
 -- a class of lawful rotation systems in which any edge can be taken out
 pub record Closed (C : Rotation → Type 0) : Type 0 where
   pub lawful : (R : Rotation) → C R → Lawful R
-  pub without : (R : Rotation) → C R → (e : ℕ) → R .live (2 * e) ≡ true → (R′ : Rotation) × C R′ × EdgeIn R R′ e
+  pub without : (R : Rotation) → C R → (e : ℕ) → R .live (2 * e) ≡ true → (R′ : Rotation) × C R′ × Without R e R′
 
 -- the laws hold for each part
 AllParts : Rotation → Type 0
@@ -35,7 +36,7 @@ no-edges {R} L n r t Q P = bare-laws L (λ d. false-unless (R .live d) (λ l.
     let on : R .live (2 * (d / 2)) ≡ true = live-edge L d ∙ l in
     clash on (none-counted (λ e. R .live (2 * e)) edges n (d / 2) (live-edge-low L (d / 2) on)))) t P
 
-one-edge : {R R′ : Rotation} {e : ℕ} → Lawful R → Lawful R′ → EdgeIn R R′ e → AllParts R′ → AllParts R
+one-edge : {R R′ : Rotation} {e : ℕ} → Lawful R → Lawful R′ → Without R e R′ → AllParts R′ → AllParts R
 unfolding AllParts
 one-edge {R} {R′} {e} L L′ W back r t Q P = elim (truth (Q (R .from (2 * e)))) [
   | fails q ↦ away-laws L L′ W P q (back r (W .there r ∙ t) Q (away-part L L′ W P q))

@@ -16,15 +16,23 @@ use Rattle.orbits.specs.Mirror.{mirror-world}
 use Rattle.orbits.specs.Faces.{Face, along, mirrored}
 use Rattle.tracing.specs.Place.{places, trace, flip, on}
 use Rattle.tracing.specs.Mirrored.{mirrored as tracing-mirror}
-use Rattle.surface.specs.Chain.{Chain, here, chain-ind, chain-trans, chain-sym, Kept, PartOf, part-kept, Orientable, MarksOn, orient-fits, fits-orient}
-use Rattle.surface.specs.Places.{placesIn, on-in, placesIn-part, colour, colour-reach, colour-flip}
+use Rattle.surgery.specs.PlacesIn.{Kept, without-kept}
+use Rattle.surgery.specs.Without.{Without}
+use Rattle.surgery.specs.Between.{Between, between}
+use Rattle.surface.specs.Chain.{Chain, here, chain-ind, chain-trans, chain-sym, PartOf, part-kept, Orientable, MarksOn, orient-fits, fits-orient}
+use Rattle.surgery.specs.PlacesIn.{placesIn, placesIn-part}
+use Rattle.surface.specs.Colour.{on-in, colour, colour-reach, colour-flip}
 use Rattle.surface.specs.Counts.{facesAt, EulerLaws}
-use Rattle.surface.specs.EdgeIn.{EdgeIn, out, home, other, edge-step, weaken, onward, kept-down, ends-kept, marks-down, marks-up, vertices-same, edges-one, edges-same}
+use Rattle.surface.specs.WithEdge.{out, home, other, edge-step, weaken, onward, ends-kept, marks-down, marks-up, vertices-same, edges-one, edges-same}
 
 -- one edge put in
-module _ {R R′ : Rotation} {e : ℕ} (L : Lawful R) (L′ : Lawful R′) (W : EdgeIn R R′ e) {r : ℕ} {Q : ℕ → Bool} (P : PartOf R r Q) where
+module _ {R R′ : Rotation} {e : ℕ} (L : Lawful R) (L′ : Lawful R′) (W : Without R e R′) {r : ℕ} {Q : ℕ → Bool} (P : PartOf R r Q) where
   K : Kept R Q
   K = part-kept L P
+
+  -- the places at its ends where it goes in
+  ends : Between R e R′
+  ends = between L L′ W
 
   orient-down : Orientable R Q → Orientable R′ Q
   orient-down o = fits-orient (marks-down L L′ W (orient-fits o))
@@ -48,7 +56,7 @@ module _ {R R′ : Rotation} {e : ℕ} (L : Lawful R) (L′ : Lawful R′) (W : 
     away-laws H =
         let v = vertices-same L L′ W Q in
         let n = edges-same L L′ W Q away in
-        let f = W .away Q K away in
+        let f = ends .away Q K away in
         record {
           bound = let b = H .bound in omega arith;
           even = λ o. let b = H .even (orient-down o) in omega arith;
@@ -73,37 +81,37 @@ module _ {R R′ : Rotation} {e : ℕ} (L : Lawful R) (L′ : Lawful R′) (W : 
         ]
 
     K′ : Kept R′ Q
-    K′ = kept-down L L′ W K
+    K′ = without-kept L L′ W K
 
-    first-in : On places (placesIn R′ Q) (W .first)
-    first-in = record { lt = W .first-on .lt; on = on-in R′ Q (W .first) (W .first-on .on) (rw (W .first-at) mine) }
+    first-in : On places (placesIn R′ Q) (ends .first)
+    first-in = record { lt = ends .first-on .lt; on = on-in R′ Q (ends .first) (ends .first-on .on) (rw (ends .first-at) mine) }
 
     -- on one walk: the marks agree with the edge
-    split-marks : {m : ℕ → ℕ} → MarksOn R′ Q m → Reach (trace R′) (W .first) (W .second)
+    split-marks : {m : ℕ → ℕ} → MarksOn R′ Q m → Reach (trace R′) (ends .first) (ends .second)
         → (R .turns (2 * e) + m (R .from (2 * e)) + m (R .from (2 * e + 1))) % 2 ≡ 0
     unfolding colour
     split-marks {m} M s =
-        let same = rw (W .first-at, W .second-at) at (colour-reach L′ K′ M (W .first) (W .second) first-in s) in
-        let sum = W .sum in
+        let same = rw (ends .first-at, ends .second-at) at (colour-reach L′ K′ M (ends .first) (ends .second) first-in s) in
+        let sum = ends .sum in
         omega arith
 
     -- on mirror walks: they do not
-    cross-marks : {m : ℕ → ℕ} → MarksOn R′ Q m → Reach (trace R′) (W .first) (flip R′ (W .second))
+    cross-marks : {m : ℕ → ℕ} → MarksOn R′ Q m → Reach (trace R′) (ends .first) (flip R′ (ends .second))
         → (R .turns (2 * e) + m (R .from (2 * e)) + m (R .from (2 * e + 1))) % 2 ≡ 0 → ⊥
     unfolding colour
     cross-marks {m} M s fit =
-        let same = rw (W .first-at) at (colour-reach L′ K′ M (W .first) (flip R′ (W .second)) first-in s) in
-        let other = rw (W .second-at) at (colour-flip L′ m (W .second)) in
-        let sum = W .sum in
+        let same = rw (ends .first-at) at (colour-reach L′ K′ M (ends .first) (flip R′ (ends .second)) first-in s) in
+        let other = rw (ends .second-at) at (colour-flip L′ m (ends .second)) in
+        let sum = ends .sum in
         omega arith
 
     pub inside-laws : EulerLaws R′ Q (facesAt R′ Q) → EulerLaws R Q (facesAt R Q)
     inside-laws H =
         let v = vertices-same L L′ W Q in
         let n = edges-one L L′ W Q mine in
-        elim (reach-dec I (W .first) (W .second) (W .first-on .lt)) [
+        elim (reach-dec I (ends .first) (ends .second) (ends .first-on .lt)) [
           | yes s ↦
-              let f = W .splits Q K mine s in
+              let f = ends .splits Q K mine s in
               record {
                 bound = let b = H .bound in omega arith;
                 even = λ o. let b = H .even (orient-down o) in omega arith;
@@ -111,9 +119,9 @@ module _ {R R′ : Rotation} {e : ℕ} (L : Lawful R) (L′ : Lawful R′) (W : 
                     let b = H .less (λ o′. let M = orient-fits o′ in o (fits-orient (marks-up L L′ W K M (λ q. split-marks M s)))) in
                     omega arith;
               }
-          | no a ↦ elim (reach-dec I (W .first) (flip R′ (W .second)) (W .first-on .lt)) [
+          | no a ↦ elim (reach-dec I (ends .first) (flip R′ (ends .second)) (ends .first-on .lt)) [
             | yes s ↦
-                let f = W .crosses Q K mine s in
+                let f = ends .crosses Q K mine s in
                 let b = H .bound in
                 record {
                   bound = omega arith;
@@ -121,7 +129,7 @@ module _ {R R′ : Rotation} {e : ℕ} (L : Lawful R) (L′ : Lawful R′) (W : 
                   less = λ o. omega arith;
                 }
             | no b ↦
-                let f = W .joins Q K mine (λ t. two-faces a b t) in
+                let f = ends .joins Q K mine (λ t. two-faces a b t) in
                 let c = H .bound in
                 record { bound = omega arith; even = λ o. let p = H .even (orient-down o) in omega arith; less = λ o. omega arith }
           ]
@@ -130,7 +138,7 @@ module _ {R R′ : Rotation} {e : ℕ} (L : Lawful R) (L′ : Lawful R′) (W : 
         I : Rattle.orbits.specs.Iterate.Inj places (trace R′)
         I = mirror-world (tracing-mirror R′ L′ (placesIn R′ Q) (placesIn-part L′ K′)) .perm
 
-        two-faces : ¬ Reach (trace R′) (W .first) (W .second) → ¬ Reach (trace R′) (W .first) (flip R′ (W .second)) → Face (trace R′) (flip R′) (W .first) (W .second) → ⊥
+        two-faces : ¬ Reach (trace R′) (ends .first) (ends .second) → ¬ Reach (trace R′) (ends .first) (flip R′ (ends .second)) → Face (trace R′) (flip R′) (ends .first) (ends .second) → ⊥
         two-faces n k (along s) = n s
         two-faces n k (mirrored s) = k s
 

@@ -15,14 +15,18 @@ use Rattle.orbits.specs.Count.{count, count-split}
 use Rattle.orbits.specs.Faces.{Face, faces-split, face-keeps}
 use Rattle.tracing.specs.Place.{places, trace, flip, on}
 use Rattle.tracing.specs.Mirrored.{mirrored as tracing-mirror}
-use Rattle.surface.specs.Chain.{Chain, here, chain-ind, chain-trans, chain-sym, Kept, PartOf, part-kept, Orientable, MarksOn, orient-fits, fits-orient}
+use Rattle.surgery.specs.PlacesIn.{Kept}
+use Rattle.surgery.specs.Without.{Without}
+use Rattle.surgery.specs.Between.{Between, between}
+use Rattle.surface.specs.Chain.{Chain, here, chain-ind, chain-trans, chain-sym, PartOf, part-kept, Orientable, MarksOn, orient-fits, fits-orient}
 use Rattle.surface.specs.Labels.{label, inPart, inPart-at}
-use Rattle.surface.specs.Places.{vertexAt, placesIn, in-vertex, on-in, placesIn-part}
+use Rattle.surgery.specs.PlacesIn.{vertexAt, placesIn, placesIn-part}
+use Rattle.surface.specs.Colour.{in-vertex, on-in}
 use Rattle.surface.specs.Counts.{verticesIn, edgesIn, facesAt, EulerLaws}
-use Rattle.surface.specs.EdgeIn.{EdgeIn, EdgeStep, out, home, other, edge-step, weaken, onward, ends-kept, marks-down, marks-up, vertices-same, edges-one}
+use Rattle.surface.specs.WithEdge.{EdgeStep, out, home, other, edge-step, weaken, onward, ends-kept, marks-down, marks-up, vertices-same, edges-one}
 
 -- one edge put in, whose ends were not joined
-module _ {R R′ : Rotation} {e : ℕ} (L : Lawful R) (L′ : Lawful R′) (W : EdgeIn R R′ e) {r : ℕ} {Q : ℕ → Bool} (P : PartOf R r Q)
+module _ {R R′ : Rotation} {e : ℕ} (L : Lawful R) (L′ : Lawful R′) (W : Without R e R′) {r : ℕ} {Q : ℕ → Bool} (P : PartOf R r Q)
     (mine : Q (R .from (2 * e)) ≡ true) (cut : ¬ Chain R′ (R .from (2 * e)) (R .from (2 * e + 1))) where
   abbrev A : ℕ → Bool
   A = inPart R′ (label R′ (R .from (2 * e)))
@@ -32,6 +36,10 @@ module _ {R R′ : Rotation} {e : ℕ} (L : Lawful R) (L′ : Lawful R′) (W : 
 
   K : Kept R Q
   K = part-kept L P
+
+  -- the places at its ends where it goes in
+  ends : Between R e R′
+  ends = between L L′ W
 
   pub first-part : PartOf R′ (R .from (2 * e)) A
   first-part = inPart-at L′ (R .from (2 * e))
@@ -80,20 +88,20 @@ module _ {R R′ : Rotation} {e : ℕ} (L : Lawful R) (L′ : Lawful R′) (W : 
       (λ i h s t. both-parts (x i) (both-right (b i) _ s) (both-right (b i) _ t))
 
   faces-two : facesAt R′ Q ≡ facesAt R′ A + facesAt R′ B
-  unfolding facesAt placesIn
+  unfolding placesIn
   faces-two =
       faces-split (trace R′) (flip R′) places (placesIn R′ Q) (placesIn R′ A) (placesIn R′ B)
       (λ i h. rw (two-parts (vertexAt R′ i)) (and-or-distrib-left (on R′ i) (A (vertexAt R′ i)) (B (vertexAt R′ i))))
       (λ i h s t. both-parts (vertexAt R′ i) (both-right (on R′ i) _ s) (both-right (on R′ i) _ t))
 
   -- a face stays in its part
-  two-walks : ¬ Face (trace R′) (flip R′) (W .first) (W .second)
+  two-walks : ¬ Face (trace R′) (flip R′) (ends .first) (ends .second)
   two-walks f =
       let E = tracing-mirror R′ L′ (placesIn R′ A) (placesIn-part L′ KA) in
-      let first-in : placesIn R′ A (W .first) ≡ true =
-      on-in R′ A (W .first) (W .first-on .on) (rw (W .first-at) (first-part .all (R .from (2 * e)) here)) in
-      let second-in = face-keeps E .keep (W .first) (W .second) (W .first-on .lt) (W .second-on .lt) f first-in in
-      cut (first-part .joins (R .from (2 * e + 1)) (rw (W .second-at) at (in-vertex R′ A (W .second) second-in)))
+      let first-in : placesIn R′ A (ends .first) ≡ true =
+      on-in R′ A (ends .first) (ends .first-on .on) (rw (ends .first-at) (first-part .all (R .from (2 * e)) here)) in
+      let second-in = face-keeps E .keep (ends .first) (ends .second) (ends .first-on .lt) (ends .second-on .lt) f first-in in
+      cut (first-part .joins (R .from (2 * e + 1)) (rw (ends .second-at) at (in-vertex R′ A (ends .second) second-in)))
 
   -- marks of the two parts, those of the second shifted so that they agree with the edge
   module _ (a : Orientable R′ A) (b : Orientable R′ B) where
@@ -158,7 +166,7 @@ module _ {R R′ : Rotation} {e : ℕ} (L : Lawful R) (L′ : Lawful R′) (W : 
   joint-laws HA HB =
       let v = vertices-two in
       let n = edges-two in
-      let f = sym (W .joins Q K mine two-walks) ∙ faces-two in
+      let f = sym (ends .joins Q K mine two-walks) ∙ faces-two in
       let x = HA .bound in
       let y = HB .bound in
       record {

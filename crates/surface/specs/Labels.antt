@@ -18,7 +18,8 @@ use Rattle.table.specs.Layout.{edges, rev}
 use Rattle.table.specs.Rotation.{Rotation, Lawful}
 use Rattle.orbits.specs.Truth.{truth, holds, fails, clash, both, both-left, both-right, same-truth, false-unless}
 use Rattle.orbits.specs.Count.{count, none-counted, count-none}
-use Rattle.surface.specs.Chain.{Chain, chain-ind, chain-trans, chain-sym, Kept, PartOf, Orientable, MarksOn, orient-fits, fits-orient}
+use Rattle.surgery.specs.PlacesIn.{Kept}
+use Rattle.surface.specs.Chain.{Chain, chain-ind, chain-trans, chain-sym, PartOf, Orientable, MarksOn, orient-fits, fits-orient}
 use Rattle.surface.specs.Links.{Spot, spot, links, liveEdges, FitsAt, Labelling, links-label, live-edge, live-edge-low, edge-fits, edge-kept}
 
 -- is the vertex labelled r

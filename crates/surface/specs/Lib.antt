@@ -3,9 +3,9 @@
 pub mod Chain
 pub mod Links
 pub mod Labels
-pub mod Places
+pub mod Colour
 pub mod Counts
-pub mod EdgeIn
+pub mod WithEdge
 mod NoEdges
 mod Inside
 mod Joint

@@ -19,7 +19,8 @@ use Rattle.tracing.specs.Listing.{has, has-here, only}
 use Rattle.tracing.specs.Has.{has-empty, has-cons, here, later, has-tail, has-head, has-parts, has-left, has-right, left, right}
 use Rattle.orbits.specs.Truth.{Truth, truth, holds, fails}
 use Rattle.tracing.specs.Step.{type?, is-zero, is-one}
-use Rattle.surface.specs.Chain.{Chain, chain-trans, chain-sym, chain-edge, Fits, Kept}
+use Rattle.surgery.specs.PlacesIn.{Kept}
+use Rattle.surface.specs.Chain.{Chain, chain-trans, chain-sym, chain-edge, Fits}
 
 -- the vertices labelled `high` get the label `low`, and `shift` is added to their marks
 pub record Link : Type 0 where

@@ -15,7 +15,8 @@ use Rattle.tracing.specs.Place.{places, trace, flip, on, place, is-step, is-sti
 use Rattle.tracing.specs.Has.{count-single}
 use Rattle.tracing.specs.Mirrored.{mirrored as tracing-mirror}
 use Rattle.surface.specs.Chain.{here, chain-ind, PartOf, part-kept, Orientable, fits-orient}
-use Rattle.surface.specs.Places.{vertex-still, placesIn, in-on, in-vertex, on-in, placesIn-part}
+use Rattle.surgery.specs.PlacesIn.{vertex-still, placesIn, placesIn-part, part-within}
+use Rattle.surface.specs.Colour.{in-vertex, on-in}
 use Rattle.surface.specs.Counts.{verticesIn, edgesIn, facesAt, EulerLaws}
 
 -- no edges: the part is one vertex, which is isolated, and has one face
@@ -41,7 +42,7 @@ module _ {R : Rotation} (L : Lawful R) (bare : (d : ℕ) → R .live d ≡ false
 
   root-face : (i : ℕ) → i < places → placesIn R Q i ≡ true → Face (trace R) (flip R) i (steps + 2 * r)
   root-face i h p = elim (place i) [
-    | is-step l ↦ absurd (clash (sym (on-step R i l) ∙ in-on R Q i p) (bare (i / 2)))
+    | is-step l ↦ absurd (clash (sym (on-step R i l) ∙ part-within R Q i p) (bare (i / 2)))
     | is-still l ↦
         let v : (i - steps) / 2 ≡ r = alone-part _ (rw (vertex-still R i l) at (in-vertex R Q i p)) in
         elim (ℕ-discrete i (steps + 2 * r)) [
@@ -53,7 +54,7 @@ module _ {R : Rotation} (L : Lawful R) (bare : (d : ℕ) → R .live d ≡ false
   ]
 
   one-face : facesAt R Q ≡ 1
-  unfolding facesAt count
+  unfolding count
   one-face =
       let low = L .there-low r t in
       let half : (steps + 2 * r - steps) / 2 ≡ r = omega arith in

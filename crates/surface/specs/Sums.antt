@@ -23,8 +23,8 @@ use Rattle.tracing.specs.Has.{here}
 use Rattle.tracing.specs.FaceCount.{face-count}
 use Rattle.surface.specs.Chain.{Chain, chain-ind, chain-sym}
 use Rattle.surface.specs.Labels.{label, inPart, label-joined, label-smallest, same-label, inPart-kept}
-use Rattle.surface.specs.Places.{vertexAt, vertex-step, vertex-still, placesIn}
-use Rattle.surface.specs.Counts.{vertexCount, edgeCount, verticesIn, edgesIn, walksIn, facesAt, walks-faces}
+use Rattle.surgery.specs.PlacesIn.{vertexAt, vertex-step, vertex-still, placesIn}
+use Rattle.surface.specs.Counts.{vertexCount, edgeCount, verticesIn, edgesIn, walksIn, walks-faces}
 
 -- is r a live vertex and the smallest of its part
 unfoldable pub root? : Rotation → ℕ → Bool
@@ -140,7 +140,7 @@ module _ {R : Rotation} (L : Lawful R) where
   ]
 
   pub faces-sum : faceCount R ≡ total (λ r. walksIn R (inPart R r)) (parts R)
-  unfolding facesAt placesIn
+  unfolding placesIn
   faces-sum =
       face-count R L
       ∙ additive (λ p. faces (trace R) (flip R) places p) places (λ p q. faces-live (trace R) (flip R) places p q)

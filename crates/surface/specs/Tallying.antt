@@ -14,7 +14,7 @@ use Rattle.table.specs.Layout.{vertices, edges, darts, leaves, edgeWord, vertex
 use Rattle.table.specs.Good.{Good}
 use Rattle.table.specs.Rotation.{rotation, there?, alone?, live?, there-yes, there-word, alone-yes, alone-word, live-yes, turnsOf}
 use Rattle.table.specs.Lawful.{good-lawful}
-use Rattle.orbits.specs.Truth.{Truth, truth, holds, fails, clash, both, both-right, false-unless, true-unless}
+use Rattle.orbits.specs.Truth.{Truth, truth, holds, fails, clash, both, both-right, false-unless}
 use Rattle.orbits.specs.Count.{count, count-same, count-le}
 use Rattle.tracing.specs.declared.count.Size.{Size}
 use Rattle.tracing.specs.Step.{steps}
@@ -25,7 +25,7 @@ use Rattle.tracing.specs.FaceCount.{start?, start-live, starts-more, starts-cou
 use Rattle.tracing.specs.Size.{Looked, Seen, seen-none, seen-more, unmet-fresh}
 use Rattle.tracing.specs.Marks.{unmarked}
 use Rattle.surface.specs.Labels.{label, label-is, inPart, agrees, untwisted, twisted, orientable, orientable-is}
-use Rattle.surface.specs.Places.{vertexAt, vertex-step, vertex-still, placesIn}
+use Rattle.surgery.specs.PlacesIn.{vertexAt, vertex-step, vertex-still, placesIn}
 use Rattle.surface.specs.Counts.{verticesIn, edgesIn, walksIn}
 use Rattle.surface.specs.Forest.{Shape}
 use Rattle.surface.specs.Linking.{Labelled, Taking, first-low, second-low, edge-on}
@@ -166,7 +166,10 @@ module _ {t up : List ℕ} {n : ℕ} {met fs : List ℕ} (K : Dartwise t up n me
 
   module _ (z : r .walks ≢ 0) where
     starts-here : start? (rotation t) n ≡ true
-    starts-here = true-unless (start? (rotation t) n) (λ s. z (walks-start ∙ rw s))
+    starts-here = elim (truth (start? (rotation t) n)) [
+      | holds s ↦ s
+      | fails s ↦ absurd (z (walks-start ∙ rw s))
+    ]
 
     pub start-low : leaves t n < vertices
     start-low = K .keyed .good .leaves-low n (live-yes t n (start-live (rotation t) n starts-here))

@@ -1,6 +1,4 @@
--- A rotation system R and the same without one of its edges, R′: what the induction over the edges asks of surgery, and what it does to
--- chains, marks and counts.
---     EdgeIn               the two side by side, with the change of the number of faces inside each part
+-- A rotation system R and the same without one of its edges, R′: what the edge does to chains, marks and counts.
 --     edge-step            a live dart is one of the edge's, or was there without it
 --     weaken               chains without the edge are chains with it
 --     marks-down, marks-up     marks of one and of the other
@@ -13,37 +11,13 @@ use mathlib.Core.Bool.{Bool, true, false, _&&_, and-false}
 use mathlib.Core.Logic.{_≢_}
 use Rattle.table.specs.Layout.{vertices, edges, rev, edgeOf}
 use Rattle.table.specs.Rotation.{Rotation, Lawful}
-use Rattle.orbits.specs.Truth.{Truth, truth, holds, fails, clash, both}
+use Rattle.orbits.specs.Truth.{Truth, truth, holds, fails, both}
 use Rattle.orbits.specs.Count.{count-same, count-one}
-use Rattle.orbits.specs.Reach.{Reach}
-use Rattle.orbits.specs.Orbits.{On}
-use Rattle.orbits.specs.Faces.{Face}
-use Rattle.tracing.specs.Place.{places, trace, flip, on}
-use Rattle.surface.specs.Chain.{Chain, here, along, chain-ind, Kept, Fits, MarksOn}
+use Rattle.surgery.specs.PlacesIn.{Kept}
+use Rattle.surgery.specs.Without.{Without, were, gone, kept}
+use Rattle.surface.specs.Chain.{Chain, here, along, chain-ind, Fits, MarksOn}
 use Rattle.surface.specs.Links.{live-edge-low}
-use Rattle.surface.specs.Places.{vertexAt}
-use Rattle.surface.specs.Counts.{edgeCount, verticesIn, edgesIn, facesAt}
-
-pub record EdgeIn (R R′ : Rotation) (e : ℕ) : Type 0 where
-  pub here : R .live (2 * e) ≡ true
-  pub gone : (d : ℕ) → edgeOf d ≡ e → R′ .live d ≡ false
-  pub kept : (d : ℕ) → edgeOf d ≢ e → R′ .live d ≡ R .live d
-  pub turns : (d : ℕ) → R′ .live d ≡ true → R′ .turns d % 2 ≡ R .turns d % 2
-  pub from : (d : ℕ) → R′ .live d ≡ true → R′ .from d ≡ R .from d
-  pub there : (v : ℕ) → R′ .there v ≡ R .there v
-  -- the places without the edge where its two darts go in, at its two ends, with types that add to an even number with its turns
-  pub first : ℕ
-  pub second : ℕ
-  pub first-on : On places (on R′) first
-  pub second-on : On places (on R′) second
-  pub first-at : vertexAt R′ first ≡ R .from (2 * e)
-  pub second-at : vertexAt R′ second ≡ R .from (2 * e + 1)
-  pub sum : (first + second + R .turns (2 * e)) % 2 ≡ 0
-  -- the faces of a part that the edge is not in, and of one that it is in: the places on two faces, on one walk, or on mirror walks
-  pub away : (Q : ℕ → Bool) → Kept R Q → Q (R .from (2 * e)) ≡ false → facesAt R Q ≡ facesAt R′ Q
-  pub joins : (Q : ℕ → Bool) → Kept R Q → Q (R .from (2 * e)) ≡ true → ¬ Face (trace R′) (flip R′) first second → facesAt R′ Q ≡ suc (facesAt R Q)
-  pub splits : (Q : ℕ → Bool) → Kept R Q → Q (R .from (2 * e)) ≡ true → Reach (trace R′) first second → facesAt R Q ≡ suc (facesAt R′ Q)
-  pub crosses : (Q : ℕ → Bool) → Kept R Q → Q (R .from (2 * e)) ≡ true → Reach (trace R′) first (flip R′ second) → facesAt R Q ≡ facesAt R′ Q
+use Rattle.surface.specs.Counts.{edgeCount, verticesIn, edgesIn}
 
 -- a live dart: the edge's first, its second, or another's
 pub data EdgeStep (R R′ : Rotation) (e d : ℕ) : Type 0 where
@@ -51,20 +25,14 @@ pub data EdgeStep (R R′ : Rotation) (e d : ℕ) : Type 0 where
   home : R .from d ≡ R .from (2 * e + 1) → R .from (rev d) ≡ R .from (2 * e) → R .turns d ≡ R .turns (2 * e) → EdgeStep R R′ e d
   other : R′ .live d ≡ true → R′ .from d ≡ R .from d → R′ .from (rev d) ≡ R .from (rev d) → EdgeStep R R′ e d
 
-module _ {R R′ : Rotation} {e : ℕ} (L : Lawful R) (L′ : Lawful R′) (W : EdgeIn R R′ e) where
-  pub were : (d : ℕ) → R′ .live d ≡ true → R .live d ≡ true
-  were d l = elim (ℕ-discrete (edgeOf d) e) [
-    | yes q ↦ absurd (clash l (W .gone d q))
-    | no n ↦ sym (W .kept d n) ∙ l
-  ]
-
+module _ {R R′ : Rotation} {e : ℕ} (L : Lawful R) (L′ : Lawful R′) (W : Without R e R′) where
   from-rev : (d : ℕ) → R′ .live d ≡ true → R′ .from (rev d) ≡ R .from (rev d)
   from-rev d l = W .from (rev d) (L′ .live-rev d ∙ l)
 
   pub edge-step : (d : ℕ) → R .live d ≡ true → EdgeStep R R′ e d
   edge-step d l = elim (ℕ-discrete (edgeOf d) e) [
     | no n ↦
-        let l′ : R′ .live d ≡ true = W .kept d n ∙ l in
+        let l′ : R′ .live d ≡ true = kept L L′ W d n ∙ l in
         other l′ (W .from d l′) (from-rev d l′)
     | yes q ↦ elim (ℕ-discrete d (2 * e)) [
       | yes s ↦
@@ -78,16 +46,13 @@ module _ {R R′ : Rotation} {e : ℕ} (L : Lawful R) (L′ : Lawful R′) (W : 
   ]
 
   pub weaken : {a b : ℕ} → Chain R′ a b → Chain R a b
-  weaken {a} {b} c = chain-ind R′ a (Chain R a) Chain.here (λ d l k t. rw (from-rev d l) (along d (were d l) (rw (W .from d l) at t))) b c
+  weaken {a} {b} c = chain-ind R′ a (Chain R a) Chain.here (λ d l k t. rw (from-rev d l) (along d (were L L′ W d l) (rw (W .from d l) at t))) b c
 
   -- a chain without the edge goes on along a dart of another
   pub onward : {a : ℕ} (d : ℕ) → R′ .live d ≡ true → R′ .from d ≡ R .from d → R′ .from (rev d) ≡ R .from (rev d) → Chain R′ a (R .from d) → Chain R′ a (R .from (rev d))
   onward {a} d l x y c =
       let k : Chain R′ a (R′ .from (rev d)) = along d l (rw x c) in
       rw y at k
-
-  pub kept-down : {Q : ℕ → Bool} → Kept R Q → Kept R′ Q
-  kept-down {Q} K = record { edge = λ d l. rw (W .from d l, from-rev d l) (K .edge d (were d l)) }
 
   pub ends-kept : {Q : ℕ → Bool} → Kept R Q → Q (R .from (2 * e + 1)) ≡ Q (R .from (2 * e))
   ends-kept {Q} K = let r : rev (2 * e) ≡ 2 * e + 1 = omega arith in rw r at (K .edge (2 * e) (W .here))
@@ -97,7 +62,7 @@ module _ {R R′ : Rotation} {e : ℕ} (L : Lawful R) (L′ : Lawful R′) (W : 
   marks-down {Q} {m} M = record {
     fits = λ d l q.
         let a = W .from d l in
-        let fit = M .fits d (were d l) (rw a at q) in
+        let fit = M .fits d (were L L′ W d l) (rw a at q) in
         let t = W .turns d l in
         rw (a, from-rev d l) (omega arith);
   }
@@ -122,14 +87,14 @@ module _ {R R′ : Rotation} {e : ℕ} (L : Lawful R) (L′ : Lawful R′) (W : 
   edge-same Q k n = by (truth (R′ .live (2 * k)))
     where
       same : R′ .live (2 * k) ≡ R .live (2 * k)
-      same = W .kept (2 * k) (omega arith)
+      same = kept L L′ W (2 * k) (omega arith)
 
       by : Truth (R′ .live (2 * k)) → (R .live (2 * k) && Q (R .from (2 * k))) ≡ (R′ .live (2 * k) && Q (R′ .from (2 * k)))
       by (holds l) = rw (← same, W .from (2 * k) l)
       by (fails l) = rw (← same, l)
 
   own-gone : R′ .live (2 * e) ≡ false
-  own-gone = W .gone (2 * e) (omega arith)
+  own-gone = gone L L′ W (2 * e) (omega arith)
 
   pub edges-one : (Q : ℕ → Bool) → Q (R .from (2 * e)) ≡ true → edgesIn R Q ≡ suc (edgesIn R′ Q)
   unfolding edgesIn
@@ -146,4 +111,4 @@ module _ {R R′ : Rotation} {e : ℕ} (L : Lawful R) (L′ : Lawful R′) (W : 
 
   pub edge-fewer : edgeCount R ≡ suc (edgeCount R′)
   unfolding edgeCount
-  edge-fewer = count-one _ _ e edges (live-edge-low L e (W .here)) (W .here) own-gone (λ k h n. sym (W .kept (2 * k) (omega arith)))
+  edge-fewer = count-one _ _ e edges (live-edge-low L e (W .here)) (W .here) own-gone (λ k h n. sym (kept L L′ W (2 * k) (omega arith)))

@@ -19,3 +19,4 @@ pub mod Tallying
 pub mod EulerWord
 pub mod Rows
 pub mod Rowing
+pub mod Tables

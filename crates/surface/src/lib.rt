@@ -1,0 +1,4 @@
+// Connected parts of a mesh, their Euler numbers, orientability.
+pub mod forest;
+pub mod rows;
+pub mod tally;

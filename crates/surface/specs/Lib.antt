@@ -20,3 +20,4 @@ pub mod EulerWord
 pub mod Rows
 pub mod Rowing
 pub mod Tables
+pub mod Mesh

@@ -101,6 +101,26 @@ int64_t planner_delete_edge(uint16_t *table, size_t words, uint16_t e);
  */
 int64_t planner_turn_edge(uint16_t *table, size_t words, uint16_t e, int16_t amount);
 
+/*
+ * Letters. An edge with k turns has |k| crossings; along a step the type flips at each. With positive k the strand
+ * goes over where the type goes from 0 to 1, else under; with negative k the letters are exchanged. The calls below
+ * name a ribbon by any step on it: a dart and a type, 0 or 1.
+ * Refusals, in this order: PLANNER_TORN; PLANNER_NO_SUCH_NAME (dart past 2,047, type above 1); PLANNER_ABSENT (the
+ * dart is not live).
+ */
+
+/* Answers 1 if cyclic neighbours among the ribbon's letters differ, else 0. No letters count as alternating. */
+int64_t planner_alternates(const uint16_t *table, size_t words, uint16_t dart, uint16_t type);
+
+/* Answers 1 if every ribbon alternates, else 0. Declines: PLANNER_TORN alone. */
+int64_t planner_plain(const uint16_t *table, size_t words);
+
+/*
+ * Writes the ribbon's letters, 'O' and 'U', in the order of travel from the step, and answers how many.
+ * Declines besides: PLANNER_SHORT_SLICE if out_bytes is less than that. Bytes past the letters are not changed.
+ */
+int64_t planner_letters(const uint16_t *table, size_t words, uint16_t dart, uint16_t type, uint8_t *out, size_t out_bytes);
+
 #ifdef __cplusplus
 }
 #endif

@@ -8,6 +8,7 @@ ghost use Rattle.table.specs.Check.{checkOf};
 ghost use Rattle.table.specs.Empty.{emptyOf, emptied};
 ghost use Rattle.tracing.specs.Call.{listAnswer, listOut};
 ghost use Rattle.edits.specs.Edits.{answer, edited};
+ghost use Rattle.weave.specs.Calls.{alternatesOf, plainOf, lettersOf, lettersOut};
 ghost use Rattle.edits.specs.declared.edit.Edit.the-variants.{AddVertex, RemoveVertex, InsertEdge, DeleteEdge, TurnEdge};
 
 // Fills the slice with the empty mesh.
@@ -72,4 +73,28 @@ pub extern "C" fn planner_turn_edge(words: &mut [u16], e: u16, amount: i16) -> i
     ensures { λ r. ⌜ (r ≡ codeOf (answer (now (words .entry)) (TurnEdge e amount))) × (now (words .exit) ≡ edited (now (words .entry)) (TurnEdge e amount)) ⌝ }
 {
     code(edits::edge::turn_edge(words, e, amount))
+}
+
+// Does the ribbon through the step of dart and type alternate.
+#[no_mangle]
+pub extern "C" fn planner_alternates(words: &[u16], dart: u16, kind: u16) -> i64
+    ensures { λ r. ⌜ r ≡ codeOf (alternatesOf (now (words .entry)) dart kind) ⌝ }
+{
+    code(weave::call::alternates(words, dart, kind))
+}
+
+// Is the weave plain.
+#[no_mangle]
+pub extern "C" fn planner_plain(words: &[u16]) -> i64
+    ensures { λ r. ⌜ r ≡ codeOf (plainOf (now (words .entry))) ⌝ }
+{
+    code(weave::call::plain(words))
+}
+
+// Writes the letters of the ribbon through the step of dart and type, in the order of travel from it.
+#[no_mangle]
+pub extern "C" fn planner_letters(words: &[u16], dart: u16, kind: u16, out: &mut [u8]) -> i64
+    ensures { λ r. ⌜ (r ≡ codeOf (lettersOf (now (words .entry)) dart kind (length (now (out .entry))))) × (now (out .exit) ≡ lettersOut (now (words .entry)) dart kind (now (out .entry))) ⌝ }
+{
+    code(weave::call::letters(words, dart, kind, out))
 }

@@ -14,6 +14,9 @@ mod c {
         pub fn planner_insert_edge(table: *mut u16, words: usize, e: u16, c1: u16, c2: u16, k: i16) -> i64;
         pub fn planner_delete_edge(table: *mut u16, words: usize, e: u16) -> i64;
         pub fn planner_turn_edge(table: *mut u16, words: usize, e: u16, amount: i16) -> i64;
+        pub fn planner_alternates(table: *const u16, words: usize, dart: u16, kind: u16) -> i64;
+        pub fn planner_plain(table: *const u16, words: usize) -> i64;
+        pub fn planner_letters(table: *const u16, words: usize, dart: u16, kind: u16, out: *mut u8, out_bytes: usize) -> i64;
     }
 }
 
@@ -50,6 +53,18 @@ pub fn listing(table: &[u16], out: &mut [u16]) -> i64 {
 /// The listing into an output of no words whose pointer is null.
 pub fn listing_to_null(table: &[u16]) -> i64 {
     unsafe { c::planner_listing(table.as_ptr(), table.len(), std::ptr::null_mut(), 0) }
+}
+
+pub fn alternates(table: &[u16], dart: u16, kind: u16) -> i64 {
+    unsafe { c::planner_alternates(table.as_ptr(), table.len(), dart, kind) }
+}
+
+pub fn plain(table: &[u16]) -> i64 {
+    unsafe { c::planner_plain(table.as_ptr(), table.len()) }
+}
+
+pub fn letters(table: &[u16], dart: u16, kind: u16, out: &mut [u8]) -> i64 {
+    unsafe { c::planner_letters(table.as_ptr(), table.len(), dart, kind, out.as_mut_ptr(), out.len()) }
 }
 
 pub fn edit(table: &mut [u16], edit: Edit) -> i64 {

@@ -1,13 +1,13 @@
 -- A run of edits, document 01, "Runs of edits": any list of the five edits with any arguments, over one table.
 -- Assumes nothing.
-use Prim.Native.Nat.{ℕ, suc}
-use mathlib.Core.Path.{_≡_, refl, sym, _∙_, ap}
+use Prim.Native.Nat.{ℕ}
+use mathlib.Core.Path.{_≡_, refl}
 use mathlib.Core.List.{List, [], _∷_, _++_}
 use lib.IntN.{ℤ, pos, negsuc, _+ℤ_}
 use Rattle.table.specs.Rotation.{rotation}
 use Rattle.tracing.specs.Listing.{faceCount}
 use Rattle.surgery.specs.Change.{Change, less, as-many, more}
-use Rattle.edits.specs.Edits.{verdict, edited, answer}
+use Rattle.edits.specs.Edits.{verdict, edited}
 use Rattle.edits.specs.Changes.{change}
 use Rattle.edits.specs.declared.edit.Edit.{Edit}
 use Rattle.edits.specs.declared.edit.Verdict.{Verdict}

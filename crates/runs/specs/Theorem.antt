@@ -1,21 +1,19 @@
 -- The third demand: one claim about a whole run, a field for each clause, document 01, "Runs of edits".
 -- It holds for every list of edits, declined ones included, from every good table, and so from the empty mesh.
 -- Assumes nothing.
-use Prim.Native.Nat.{ℕ, zero, suc, _+_, _*_, _/_, _%_}
+use Prim.Native.Nat.{ℕ, _*_}
 use native.Mathlib.Omega.{arith}
 use mathlib.Core.Path.{_≡_, refl, sym, _∙_, ap}
-use mathlib.Core.Bool.{Bool, true, false}
+use mathlib.Core.Bool.{true}
 use mathlib.Core.List.{List, [], _∷_, _++_}
 use mathlib.Core.Logic.{_↔_}
-use lib.IntN.{ℤ, pos, negsuc, subℕ, _+ℤ_, +ℤ-idr, +ℤ-assoc}
+use lib.IntN.{pos, _+ℤ_, +ℤ-idr, +ℤ-assoc}
 use Rattle.table.specs.Good.{Good}
 use Rattle.table.specs.Rotation.{rotation, live?}
 use Rattle.table.specs.Lawful.{good-lawful}
 use Rattle.table.specs.Empty.{emptyTable, empty-good}
 use Rattle.table.specs.Signed.{difference, below, above}
-use Rattle.table.specs.declared.answer.Answer.{Answer}
 use Rattle.table.specs.declared.answer.Answer.the-variants.{Done, Declined}
-use Rattle.tracing.specs.Listing.{loneCorner, faceCount}
 use Rattle.tracing.specs.Has.{times, countIn}
 use Rattle.tracing.specs.Once.{listedCorners, dart-corner-once, lone-corner-once}
 use Rattle.tracing.specs.Twice.{listedSteps}
@@ -23,7 +21,7 @@ use Rattle.tracing.specs.Edges.{onEdge, edge-twice}
 use Rattle.tracing.specs.Corner.{Present, at-dart, at-lone}
 use Rattle.tracing.specs.Stands.{Stands, stands-low}
 use Rattle.surgery.specs.Change.{Change, less, as-many, more, Changes}
-use Rattle.edits.specs.Edits.{verdict, written, edited, answer, edited-passes, edited-declines, answer-passes, answer-declines}
+use Rattle.edits.specs.Edits.{verdict, edited, answer, edited-passes, edited-declines, answer-passes, answer-declines}
 use Rattle.edits.specs.Passed.{written-good}
 use Rattle.edits.specs.Changes.{change, written-changes}
 use Rattle.edits.specs.declared.edit.Edit.{Edit}
@@ -49,31 +47,36 @@ judged (Declines r) = declined r refl
 
 pub edited-good : (t : List ℕ) (E : Edit) → Good t → Good (edited t E)
 edited-good t E g = elim (judged (verdict t E)) [
-    | passed p ↦ rw (edited-passes t E p) (written-good t E p)
-    | declined r p ↦ rw (edited-declines t E r p) g ]
+  | passed p ↦ rw (edited-passes t E p) (written-good t E p)
+  | declined r p ↦ rw (edited-declines t E r p) g
+]
 
 -- a change of the number of faces, as a sum
 change-sum : (c : Change) (F G : ℕ) → Changes c F G → pos G ≡ pos F +ℤ number c
 change-sum less F G e = elim (difference F 1) [
-    | below h q ↦ absurd (omega arith)
-    | above h q ↦ sym (q ∙ ap pos (omega arith)) ]
+  | below h q ↦ absurd (omega arith)
+  | above h q ↦ sym (q ∙ ap pos (omega arith))
+]
 change-sum as-many F G e = ap pos e ∙ ap pos (omega arith)
 change-sum more F G e = ap pos (omega arith)
 
 pub edited-count : (t : List ℕ) (E : Edit) → Good t → faceNumber (edited t E) ≡ faceNumber t +ℤ calls t E
 unfolding calls
 edited-count t E g = elim (judged (verdict t E)) [
-    | passed p ↦ rw (edited-passes t E p, p) (change-sum (change t E) _ _ (written-changes t E p))
-    | declined r p ↦ rw (edited-declines t E r p, p) (sym (+ℤ-idr (faceNumber t))) ]
+  | passed p ↦ rw (edited-passes t E p, p) (change-sum (change t E) _ _ (written-changes t E p))
+  | declined r p ↦ rw (edited-declines t E r p, p) (sym (+ℤ-idr (faceNumber t)))
+]
 
 -- an edit that answers a number went through, and the number is the new face count
 pub answered-count : (t : List ℕ) (E : Edit) (n : ℕ) → answer t E ≡ Done n → pos n ≡ faceNumber (edited t E)
 answered-count t E n a = elim (judged (verdict t E)) [
-    | passed p ↦ rw (edited-passes t E p) (ap pos (same (sym a ∙ answer-passes t E p)))
-    | declined r p ↦ absurd (never (sym a ∙ answer-declines t E r p)) ]
+  | passed p ↦ rw (edited-passes t E p) (ap pos (same (sym a ∙ answer-passes t E p)))
+  | declined r p ↦ absurd (never (sym a ∙ answer-declines t E r p))
+]
   where
     same : {m : ℕ} → Done n ≡ Done m → n ≡ m
     same e = cc
+
     never : {r : _} → Done n ≡ Declined r → ⊥
     never e = let z : _≡_ {A = ℕ} 0 1 = cc in omega arith
 
@@ -110,19 +113,21 @@ pub record RunLaws (t : List ℕ) (Es : List Edit) : Type 0 where
 
 pub run-laws : (t : List ℕ) → Good t → (Es : List Edit) → RunLaws t Es
 run-laws t g Es = record {
-    good = after;
-    corners-once = λ c p. once c p;
-    edges-twice = λ e l. edge-twice (rotation (run t Es)) (good-lawful (run t Es) after) e l;
-    parts = λ r h. table-parts after r h;
-    count = run-count t Es g;
-    answered = λ front E back e n a.
+  good = after;
+  corners-once = λ c p. once c p;
+  edges-twice = λ e l. edge-twice (rotation (run t Es)) (good-lawful (run t Es) after) e l;
+  parts = λ r h. table-parts after r h;
+  count = run-count t Es g;
+  answered = λ front E back e n a.
       answered-count (run t front) E n a
       ∙ ap faceNumber (sym (run-append t front (E ∷ []) ∙ run-one (run t front) E))
       ∙ run-count t (front ++ (E ∷ [])) g;
-    alternation = λ s h. alternates-iff (run t Es) after s (stands-low h) }
+  alternation = λ s h. alternates-iff (run t Es) after s (stands-low h);
+}
   where
     after : Good (run t Es)
     after = run-good t Es g
+
     once : (c : ℕ) → Present (rotation (run t Es)) c → times c (listedCorners (rotation (run t Es))) ≡ 1
     once c (at-dart h l) = dart-corner-once (rotation (run t Es)) (good-lawful (run t Es) after) c l
     once c (at-lone v h e a) = rw e (lone-corner-once (rotation (run t Es)) (good-lawful (run t Es) after) v a)

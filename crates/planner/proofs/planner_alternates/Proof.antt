@@ -1,3 +1,5 @@
+-- `planner::planner_alternates` meets its contract. Does the ribbon through the step of dart and type alternate.
+-- Assumes nothing.
 use Rattle.table.specs.Answers.{codeOf, handed-on}
 use mathlib.Core.Path.{_∙_, ap}
 use borrow.Author.Needs.{needs}

@@ -1,3 +1,5 @@
+-- `planner::planner_plain` meets its contract. Is the weave plain.
+-- Assumes nothing.
 use Rattle.table.specs.Answers.{codeOf, handed-on}
 use mathlib.Core.Path.{_∙_, ap}
 use borrow.Author.Needs.{needs}

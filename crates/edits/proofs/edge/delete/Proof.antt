@@ -1,3 +1,5 @@
+-- `edits::edge::delete` meets its contract. Takes edge e out.
+-- Assumes nothing.
 use Rattle.edits.specs.Ready.{ready-second}
 use Rattle.edits.specs.Edge.{delete-last}
 use denote.Ref.{now}

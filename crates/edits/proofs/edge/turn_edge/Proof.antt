@@ -1,3 +1,5 @@
+-- `edits::edge::turn_edge` meets its contract. Turns edge e by an amount. Answers the new face count.
+-- Assumes nothing.
 use Rattle.edits.specs.Passed.{may-turn, turn-good}
 use Rattle.edits.specs.declared.edit.Edit.the-variants.{TurnEdge}
 use Rattle.edits.specs.Edits.{went-through, was-declined}

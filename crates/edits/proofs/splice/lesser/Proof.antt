@@ -1,3 +1,5 @@
+-- `edits::splice::lesser` meets its contract. The smaller of a vertex's word and a dart.
+-- Assumes nothing.
 use borrow.Author.Tests.{lt-ltb, le-ltb}
 use borrow.Author.Needs.{needs}
 use Rattle.edits.proofs.splice.lesser.Statement.{statement}

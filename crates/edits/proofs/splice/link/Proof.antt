@@ -1,3 +1,5 @@
+-- `edits::splice::link` meets its contract. Puts dart x into corner c.
+-- Assumes nothing.
 use Rattle.edits.specs.Edge.{dart-link, link-past}
 use denote.Ref.{now}
 use Rattle.edits.specs.Splice.{splice}

@@ -1,3 +1,5 @@
+-- `edits::splice::unlink` meets its contract. Takes dart x out of its vertex's cycle.
+-- Assumes nothing.
 use Rattle.edits.specs.Unlink.{unlink-last}
 use denote.Ref.{now}
 use borrow.Author.Needs.{needs}

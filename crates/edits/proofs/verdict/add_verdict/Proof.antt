@@ -1,3 +1,5 @@
+-- `edits::verdict::add_verdict` meets its contract. To add vertex v.
+-- Assumes nothing.
 use Rattle.edits.specs.Verdicts.{addVerdict}
 use Rattle.table.specs.Check.{seen-good, seen-torn}
 use denote.Ref.{now}

@@ -1,3 +1,5 @@
+-- `edits::verdict::delete_verdict` meets its contract. To delete edge e.
+-- Assumes nothing.
 use Rattle.edits.specs.Verdicts.{deleteVerdict}
 use Rattle.table.specs.Check.{seen-good, seen-torn}
 use denote.Ref.{now}

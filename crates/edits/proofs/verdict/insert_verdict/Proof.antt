@@ -1,3 +1,5 @@
+-- `edits::verdict::insert_verdict` meets its contract. To insert edge e with turns k between corners c1 and c2.
+-- Assumes nothing.
 use Rattle.edits.specs.Turns.{amount-on, zero-over, some-few, hundred, overturned}
 use mathlib.Core.Bool.{true, false}
 use mathlib.Core.Path.{_≡_, sym, ap, _∙_}

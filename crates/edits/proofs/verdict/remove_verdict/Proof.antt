@@ -1,3 +1,5 @@
+-- `edits::verdict::remove_verdict` meets its contract. To remove vertex v.
+-- Assumes nothing.
 use Rattle.edits.specs.Verdicts.{removeVerdict}
 use Rattle.table.specs.Check.{seen-good, seen-torn}
 use denote.Ref.{now}

@@ -1,3 +1,5 @@
+-- `edits::verdict::turn_verdict` meets its contract. To turn edge e by an amount.
+-- Assumes nothing.
 use Rattle.edits.specs.Turns.{amount-on, zero-over, some-few}
 use Rattle.table.specs.Layout.{edgeWord}
 use Rattle.edits.specs.Verdicts.{turnVerdict}

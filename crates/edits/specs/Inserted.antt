@@ -232,6 +232,17 @@ module _ (t : List ℕ) (g : Good t) (e c₁ c₂ w : ℕ) (h : e < edges) (off 
       ]
       never s (to-itself v n _ _) = clash (rw (s ∙ n) at o) (free (2 * e) (omega arith))
 
+  -- "With c1 = c2 the order is old, 2e, 2e+1, d"
+  pub inserted-order : c₁ ≡ c₂ → nextDart result (2 * e) ≡ 2 * e + 1
+  inserted-order q = by first-leads
+    where
+      same : firstCorner e c₁ c₂ ≡ 2 * e + 1
+      same = ap (λ b. choose b (2 * e + 1) c₁) (eq-eqb c₁ c₂ q)
+
+      by : Leads → nextDart result (2 * e) ≡ 2 * e + 1
+      by (on-to n _ _) = result-next (2 * e) ∙ n ∙ same
+      by (to-itself v _ _ z) = let y = sym same ∙ z in absurd (omega (arith, y))
+
   first-sits : Sits (rotation result) e (rotation t) (2 * e) c₁
   first-sits = elim (ℕ-discrete c₁ c₂) [
     | yes q ↦ together q C₂

@@ -16,7 +16,14 @@ mod c {
         pub fn planner_turn_edge(table: *mut u16, words: usize, e: u16, amount: i16) -> i64;
         pub fn planner_alternates(table: *const u16, words: usize, dart: u16, kind: u16) -> i64;
         pub fn planner_plain(table: *const u16, words: usize) -> i64;
-        pub fn planner_letters(table: *const u16, words: usize, dart: u16, kind: u16, out: *mut u8, out_bytes: usize) -> i64;
+        pub fn planner_letters(
+            table: *const u16,
+            words: usize,
+            dart: u16,
+            kind: u16,
+            out: *mut u8,
+            out_bytes: usize,
+        ) -> i64;
     }
 }
 

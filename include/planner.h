@@ -8,6 +8,8 @@
  * Every function returns int64_t: the answer, 0 or more, or minus the number of the refusal. A declined call
  * leaves every lent slice as it was.
  *
+ * A call needs less than 16 KiB of stack, and its time grows with the number of live darts.
+ *
  * Link with libplanner.a.
  */
 #ifndef PLANNER_H
@@ -60,6 +62,64 @@ int64_t planner_empty(uint16_t *table, size_t words);
  * Declines: PLANNER_TORN for every other slice, of any length.
  */
 int64_t planner_check(const uint16_t *table, size_t words);
+
+/*
+ * Writes the listing of the table's walks to the front of `out`, and answers its number of words: for each walk
+ * its number of steps, then 2*dart+type for each step; for an isolated vertex v, 0 and then 32768+v.
+ * Declines: PLANNER_TORN; PLANNER_SHORT_SLICE if out_words is less than the listing's size. A full table's
+ * listing has 4,096 words at most. Words of `out` past the listing are not changed.
+ */
+int64_t planner_listing(const uint16_t *table, size_t words, uint16_t *out, size_t out_words);
+
+/*
+ * The five edits. Each answers the new number of faces: walks that the listing of the edited table has.
+ * A corner is named by the dart that ends it, counterclockwise, or is PLANNER_LONE_CORNER + v for the corner of
+ * the isolated vertex v. Refusals are tested in the order in which they are listed.
+ */
+#define PLANNER_LONE_CORNER 32768
+
+/* Adds vertex v, isolated. Declines: PLANNER_TORN, PLANNER_NO_SUCH_NAME, PLANNER_TAKEN. */
+int64_t planner_add_vertex(uint16_t *table, size_t words, uint16_t v);
+
+/* Removes the isolated vertex v. Declines: PLANNER_TORN, PLANNER_NO_SUCH_NAME, PLANNER_ABSENT, PLANNER_JOINED. */
+int64_t planner_remove_vertex(uint16_t *table, size_t words, uint16_t v);
+
+/*
+ * Inserts edge e with k turns: dart 2e goes into corner c1, then 2e+1 into c2, each just before the dart that
+ * names the corner; with c1 = c2 the order is old, 2e, 2e+1, d.
+ * Declines: PLANNER_TORN; PLANNER_NO_SUCH_NAME (e, c1 or c2); PLANNER_TAKEN; PLANNER_ABSENT (c1 or c2);
+ * PLANNER_OVERTURNED (k past 99 either way).
+ */
+int64_t planner_insert_edge(uint16_t *table, size_t words, uint16_t e, uint16_t c1, uint16_t c2, int16_t k);
+
+/* Deletes edge e, whatever its turns. Declines: PLANNER_TORN, PLANNER_NO_SUCH_NAME, PLANNER_ABSENT. */
+int64_t planner_delete_edge(uint16_t *table, size_t words, uint16_t e);
+
+/*
+ * Turns edge e by an amount. Declines: PLANNER_TORN, PLANNER_NO_SUCH_NAME, PLANNER_ABSENT, PLANNER_OVERTURNED
+ * (its turns would pass 99 either way).
+ */
+int64_t planner_turn_edge(uint16_t *table, size_t words, uint16_t e, int16_t amount);
+
+/*
+ * Letters. An edge with k turns has |k| crossings; along a step the type flips at each. With positive k the strand
+ * goes over where the type goes from 0 to 1, else under; with negative k the letters are exchanged. The calls below
+ * name a ribbon by any step on it: a dart and a type, 0 or 1.
+ * Refusals, in this order: PLANNER_TORN; PLANNER_NO_SUCH_NAME (dart past 2,047, type above 1); PLANNER_ABSENT (the
+ * dart is not live).
+ */
+
+/* Answers 1 if cyclic neighbours among the ribbon's letters differ, else 0. No letters count as alternating. */
+int64_t planner_alternates(const uint16_t *table, size_t words, uint16_t dart, uint16_t type);
+
+/* Answers 1 if every ribbon alternates, else 0. Declines: PLANNER_TORN alone. */
+int64_t planner_plain(const uint16_t *table, size_t words);
+
+/*
+ * Writes the ribbon's letters, 'O' and 'U', in the order of travel from the step, and answers how many.
+ * Declines besides: PLANNER_SHORT_SLICE if out_bytes is less than that. Bytes past the letters are not changed.
+ */
+int64_t planner_letters(const uint16_t *table, size_t words, uint16_t dart, uint16_t type, uint8_t *out, size_t out_bytes);
 
 #ifdef __cplusplus
 }

@@ -3,21 +3,22 @@
 use Prim.Native.Nat.{ℕ, _+_, _*_, _%_, _≤_, _<_}
 use native.Mathlib.Omega.{arith}
 use native.Mathlib.Decide.{ℕ-discrete}
-use mathlib.Core.Path.{_≡_, refl, sym, _∙_, ap, subst, fun-ext}
-use mathlib.Core.Bool.{Bool, true, false, _&&_}
+use mathlib.Core.Path.{_≡_, sym, _∙_, ap, subst, fun-ext}
+use mathlib.Core.Bool.{Bool, true, _&&_}
 use mathlib.Core.List.{List}
 use mathlib.Core.Logic.{_≢_}
 use lib.ListN.{length}
 use Rattle.orbits.specs.Truth.{clash, both, both-left, both-right, same-truth}
 use Rattle.orbits.specs.Count.{without, without-at, without-other, without-on}
-use Rattle.table.specs.Layout.{vertices, edges, darts, words, nothing, leaves, edgeWord, vertexWord, edgeOf}
+use Rattle.table.specs.Layout.{vertices, edges, darts, words, leaves, edgeWord, vertexWord, edgeOf}
 use Rattle.table.specs.Good.{Good}
 use Rattle.table.specs.Rotation.{rotation, live?, nextDart, turnsOf, there?, live-yes, yes-live, there-yes, there-word}
-use Rattle.table.specs.Writes.{setEdge, upd-at, upd-off, edge-edge, leaves-edge, vertex-edge}
+use Rattle.table.specs.Writes.{upd-at, upd-off, edge-edge, leaves-edge, vertex-edge}
 use Rattle.surgery.specs.Bypass.{bypass}
 use Rattle.surgery.specs.Without.{Without, apart, apart-own, apart-other}
 use Rattle.edits.specs.Held.{Held, good-held, held-good, nextIn}
 use Rattle.edits.specs.Unlink.{unlink, Shrunk}
+use Rattle.edits.specs.Ready.{DeleteReady, unlink-ready}
 use Rattle.edits.specs.Edge.{deleted, unlink-shrunk, edge-held, edge-next, next-of}
 
 module _ (t : List ℕ) (g : Good t) (e : ℕ) (h : e < edges) (on : edgeWord t e ≢ 0) where
@@ -31,6 +32,14 @@ module _ (t : List ℕ) (g : Good t) (e : ℕ) (h : e < edges) (on : edgeWord t 
   twice =
       unlink-shrunk (unlink t (2 * e)) (without (live? t) (2 * e)) (once .held) (2 * e + 1)
       (without-other (live? t) (2 * e) (2 * e + 1) (omega arith) ∙ own (2 * e + 1) (omega arith) (omega arith))
+
+  pub delete-ready : DeleteReady t e
+  delete-ready = record {
+    low = h;
+    first = unlink-ready t (live? t) (good-held t g) (2 * e) (own (2 * e) (omega arith) (omega arith));
+    second = unlink-ready (unlink t (2 * e)) (without (live? t) (2 * e)) (once .held) (2 * e + 1)
+        (without-other (live? t) (2 * e) (2 * e + 1) (omega arith) ∙ own (2 * e + 1) (omega arith) (omega arith));
+  }
 
   abbrev bare : List ℕ
   bare = unlink (unlink t (2 * e)) (2 * e + 1)

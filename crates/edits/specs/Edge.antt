@@ -1,26 +1,24 @@
 -- The tables that the insertion and the deletion of an edge leave, document 01, "Edits". Both are good; deleting what was inserted gives the first table back.
 -- Assumes nothing.
-use Prim.Native.Nat.{ℕ, zero, suc, _+_, _-_, _*_, _/_, _≤_, _<_}
+use Prim.Native.Nat.{ℕ, _+_, _-_, _*_, _≤_, _<_}
 use native.Mathlib.Omega.{arith}
-use native.Mathlib.Decide.{ℕ-discrete, decLt}
-use mathlib.Core.Path.{_≡_, refl, sym, _∙_, ap, subst, fun-ext}
-use mathlib.Core.Bool.{Bool, true, false, not, _&&_, _||_}
+use native.Mathlib.Decide.{ℕ-discrete}
+use mathlib.Core.Path.{_≡_, refl, sym, _∙_, ap, subst}
+use mathlib.Core.Bool.{Bool, true, false}
 use mathlib.Core.List.{List}
 use mathlib.Core.Logic.{_≢_}
 use lib.Dec.{eqb, ltb}
-use lib.ListN.{length, length-set}
+use lib.ListN.{length-set}
 use borrow.Author.Tests.{eq-eqb, ne-eqb, lt-ltb, le-ltb}
-use Rattle.orbits.specs.Truth.{clash, truth, holds, fails, same-truth}
-use Rattle.orbits.specs.Count.{without, without-at, without-other, without-on}
-use Rattle.table.specs.Layout.{vertices, edges, darts, words, nothing, isolated, nextWord, prevWord, leaves, edgeWord, vertexWord, edgeOf, Live}
-use Rattle.table.specs.Good.{Good}
-use Rattle.table.specs.Rotation.{choose, live?, nextDart, live-yes, yes-live, not-live}
+use Rattle.orbits.specs.Truth.{truth, holds, fails}
+use Rattle.table.specs.Layout.{vertices, edges, darts, words, nothing, isolated, nextWord, prevWord, leaves, edgeWord, vertexWord}
+use Rattle.table.specs.Rotation.{choose, live?, nextDart}
 use Rattle.table.specs.Empty.{orElse}
-use Rattle.table.specs.Writes.{setVertex, setEdge, upd, upd-at, upd-off, next-edge, prev-edge, leaves-edge, edge-edge, vertex-edge, leaves-vertex, same-words}
+use Rattle.table.specs.Writes.{setEdge, upd, next-edge, prev-edge, leaves-edge, vertex-edge, leaves-vertex}
 use Rattle.tracing.specs.Listing.{loneAt}
-use Rattle.edits.specs.Held.{Held, SmallestIn, good-held, held-good, nextIn, next-in, next-out, held-kept, held-same}
+use Rattle.edits.specs.Held.{Held, nextIn, next-in, next-out, held-kept}
 use Rattle.edits.specs.Splice.{splice, Reads, reads-splice, reads-cut, reads-vertex}
-use Rattle.edits.specs.Link.{plus, plus-new, plus-old, Plus, new, old, plus-case, lesser, Grown, before-grown, before-seat, alone-grown, alone-seat}
+use Rattle.edits.specs.Link.{new, old, plus-case, lesser, Grown, before-grown, before-seat, alone-grown, alone-seat}
 use Rattle.edits.specs.Unlink.{Sought, found, none, sought, seek, successor, taken, unlink, Shrunk, out-shrunk}
 
 -- dart x goes into corner c: just before the dart that names it, or alone at the isolated vertex
@@ -133,3 +131,10 @@ module _ (t : List ℕ) (L : ℕ → Bool) (H : Held t L) (e w : ℕ) (h : e < e
     | holds l ↦ next-in (setEdge t e w) L d l ∙ next-edge t e w d (H .low d l) ∙ sym (next-in t L d l)
     | fails f ↦ next-out (setEdge t e w) L d f ∙ sym (next-out t L d f)
   ]
+
+-- the last of the writes
+pub insert-last : (t u v : List ℕ) (e c₁ c₂ c w : ℕ) → u ≡ link t (2 * e + 1) c₂ → c ≡ firstCorner e c₁ c₂ → v ≡ link u (2 * e) c → setEdge v e w ≡ inserted t e c₁ c₂ w
+insert-last t u v e c₁ c₂ c w p q r = ap (λ x. setEdge x e w) (r ∙ ap (λ x. link x (2 * e) c) p ∙ ap (link (link t (2 * e + 1) c₂) (2 * e)) q)
+
+pub delete-last : (t u v : List ℕ) (e : ℕ) → u ≡ unlink t (2 * e) → v ≡ unlink u (2 * e + 1) → setEdge v e 0 ≡ deleted t e
+delete-last t u v e p q = ap (λ x. setEdge x e 0) (q ∙ ap (λ x. unlink x (2 * e + 1)) p)

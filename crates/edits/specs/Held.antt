@@ -4,15 +4,14 @@ use Prim.Native.Nat.{ℕ, _≤_, _<_}
 use native.Mathlib.Omega.{arith}
 use native.Mathlib.Decide.{ℕ-discrete}
 use mathlib.Core.Path.{_≡_, sym, _∙_, ap}
-use mathlib.Core.Bool.{Bool, true, false, _||_}
+use mathlib.Core.Bool.{Bool, true, false}
 use mathlib.Core.List.{List}
 use mathlib.Core.Logic.{_≢_, _↔_}
-use lib.Dec.{eqb}
 use lib.ListN.{length}
 use Rattle.orbits.specs.Truth.{clash, truth, holds, fails}
 use Rattle.orbits.specs.Reach.{Reach, reach-here, reach-step, reach-ind}
-use Rattle.table.specs.Layout.{vertices, edges, darts, words, nothing, isolated, nextWord, prevWord, leaves, edgeWord, vertexWord, edgeOf, Live}
-use Rattle.table.specs.Good.{Good, Bare, Smallest}
+use Rattle.table.specs.Layout.{vertices, edges, darts, words, nothing, isolated, nextWord, prevWord, leaves, edgeWord, vertexWord, edgeOf}
+use Rattle.table.specs.Good.{Good, Bare}
 use Rattle.table.specs.Writes.{same-words}
 use Rattle.table.specs.Rotation.{choose, live?, live-yes, yes-live, not-live}
 

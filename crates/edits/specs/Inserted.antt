@@ -1,27 +1,26 @@
 -- Edge e put between two corners of a good table: the table is good, and without e its rotation is the old one. Deleting e gives the first table back.
 -- Assumes nothing.
-use Prim.Native.Nat.{ℕ, _+_, _-_, _*_, _%_, _≤_, _<_}
+use Prim.Native.Nat.{ℕ, _+_, _*_, _%_, _≤_, _<_}
 use native.Mathlib.Omega.{arith}
 use native.Mathlib.Decide.{ℕ-discrete}
-use mathlib.Core.Path.{_≡_, refl, sym, _∙_, ap, subst, fun-ext}
+use mathlib.Core.Path.{_≡_, sym, _∙_, ap, subst, fun-ext}
 use mathlib.Core.Bool.{Bool, true, false, _&&_}
 use mathlib.Core.List.{List}
 use mathlib.Core.Logic.{_≢_}
-use lib.Dec.{eqb}
-use lib.ListN.{length}
 use borrow.Author.Tests.{eq-eqb, ne-eqb}
 use Rattle.orbits.specs.Truth.{clash, both, both-left, both-right, same-truth}
-use Rattle.table.specs.Layout.{vertices, edges, darts, words, nothing, isolated, nextWord, leaves, edgeWord, vertexWord, edgeOf}
+use Rattle.table.specs.Layout.{vertices, edges, darts, isolated, nextWord, leaves, edgeWord, vertexWord, edgeOf}
 use Rattle.table.specs.Good.{Good}
 use Rattle.table.specs.Rotation.{choose, rotation, live?, nextDart, turnsOf, there?, live-yes, yes-live, not-live, there-yes, there-word, alone-yes}
-use Rattle.table.specs.Writes.{setEdge, upd-at, upd-off, edge-edge, leaves-edge, vertex-edge}
+use Rattle.table.specs.Writes.{upd-at, upd-off, edge-edge, leaves-edge, vertex-edge}
 use Rattle.tracing.specs.Listing.{loneAt}
 use Rattle.surgery.specs.Bypass.{bypass, bypass-into, bypass-off}
 use Rattle.surgery.specs.Sits.{Sits, just-before, before-other, at-vertex, Inserted}
 use Rattle.surgery.specs.Without.{Without, apart, apart-own, apart-other}
 use Rattle.edits.specs.Held.{Held, good-held, held-good, nextIn, next-in}
-use Rattle.edits.specs.Link.{plus, plus-new, plus-old, Plus, new, old, plus-case, Grown}
-use Rattle.edits.specs.Edge.{link, firstCorner, inserted, deleted, Corner, at-dart, at-lone, link-grown, link-before, link-alone, still-isolated, edge-held, edge-next, next-of}
+use Rattle.edits.specs.Link.{plus, plus-new, plus-old, new, old, plus-case, Grown}
+use Rattle.edits.specs.Ready.{InsertReady, link-ready}
+use Rattle.edits.specs.Edge.{link, firstCorner, inserted, Corner, at-dart, at-lone, link-grown, link-before, link-alone, still-isolated, edge-held, edge-next, next-of}
 
 module _ (t : List ℕ) (g : Good t) (e c₁ c₂ w : ℕ) (h : e < edges) (off : edgeWord t e ≡ 0) (some : w ≢ 0) (few : w ≤ 199)
     (C₁ : Corner t (live? t) c₁) (C₂ : Corner t (live? t) c₂) where
@@ -70,6 +69,13 @@ module _ (t : List ℕ) (g : Good t) (e c₁ c₂ w : ℕ) (h : e < edges) (off 
 
   first : Grown half full (plus (live? t) (2 * e + 1)) (2 * e)
   first = link-grown half (plus (live? t) (2 * e + 1)) (second .held) (2 * e) (firstCorner e c₁ c₂) first-free (omega arith) corner
+
+  pub insert-ready : InsertReady t e c₁ c₂
+  insert-ready = record {
+    low = h;
+    second = link-ready t (live? t) H (2 * e + 1) c₂ (omega arith) C₂;
+    first = link-ready half (plus (live? t) (2 * e + 1)) (second .held) (2 * e) (firstCorner e c₁ c₂) (omega arith) corner;
+  }
 
   abbrev result : List ℕ
   result = inserted t e c₁ c₂ w
@@ -225,6 +231,17 @@ module _ (t : List ℕ) (g : Good t) (e c₁ c₂ w : ℕ) (h : e < edges) (off 
         | no m ↦ m (sym (s ∙ n ∙ ap (λ b. choose b (2 * e + 1) c₁) (ne-eqb c₁ c₂ m)))
       ]
       never s (to-itself v n _ _) = clash (rw (s ∙ n) at o) (free (2 * e) (omega arith))
+
+  -- "With c1 = c2 the order is old, 2e, 2e+1, d"
+  pub inserted-order : c₁ ≡ c₂ → nextDart result (2 * e) ≡ 2 * e + 1
+  inserted-order q = by first-leads
+    where
+      same : firstCorner e c₁ c₂ ≡ 2 * e + 1
+      same = ap (λ b. choose b (2 * e + 1) c₁) (eq-eqb c₁ c₂ q)
+
+      by : Leads → nextDart result (2 * e) ≡ 2 * e + 1
+      by (on-to n _ _) = result-next (2 * e) ∙ n ∙ same
+      by (to-itself v _ _ z) = let y = sym same ∙ z in absurd (omega (arith, y))
 
   first-sits : Sits (rotation result) e (rotation t) (2 * e) c₁
   first-sits = elim (ℕ-discrete c₁ c₂) [

@@ -1,4 +1,5 @@
 pub mod Turns
+pub mod Verdicts
 pub mod Held
 pub mod Splice
 pub mod Link
@@ -8,3 +9,6 @@ pub mod Ready
 pub mod Deleted
 pub mod Inserted
 pub mod RoundTrip
+pub mod Edits
+pub mod Passed
+pub mod Changes

@@ -1,6 +1,6 @@
 -- A dart put into a corner: just before the dart that names it, or alone at an isolated vertex. The rules of the darts hold again.
 -- Assumes nothing.
-use Prim.Native.Nat.{ℕ, zero, suc, _+_, _-_, _≤_, _<_}
+use Prim.Native.Nat.{ℕ, _≤_, _<_}
 use native.Mathlib.Omega.{arith}
 use native.Mathlib.Decide.{ℕ-discrete, decLt}
 use mathlib.Core.Path.{_≡_, refl, sym, _∙_, ap}
@@ -12,12 +12,11 @@ use borrow.Author.Tests.{eq-eqb, ne-eqb, lt-ltb, le-ltb}
 use Rattle.orbits.specs.Truth.{clash, truth, holds, fails}
 use Rattle.orbits.specs.Reach.{Reach, reach-here, reach-one, reach-step, reach-trans, reach-ind}
 use Rattle.table.specs.Layout.{vertices, edges, darts, words, nothing, isolated, nextWord, prevWord, leaves, edgeWord, vertexWord}
-use Rattle.table.specs.Good.{Bare}
 use Rattle.table.specs.Rotation.{choose}
 use Rattle.table.specs.Writes.{upd, upd-at, upd-off}
 use Rattle.surgery.specs.Bypass.{bypass, bypass-self, bypass-into, bypass-off}
 use Rattle.edits.specs.Held.{Held, SmallestIn, nextIn, next-in, next-out}
-use Rattle.edits.specs.Splice.{splice, Reads, reads-splice}
+use Rattle.edits.specs.Splice.{Reads}
 
 -- the darts of L and x
 unfoldable pub plus : (ℕ → Bool) → ℕ → ℕ → Bool

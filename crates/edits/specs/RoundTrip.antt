@@ -2,15 +2,12 @@
 -- Assumes nothing.
 use Prim.Native.Nat.{ℕ, _≤_, _<_}
 use native.Mathlib.Decide.{ℕ-discrete}
-use mathlib.Core.Path.{_≡_, sym, _∙_, ap, subst, fun-ext}
-use mathlib.Core.Bool.{Bool, true, false, _&&_}
+use mathlib.Core.Path.{_≡_, sym, _∙_, subst, fun-ext}
 use mathlib.Core.List.{List}
 use mathlib.Core.Logic.{_≢_}
-use Rattle.surgery.specs.Without.{apart}
-use Rattle.table.specs.Layout.{vertices, edges, nothing, nextWord, leaves, edgeWord, vertexWord}
+use Rattle.table.specs.Layout.{vertices, edges, nothing, edgeWord, vertexWord}
 use Rattle.table.specs.Good.{Good}
 use Rattle.table.specs.Rotation.{live?, nextDart, there?, there-yes, there-word, nextDart-live}
-use Rattle.orbits.specs.Truth.{clash, truth, holds, fails}
 use Rattle.edits.specs.Held.{Held, good-held, held-same}
 use Rattle.edits.specs.Edge.{inserted, deleted, Corner}
 use Rattle.edits.specs.Deleted.{deleted-good, deleted-without, deleted-own, deleted-other}

@@ -1,12 +1,11 @@
 -- The writes that put a dart into a vertex's cycle and take one out: the words after them.
 -- Assumes nothing.
 use Prim.Native.Nat.{ℕ, _<_}
-use native.Mathlib.Omega.{arith}
-use mathlib.Core.Path.{_≡_, refl, sym, _∙_, ap}
+use mathlib.Core.Path.{_≡_, refl, _∙_}
 use mathlib.Core.List.{List}
 use lib.ListN.{length, length-set}
-use Rattle.table.specs.Layout.{vertices, edges, darts, words, nothing, isolated, nextWord, prevWord, leaves, edgeWord, vertexWord}
-use Rattle.table.specs.Writes.{setNext, setPrev, setLeaves, setEdge, setVertex, upd, upd-same, next-next, prev-prev, leaves-leaves, vertex-vertex, next-prev, next-leaves, next-vertex, prev-next, prev-leaves, prev-vertex, leaves-next, leaves-prev, leaves-vertex, edge-next, edge-prev, edge-leaves, edge-vertex, vertex-next, vertex-prev, vertex-leaves}
+use Rattle.table.specs.Layout.{vertices, edges, darts, words, nothing, nextWord, prevWord, leaves, edgeWord, vertexWord}
+use Rattle.table.specs.Writes.{setNext, setPrev, setLeaves, setVertex, upd, upd-same, next-next, prev-prev, leaves-leaves, vertex-vertex, next-prev, next-leaves, next-vertex, prev-next, prev-leaves, prev-vertex, leaves-next, leaves-prev, leaves-vertex, edge-next, edge-prev, edge-leaves, edge-vertex, vertex-next, vertex-prev, vertex-leaves}
 
 -- b comes next after a
 abbrev pub tie : List ℕ → ℕ → ℕ → List ℕ

@@ -1,17 +1,17 @@
 -- Turns as edge words: "for each edge, 0 if not live, else its turns plus 100; turns run from -99 to 99".
 -- Assumes nothing.
-use Prim.Native.Nat.{ℕ, suc, _+_, _-_, _≤_, _<_, _^_}
+use Prim.Native.Nat.{ℕ, suc, _≤_, _<_, _^_}
 use native.Mathlib.Omega.{arith}
 use mathlib.Core.Path.{_≡_, refl, sym, _∙_, ap, ap₂}
 use mathlib.Core.Bool.{Bool, true, false}
 use mathlib.Core.Logic.{_≢_}
 use lib.Dec.{ltb}
-use lib.IntN.{ℤ, pos, negsuc, natAbs, _+ℤ_, _-ℤ_}
+use lib.IntN.{ℤ, pos, negsuc, natAbs, _+ℤ_, _-ℤ_, +ℤ-idl}
 use lib.Signed.{ltZ, mag}
 use mir.Syntax.{w16, w32}
 use mir.Val.{SFits, toZ, ofZ}
 use mir.Facts.{toZ-pos, toZ-ofZ}
-use Rattle.orbits.specs.Truth.{clash}
+use Rattle.orbits.specs.Truth.{clash, truth, holds, fails}
 use Rattle.table.specs.Signed.{difference, below, above, mag-sum}
 use borrow.Author.Tests.{lt-ltb, le-ltb, ltb-true, ltb-false}
 use Rattle.table.specs.Rotation.{choose}
@@ -55,12 +55,14 @@ in-range (pos n) e f =
 in-range (negsuc n) e f =
     let h = ltb-false 98 n e in
     elim (difference 100 (suc n)) [
-    | below b q ↦ absurd (omega arith)
-    | above b q ↦ record {
+      | below b q ↦ absurd (omega arith)
+      | above b q ↦ record {
         few = le-ltb 99 (suc n) (omega arith);
         plus-hundred = q ∙ ap pos (sym (ap natAbs q));
         some = rw q (omega arith);
-        most = rw q (omega arith) } ]
+        most = rw q (omega arith);
+      }
+    ]
 
 -- the same, from the definition
 pub few-range : (z : ℤ) → overturned z ≡ false → InRange z
@@ -105,3 +107,24 @@ module _ (w : ℕ) (a : ℤ) where
 
   pub word-in : overturned (turnsIn w +ℤ a) ≡ false → wordFor (turnsIn w +ℤ a) ≡ turnedWord w a
   word-in e = sym (ap (λ b. choose b 0 (wordFor (turnsIn w +ℤ a))) e)
+
+  -- a word of 0 says that the turns pass 99
+  pub zero-over : turnedWord w a ≡ 0 → overturned (turnsIn w +ℤ a) ≡ true
+  zero-over z = elim (truth (overturned (turnsIn w +ℤ a))) [
+    | holds e ↦ e
+    | fails e ↦ let s = few-range (turnsIn w +ℤ a) e .some in let q = word-in e ∙ z in absurd (omega (arith, s, q))
+  ]
+
+  pub some-few : turnedWord w a ≢ 0 → overturned (turnsIn w +ℤ a) ≡ false
+  some-few n = elim (truth (overturned (turnsIn w +ℤ a))) [
+    | holds e ↦ absurd (n (sym (word-over e)))
+    | fails e ↦ e
+  ]
+
+-- an edge with no turns has the word 100
+pub hundred : (k : ℤ) → turnsIn 100 +ℤ k ≡ k
+hundred k = +ℤ-idl k
+
+-- an amount that is handed on keeps its value
+pub amount-on : (w : ℕ) (a : ℤ) {r : ℕ} → SFits w16 a → r ≡ turnedWord w (toZ w16 (ofZ w16 a)) → r ≡ turnedWord w a
+amount-on w a f e = e ∙ ap (turnedWord w) (toZ-ofZ {w = w16} f)

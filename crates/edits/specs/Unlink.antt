@@ -12,13 +12,13 @@ use lib.Dec.{eqb}
 use borrow.Author.Tests.{eq-eqb, ne-eqb}
 use Rattle.orbits.specs.Truth.{clash, truth, holds, fails}
 use Rattle.orbits.specs.Count.{without, without-at, without-other, without-on}
-use Rattle.orbits.specs.Reach.{Reach, reach-here, reach-one, reach-step, reach-trans, reach-ind}
+use Rattle.orbits.specs.Reach.{Reach, reach-here, reach-step, reach-ind}
 use Rattle.table.specs.Layout.{vertices, edges, darts, words, nothing, isolated, nextWord, prevWord, leaves, edgeWord, vertexWord}
 use Rattle.table.specs.Rotation.{choose}
 use Rattle.table.specs.Writes.{setVertex, upd, upd-at, upd-off}
 use Rattle.surgery.specs.Bypass.{bypass, bypass-self, bypass-into, bypass-off}
 use Rattle.edits.specs.Held.{Held, SmallestIn, nextIn, next-in, next-out}
-use Rattle.edits.specs.Splice.{cut, Reads, reads-cut, reads-vertex}
+use Rattle.edits.specs.Splice.{cut, Reads}
 
 -- the first of k darts from d on that leaves v, or the word of an isolated vertex
 unfoldable pub seek : List ℕ → ℕ → ℕ → ℕ → ℕ

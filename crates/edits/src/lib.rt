@@ -1,3 +1,8 @@
 // The five edits: a verdict over the lent table, then the write, then the new face count.
-pub mod turns;
+pub mod apply;
+pub mod edge;
+pub mod edit;
 pub mod splice;
+pub mod turns;
+pub mod verdict;
+pub mod vertex;

@@ -1,5 +1,10 @@
 // The writes that put a dart into a vertex's cycle and take one out.
-use table::layout::{DARTS, ISOLATED, LEAVES, NOTHING, PREV, VERTEX};
+use table::layout::DARTS;
+use table::layout::ISOLATED;
+use table::layout::LEAVES;
+use table::layout::NOTHING;
+use table::layout::PREV;
+use table::layout::VERTEX;
 ghost use mathlib.Core.Path.{_≡_};
 ghost use Prim.Native.Nat.{_≤_, _<_};
 ghost use lib.ListN.{length};

@@ -2,9 +2,14 @@
 // A slice is a pointer and then its number of elements. `include/planner.h` declares the functions.
 use table::answer::code;
 ghost use mathlib.Core.Path.{_≡_};
+ghost use lib.ListN.{length};
 ghost use Rattle.table.specs.Answers.{codeOf};
 ghost use Rattle.table.specs.Check.{checkOf};
 ghost use Rattle.table.specs.Empty.{emptyOf, emptied};
+ghost use Rattle.tracing.specs.Call.{listAnswer, listOut};
+ghost use Rattle.edits.specs.Edits.{answer, edited};
+ghost use Rattle.weave.specs.Calls.{alternatesOf, plainOf, lettersOf, lettersOut};
+ghost use Rattle.edits.specs.declared.edit.Edit.the-variants.{AddVertex, RemoveVertex, InsertEdge, DeleteEdge, TurnEdge};
 
 // Fills the slice with the empty mesh.
 #[no_mangle]
@@ -20,4 +25,76 @@ pub extern "C" fn planner_check(words: &[u16]) -> i64
     ensures { λ r. ⌜ r ≡ codeOf (checkOf (now (words .entry))) ⌝ }
 {
     code(table::whole::check(words))
+}
+
+// Writes the listing of the table's walks, and answers its number of words.
+#[no_mangle]
+pub extern "C" fn planner_listing(words: &[u16], out: &mut [u16]) -> i64
+    ensures { λ r. ⌜ (r ≡ codeOf (listAnswer (now (words .entry)) (length (now (out .entry))))) × (now (out .exit) ≡ listOut (now (words .entry)) (now (out .entry))) ⌝ }
+{
+    code(tracing::call::list(words, out))
+}
+
+// Adds vertex v.
+#[no_mangle]
+pub extern "C" fn planner_add_vertex(words: &mut [u16], v: u16) -> i64
+    ensures { λ r. ⌜ (r ≡ codeOf (answer (now (words .entry)) (AddVertex v))) × (now (words .exit) ≡ edited (now (words .entry)) (AddVertex v)) ⌝ }
+{
+    code(edits::vertex::add_vertex(words, v))
+}
+
+// Removes the isolated vertex v.
+#[no_mangle]
+pub extern "C" fn planner_remove_vertex(words: &mut [u16], v: u16) -> i64
+    ensures { λ r. ⌜ (r ≡ codeOf (answer (now (words .entry)) (RemoveVertex v))) × (now (words .exit) ≡ edited (now (words .entry)) (RemoveVertex v)) ⌝ }
+{
+    code(edits::vertex::remove_vertex(words, v))
+}
+
+// Inserts edge e with turns k: dart 2e into corner c1, then 2e+1 into c2.
+#[no_mangle]
+pub extern "C" fn planner_insert_edge(words: &mut [u16], e: u16, c1: u16, c2: u16, k: i16) -> i64
+    ensures { λ r. ⌜ (r ≡ codeOf (answer (now (words .entry)) (InsertEdge e c1 c2 k))) × (now (words .exit) ≡ edited (now (words .entry)) (InsertEdge e c1 c2 k)) ⌝ }
+{
+    code(edits::edge::insert_edge(words, e, c1, c2, k))
+}
+
+// Deletes edge e.
+#[no_mangle]
+pub extern "C" fn planner_delete_edge(words: &mut [u16], e: u16) -> i64
+    ensures { λ r. ⌜ (r ≡ codeOf (answer (now (words .entry)) (DeleteEdge e))) × (now (words .exit) ≡ edited (now (words .entry)) (DeleteEdge e)) ⌝ }
+{
+    code(edits::edge::delete_edge(words, e))
+}
+
+// Turns edge e by an amount.
+#[no_mangle]
+pub extern "C" fn planner_turn_edge(words: &mut [u16], e: u16, amount: i16) -> i64
+    ensures { λ r. ⌜ (r ≡ codeOf (answer (now (words .entry)) (TurnEdge e amount))) × (now (words .exit) ≡ edited (now (words .entry)) (TurnEdge e amount)) ⌝ }
+{
+    code(edits::edge::turn_edge(words, e, amount))
+}
+
+// Does the ribbon through the step of dart and type alternate.
+#[no_mangle]
+pub extern "C" fn planner_alternates(words: &[u16], dart: u16, kind: u16) -> i64
+    ensures { λ r. ⌜ r ≡ codeOf (alternatesOf (now (words .entry)) dart kind) ⌝ }
+{
+    code(weave::call::alternates(words, dart, kind))
+}
+
+// Is the weave plain.
+#[no_mangle]
+pub extern "C" fn planner_plain(words: &[u16]) -> i64
+    ensures { λ r. ⌜ r ≡ codeOf (plainOf (now (words .entry))) ⌝ }
+{
+    code(weave::call::plain(words))
+}
+
+// Writes the letters of the ribbon through the step of dart and type, in the order of travel from it.
+#[no_mangle]
+pub extern "C" fn planner_letters(words: &[u16], dart: u16, kind: u16, out: &mut [u8]) -> i64
+    ensures { λ r. ⌜ (r ≡ codeOf (lettersOf (now (words .entry)) dart kind (length (now (out .entry))))) × (now (out .exit) ≡ lettersOut (now (words .entry)) dart kind (now (out .entry))) ⌝ }
+{
+    code(weave::call::letters(words, dart, kind, out))
 }

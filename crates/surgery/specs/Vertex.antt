@@ -7,6 +7,7 @@ use mathlib.Core.Logic.{_≢_}
 use mathlib.Core.Bool.{Bool, true, false}
 use Prim.Native.Nat.{ℕ, suc, _+_, _-_, _*_, _/_, _%_, _<_, _≤_}
 use native.Mathlib.Omega.{arith}
+use Rattle.table.specs.Layout.{darts}
 use Rattle.table.specs.Rotation.{Rotation, Lawful}
 use Rattle.orbits.specs.Truth.{clash, false-unless}
 use Rattle.orbits.specs.Swap.{place, at-left, at-right, off}
@@ -24,7 +25,7 @@ pub record Added (R : Rotation) (v : ℕ) (R₁ : Rotation) : Type 0 where
   pub now : R₁ .alone v ≡ true
   pub live : (d : ℕ) → R₁ .live d ≡ R .live d
   pub next : Alike R R₁
-  pub turns : (d : ℕ) → R₁ .turns d % 2 ≡ R .turns d % 2
+  pub turns : (d : ℕ) → d < darts → R₁ .turns d % 2 ≡ R .turns d % 2
   pub alone : (u : ℕ) → u ≢ v → R₁ .alone u ≡ R .alone u
 
 -- the first still place of a vertex; the other is the next number
@@ -52,7 +53,10 @@ module _ {R R₁ : Rotation} {v : ℕ} (L : Lawful R) (L₁ : Lawful R₁) (A : 
   }
 
   same-trace : trace R₁ ≡ trace R
-  same-trace = fun-ext (λ s. alike-trace L L₁ (A .next) s (A .turns (s / 2)))
+  same-trace = fun-ext (λ s. elim (place-kind s) [
+    | is-step h ↦ alike-trace L L₁ (A .next) s (A .turns (s / 2) (omega arith))
+    | is-still h ↦ trace-still R₁ s h ∙ sym (trace-still R s h)
+  ])
 
   low : stillAt v + 1 < places
   low = let h = L₁ .there-low v (L₁ .alone-there v (A .now)) in omega arith

@@ -3,18 +3,19 @@
 use Prim.Native.Nat.{ℕ, _≤_, _<_}
 use native.Mathlib.Nat.{lt-of-lt-of-le}
 use native.Mathlib.Decide.{ℕ-discrete, decLe, decLt, map-dec}
-use mathlib.Core.Path.{_≡_, refl, sym}
-use mathlib.Core.Bool.{Bool, true, false, _&&_}
+use mathlib.Core.Path.{_≡_, refl, sym, _∙_}
+use mathlib.Core.Bool.{Bool, true, false, not, _&&_}
 use mathlib.Core.List.{List}
 use mathlib.Core.Logic.{Dec·and, Dec·not}
 use lib.ListN.{length}
+use borrow.Author.Tests.{not-true, not-false}
 use Rattle.orbits.specs.Truth.{first, found, none}
 use Rattle.orbits.specs.Count.{count}
 use Rattle.orbits.specs.Iterate.{iter, period, period-le}
 use Rattle.orbits.specs.Reach.{reach-within}
 use Rattle.table.specs.Layout.{darts, vertices, words, nothing, isolated, nextWord, prevWord, leaves, edgeWord, vertexWord, edgeOf}
 use Rattle.table.specs.Good.{Good, Bare}
-use Rattle.table.specs.Rotation.{Case, holds, fails, live?, nextDart}
+use Rattle.table.specs.Rotation.{Case, case-yes, holds, fails, live?, nextDart}
 use Rattle.table.specs.Darts.{Linked, DartRule, Ruled, rule-dead, rule-live, good-ruled}
 use Rattle.table.specs.Cycle.{next-inj}
 use Rattle.table.specs.Vertices.{Leads, VertexRule, led?, counted-good, good-counted}
@@ -129,3 +130,12 @@ module _ (t : List ℕ) where
     | holds e g ↦ absurd (n g)
     | fails e _ ↦ sym e
   ]
+
+-- what an answer of the test tells
+pub seen-good : (t : List ℕ) {b : Bool} → b ≡ good? t → not b ≡ false → (good? t ≡ true) × Good t
+seen-good t {b} e s =
+    let g : good? t ≡ true = sym e ∙ not-false b s in
+    (g, case-yes (good-case t) g)
+
+pub seen-torn : (t : List ℕ) {b : Bool} → b ≡ good? t → not b ≡ true → good? t ≡ false
+seen-torn t {b} e s = sym e ∙ not-true b s

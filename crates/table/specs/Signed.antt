@@ -1,11 +1,10 @@
 -- Signed sums: how large they can be, and that a machine word which holds one gives it back.
 -- Assumes nothing.
-use Prim.Native.Nat.{ℕ, suc, _+_, _-_, _≤_, _<_, _^_}
+use Prim.Native.Nat.{ℕ, suc, _+_, _-_, _≤_, _<_}
 use native.Mathlib.Omega.{arith}
 use native.Mathlib.Decide.{decLt}
-use mathlib.Core.Path.{_≡_, refl}
-use lib.Dec.{ltb}
-use lib.IntN.{ℤ, pos, negsuc, subℕ, _+ℤ_, _-ℤ_}
+use mathlib.Core.Path.{_≡_}
+use lib.IntN.{ℤ, pos, negsuc, subℕ, _+ℤ_}
 use lib.Signed.{mag}
 use borrow.Author.Tests.{lt-ltb, le-ltb}
 
@@ -16,13 +15,15 @@ pub data Difference (a b : ℕ) : Type 0 where
 
 pub difference : (a b : ℕ) → Difference a b
 difference a b = elim (decLt a b) [
-    | yes h ↦ below h (rw (lt-ltb a b h))
-    | no h ↦ above (omega arith) (rw (le-ltb a b (omega arith))) ]
+  | yes h ↦ below h (rw (lt-ltb a b h))
+  | no h ↦ above (omega arith) (rw (le-ltb a b (omega arith)))
+]
 
 mag-difference : (a b : ℕ) → mag (subℕ a b) ≤ a + b
 mag-difference a b = elim (difference a b) [
-    | below h e ↦ rw e (omega arith)
-    | above h e ↦ rw e (omega arith) ]
+  | below h e ↦ rw e (omega arith)
+  | above h e ↦ rw e (omega arith)
+]
 
 pub mag-sum : (x y : ℤ) → mag (x +ℤ y) ≤ suc (mag x + mag y)
 mag-sum (pos a) (pos b) = omega arith

@@ -1,6 +1,8 @@
 // The check of a whole table.
-use crate::answer::{Answer, Refusal};
-use crate::dart::{live_darts, Counted};
+use crate::answer::Answer;
+use crate::answer::Refusal;
+use crate::dart::Counted;
+use crate::dart::live_darts;
 use crate::layout::WORDS;
 use crate::vertex::all_led_darts;
 ghost use mathlib.Core.Path.{_≡_};

@@ -3,5 +3,7 @@
 pub mod damage;
 pub mod edits;
 pub mod jobs;
+pub mod k4;
 pub mod random;
+pub mod solids;
 pub mod tables;

@@ -3,24 +3,8 @@
 use crate::*;
 use reference::counts::counts;
 use reference::table::Dart;
-use reference::trial::tables::Mesh;
+use reference::trial::k4::{dart, k4, SPHERE, TORUS};
 use reference::weave::plain;
-
-/// The edges, named in this order; the dart that leaves the smaller end is the first.
-const EDGES: [(usize, usize); 6] = [(0, 1), (0, 2), (0, 3), (1, 2), (1, 3), (2, 3)];
-
-fn dart(from: usize, to: usize) -> Dart {
-    let ends = (from.min(to), from.max(to));
-    let e = EDGES.iter().position(|&edge| edge == ends).unwrap() as Dart;
-    2 * e + Dart::from(from > to)
-}
-
-/// The table in which vertex v has its neighbours in this order.
-fn k4(neighbours: [[usize; 3]; 4], turns: i32) -> Vec<u16> {
-    let rotation = |v: usize| neighbours[v].map(|u| dart(v, u)).to_vec();
-    let rotations = (0..4).map(|v| (v as u16, rotation(v))).collect();
-    Mesh { rotations, turns: (0..6).map(|e| (e, turns)).collect() }.written()
-}
 
 /// The darts along a closed walk through these vertices, from its smallest dart on.
 fn walk_through(vertices: &[usize]) -> Vec<Dart> {
@@ -45,9 +29,6 @@ fn sorted(mut walks: Vec<Vec<Dart>>) -> Vec<Vec<Dart>> {
     walks.sort();
     walks
 }
-
-const SPHERE: [[usize; 3]; 4] = [[1, 3, 2], [0, 2, 3], [0, 3, 1], [0, 1, 2]];
-const TORUS: [[usize; 3]; 4] = [[1, 2, 3], [0, 3, 2], [0, 1, 3], [0, 1, 2]];
 
 #[test]
 fn the_first_rotation_has_the_printed_walks() {

@@ -1,15 +1,34 @@
 //! The calls of include/planner.h, each in a safe function. A slice is a pointer and its length in elements; the
 //! answer is 0 or more, or minus the number of the refusal.
 
+use reference::edit::Edit;
+use reference::refusal::Refusal;
+
 mod c {
     extern "C" {
         pub fn planner_empty(table: *mut u16, words: usize) -> i64;
         pub fn planner_check(table: *const u16, words: usize) -> i64;
+        pub fn planner_listing(table: *const u16, words: usize, out: *mut u16, out_words: usize) -> i64;
+        pub fn planner_add_vertex(table: *mut u16, words: usize, v: u16) -> i64;
+        pub fn planner_remove_vertex(table: *mut u16, words: usize, v: u16) -> i64;
+        pub fn planner_insert_edge(table: *mut u16, words: usize, e: u16, c1: u16, c2: u16, k: i16) -> i64;
+        pub fn planner_delete_edge(table: *mut u16, words: usize, e: u16) -> i64;
+        pub fn planner_turn_edge(table: *mut u16, words: usize, e: u16, amount: i16) -> i64;
+        pub fn planner_alternates(table: *const u16, words: usize, dart: u16, kind: u16) -> i64;
+        pub fn planner_plain(table: *const u16, words: usize) -> i64;
+        pub fn planner_letters(
+            table: *const u16,
+            words: usize,
+            dart: u16,
+            kind: u16,
+            out: *mut u8,
+            out_bytes: usize,
+        ) -> i64;
     }
 }
 
 /// What a call of the reference answers, as the C interface says it.
-pub fn as_number(answer: Result<usize, reference::refusal::Refusal>) -> i64 {
+pub fn as_number(answer: Result<usize, Refusal>) -> i64 {
     match answer {
         Ok(answer) => answer as i64,
         Err(refusal) => -i64::from(refusal.number()),
@@ -32,4 +51,46 @@ pub fn check(table: &[u16]) -> i64 {
 /// A slice of no words whose pointer is null, as C lends it.
 pub fn check_null() -> i64 {
     unsafe { c::planner_check(std::ptr::null(), 0) }
+}
+
+pub fn listing(table: &[u16], out: &mut [u16]) -> i64 {
+    unsafe { c::planner_listing(table.as_ptr(), table.len(), out.as_mut_ptr(), out.len()) }
+}
+
+/// The listing into an output of no words whose pointer is null.
+pub fn listing_to_null(table: &[u16]) -> i64 {
+    unsafe { c::planner_listing(table.as_ptr(), table.len(), std::ptr::null_mut(), 0) }
+}
+
+pub fn alternates(table: &[u16], dart: u16, kind: u16) -> i64 {
+    unsafe { c::planner_alternates(table.as_ptr(), table.len(), dart, kind) }
+}
+
+pub fn plain(table: &[u16]) -> i64 {
+    unsafe { c::planner_plain(table.as_ptr(), table.len()) }
+}
+
+pub fn letters(table: &[u16], dart: u16, kind: u16, out: &mut [u8]) -> i64 {
+    unsafe { c::planner_letters(table.as_ptr(), table.len(), dart, kind, out.as_mut_ptr(), out.len()) }
+}
+
+pub fn edit(table: &mut [u16], edit: Edit) -> i64 {
+    edit_at(table.as_mut_ptr(), table.len(), edit)
+}
+
+/// An edit of a table of no words whose pointer is null.
+pub fn edit_null(edit: Edit) -> i64 {
+    edit_at(std::ptr::null_mut(), 0, edit)
+}
+
+fn edit_at(table: *mut u16, words: usize, edit: Edit) -> i64 {
+    unsafe {
+        match edit {
+            Edit::AddVertex { v } => c::planner_add_vertex(table, words, v),
+            Edit::RemoveVertex { v } => c::planner_remove_vertex(table, words, v),
+            Edit::InsertEdge { e, c1, c2, k } => c::planner_insert_edge(table, words, e, c1, c2, k),
+            Edit::DeleteEdge { e } => c::planner_delete_edge(table, words, e),
+            Edit::TurnEdge { e, amount } => c::planner_turn_edge(table, words, e, amount),
+        }
+    }
 }

@@ -1,3 +1,5 @@
+-- `planner::planner_check` meets its contract. Is the slice a good table.
+-- Assumes nothing.
 use Rattle.table.specs.Answers.{codeOf, handed-on}
 use mathlib.Core.Path.{_∙_, ap}
 use borrow.Author.Needs.{needs}

@@ -1,3 +1,5 @@
+-- `planner::planner_empty` meets its contract. Fills the slice with the empty mesh.
+-- Assumes nothing.
 use Rattle.table.specs.Answers.{codeOf, handed-on}
 use mathlib.Core.Path.{_∙_, ap}
 use borrow.Author.Needs.{needs}

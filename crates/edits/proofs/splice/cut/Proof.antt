@@ -1,76 +1,59 @@
+-- `edits::splice::cut` meets its contract. Lets n come next after p, and takes x out.
+-- Assumes nothing.
 use lib.ListN.{length-set}
 use native.Mathlib.Omega.{arith}
 use borrow.Author.Needs.{needs}
 use Rattle.edits.proofs.splice.cut.Statement.{statement}
 use Rattle.edits.proofs.splice.cut.Tie as tie
-use Rattle.edits.proofs.splice.cut.Reads as reads
-use Rattle.edits.proofs.splice.cut.Lts as lts
 
--- src/splice.rt:60:12
 cast-t : tie.Need-cast-t
 cast-t c = search needs
 
--- src/splice.rt:60:5
 mul-t : tie.Need-mul-t
 mul-t c = search needs
 
--- src/splice.rt:60:5
 slice-write-t : tie.Need-slice-write-t
 slice-write-t c = search needs
 
--- src/splice.rt:61:19
 cast-t-2 : tie.Need-cast-t-2
 cast-t-2 c = search needs
 
--- src/splice.rt:61:7
 add-t : tie.Need-add-t
 add-t c = search needs
 
--- src/splice.rt:61:5
 mul-t-2 : tie.Need-mul-t-2
 mul-t-2 c = search needs
 
--- src/splice.rt:61:5
 slice-write-t-2 : tie.Need-slice-write-t-2
 slice-write-t-2 c = simp length-set (omega arith)
 
--- src/splice.rt:62:5
 mul-t-3 : tie.Need-mul-t-3
 mul-t-3 c = search needs
 
--- src/splice.rt:62:5
 slice-write-t-3 : tie.Need-slice-write-t-3
 slice-write-t-3 c = simp length-set (omega arith)
 
--- src/splice.rt:63:7
 add-t-2 : tie.Need-add-t-2
 add-t-2 c = search needs
 
--- src/splice.rt:63:5
 mul-t-4 : tie.Need-mul-t-4
 mul-t-4 c = search needs
 
--- src/splice.rt:63:5
 slice-write-t-4 : tie.Need-slice-write-t-4
 slice-write-t-4 c = simp length-set (omega arith)
 
--- src/splice.rt:64:7
 add-t-3 : tie.Need-add-t-3
 add-t-3 c = search needs
 
--- src/splice.rt:64:5
 mul-t-5 : tie.Need-mul-t-5
 mul-t-5 c = search needs
 
--- src/splice.rt:64:5
 slice-write-t-5 : tie.Need-slice-write-t-5
 slice-write-t-5 c = simp length-set (omega arith)
 
--- src/splice.rt:56:1
 same-length : tie.Need-same-length
 same-length c = search needs
 
--- src/splice.rt:56:1
 returns : tie.Need-returns
 returns c = search needs
 

@@ -1,95 +1,72 @@
-use Rattle.edits.specs.Edge.{dart-link}
+-- `edits::splice::link` meets its contract. Puts dart x into corner c.
+-- Assumes nothing.
+use Rattle.edits.specs.Edge.{dart-link, link-past}
 use denote.Ref.{now}
-use Rattle.edits.specs.Edge.{link-past}
 use Rattle.edits.specs.Splice.{splice}
 use mir.Facts.{fits-16-64}
-use mathlib.Core.Path.{_∙_, sym, ap}
+use mathlib.Core.Path.{_∙_, sym}
 use native.Mathlib.Omega.{arith}
 use borrow.Author.Needs.{needs}
 use Rattle.edits.proofs.splice.link.Statement.{statement}
 use Rattle.edits.proofs.splice.link.Tie as tie
-use Rattle.edits.proofs.splice.link.Reads as reads
-use Rattle.edits.proofs.splice.link.Lts as lts
-use Rattle.edits.proofs.splice.lesser.Reads as lesser-reads
-use Rattle.edits.proofs.splice.splice.Reads as splice-reads
 
--- src/splice.rt:46:19
 add-p : tie.Need-add-p
 add-p c = search needs
 
--- src/splice.rt:46:17
 mul-p : tie.Need-mul-p
 mul-p c = search needs
 
--- src/splice.rt:46:17
 slice-read-p : tie.Need-slice-read-p
 slice-read-p c = search needs
 
--- src/splice.rt:46:17
 cast-p : tie.Need-cast-p
 cast-p c = fits-16-64 (c .slice-known2 .given _)
 
--- src/splice.rt:47:19
 add-v : tie.Need-add-v
 add-v c = search needs
 
--- src/splice.rt:47:17
 mul-v : tie.Need-mul-v
 mul-v c = search needs
 
--- src/splice.rt:47:17
 slice-read-v : tie.Need-slice-read-v
 slice-read-v c = search needs
 
--- src/splice.rt:47:17
 cast-v : tie.Need-cast-v
 cast-v c = fits-16-64 (c .slice-known3 .given _)
 
--- src/splice.rt:48:26
 add-lesser : tie.Need-add-lesser
 add-lesser c = let v = c .before .before .before .before .pre .leaves-low (c .before .before .if1 .taken) in omega arith
 
--- src/splice.rt:48:24
 mul-lesser : tie.Need-mul-lesser
 mul-lesser c = let v = c .before .before .before .before .pre .leaves-low (c .before .before .if1 .taken) in omega arith
 
--- src/splice.rt:48:24
 slice-read-lesser : tie.Need-slice-read-lesser
 slice-read-lesser c = let v = c .before .before .before .before .before .pre .leaves-low (c .before .before .before .if1 .taken) in let s = c .before .before .before .before .before .pre .size in omega arith
 
--- src/splice.rt:48:13
 lesser-requires : tie.Need-lesser-requires
 lesser-requires c κs = search needs
 
--- src/splice.rt:49:9
 splice-requires : tie.Need-splice-requires
 splice-requires c κs = record { size = c .before .before .before .before .before .before .before .pre .size; x-low = c .before .before .before .before .before .before .before .pre .x-low; d-low = c .before .before .before .before .before .if1 .taken; p-low = c .before .before .before .before .before .before .before .pre .prev-low (c .before .before .before .before .before .if1 .taken); v-low = c .before .before .before .before .before .before .before .pre .leaves-low (c .before .before .before .before .before .if1 .taken) }
 
--- src/splice.rt:50:9
 same-length : tie.Need-same-length
 same-length c = search needs
 
--- src/splice.rt:50:9
 returns : tie.Need-returns
 returns c = c .before .before .splice .ensures ∙ dart-link (now (c .before .before .before .before .before .before .before .before .before .before .args .t)) (c .before .before .before .before .before .before .before .before .before .before .args .x) (c .before .before .before .before .before .before .before .before .before .before .args .c) (c .before .before .before .before .lesser .result) (c .before .before .before .before .before .before .before .before .if1 .taken) (c .before .before .before .before .lesser .ensures)
 
--- src/splice.rt:52:24
 sub-splice : tie.Need-sub-splice
 sub-splice c = c .before .before .before .pre .lone (c .before .if1 .left)
 
--- src/splice.rt:52:34
 cast-splice : tie.Need-cast-splice
 cast-splice c = search needs
 
--- src/splice.rt:52:5
 splice-requires-2 : tie.Need-splice-requires-2
 splice-requires-2 c κs = let x = c .before .before .before .pre .x-low in record { size = c .before .before .before .pre .size; x-low = x; d-low = x; p-low = x; v-low = c .before .before .before .pre .lone-low (c .before .if1 .left) }
 
--- src/splice.rt:41:1
 same-length-2 : tie.Need-same-length-2
 same-length-2 c = search needs
 
--- src/splice.rt:41:1
 returns-2 : tie.Need-returns-2
 returns-2 c = c .before .before .splice2 .ensures ∙ sym (link-past _ _ _ (c .before .before .before .before .if1 .left))
 

@@ -1,100 +1,77 @@
+-- `edits::splice::splice` meets its contract. Puts x between p and d at vertex v, whose word becomes w.
+-- Assumes nothing.
 use lib.ListN.{length-set}
 use native.Mathlib.Omega.{arith}
 use borrow.Author.Needs.{needs}
 use Rattle.edits.proofs.splice.splice.Statement.{statement}
 use Rattle.edits.proofs.splice.splice.Tie as tie
-use Rattle.edits.proofs.splice.splice.Reads as reads
-use Rattle.edits.proofs.splice.splice.Lts as lts
 
--- src/splice.rt:21:12
 cast-t : tie.Need-cast-t
 cast-t c = search needs
 
--- src/splice.rt:21:5
 mul-t : tie.Need-mul-t
 mul-t c = search needs
 
--- src/splice.rt:21:5
 slice-write-t : tie.Need-slice-write-t
 slice-write-t c = search needs
 
--- src/splice.rt:22:19
 cast-t-2 : tie.Need-cast-t-2
 cast-t-2 c = search needs
 
--- src/splice.rt:22:7
 add-t : tie.Need-add-t
 add-t c = search needs
 
--- src/splice.rt:22:5
 mul-t-2 : tie.Need-mul-t-2
 mul-t-2 c = search needs
 
--- src/splice.rt:22:5
 slice-write-t-2 : tie.Need-slice-write-t-2
 slice-write-t-2 c = simp length-set (omega arith)
 
--- src/splice.rt:23:12
 cast-t-3 : tie.Need-cast-t-3
 cast-t-3 c = search needs
 
--- src/splice.rt:23:5
 mul-t-3 : tie.Need-mul-t-3
 mul-t-3 c = search needs
 
--- src/splice.rt:23:5
 slice-write-t-3 : tie.Need-slice-write-t-3
 slice-write-t-3 c = simp length-set (omega arith)
 
--- src/splice.rt:24:19
 cast-t-4 : tie.Need-cast-t-4
 cast-t-4 c = search needs
 
--- src/splice.rt:24:7
 add-t-2 : tie.Need-add-t-2
 add-t-2 c = search needs
 
--- src/splice.rt:24:5
 mul-t-4 : tie.Need-mul-t-4
 mul-t-4 c = search needs
 
--- src/splice.rt:24:5
 slice-write-t-4 : tie.Need-slice-write-t-4
 slice-write-t-4 c = simp length-set (omega arith)
 
--- src/splice.rt:25:21
 cast-t-5 : tie.Need-cast-t-5
 cast-t-5 c = search needs
 
--- src/splice.rt:25:7
 add-t-3 : tie.Need-add-t-3
 add-t-3 c = search needs
 
--- src/splice.rt:25:5
 mul-t-5 : tie.Need-mul-t-5
 mul-t-5 c = search needs
 
--- src/splice.rt:25:5
 slice-write-t-5 : tie.Need-slice-write-t-5
 slice-write-t-5 c = simp length-set (omega arith)
 
--- src/splice.rt:26:7
 add-t-4 : tie.Need-add-t-4
 add-t-4 c = search needs
 
--- src/splice.rt:26:5
 mul-t-6 : tie.Need-mul-t-6
 mul-t-6 c = search needs
 
--- src/splice.rt:26:5
 slice-write-t-6 : tie.Need-slice-write-t-6
 slice-write-t-6 c = simp length-set (omega arith)
 
--- src/splice.rt:17:1
 same-length : tie.Need-same-length
 same-length c = search needs
 
--- src/splice.rt:17:1
 returns : tie.Need-returns
 returns c = search needs
 

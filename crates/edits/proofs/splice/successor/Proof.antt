@@ -1,14 +1,13 @@
+-- `edits::splice::successor` meets its contract. The word of vertex v once dart x is out, where it was w. The loop keeps `Seeking`, and `darts - d` falls.
+-- Assumes nothing.
 use Rattle.edits.specs.Unlink.{Seeking, seeking-none, seeking-more, seeking-here, seeking-all}
 use Rattle.table.specs.Layout.{darts}
 use borrow.Author.Tests.{eq-eqb, ne-eqb}
 use mir.Facts.{fits-16-64}
-use mathlib.Core.Path.{_∙_, sym, ap}
 use native.Mathlib.Omega.{arith}
 use Prim.Native.Nat.{_-_}
 use Rattle.edits.proofs.splice.successor.Statement.{statement}
 use Rattle.edits.proofs.splice.successor.Tie as tie
-use Rattle.edits.proofs.splice.successor.Reads as reads
-use Rattle.edits.proofs.splice.successor.Lts as lts
 
 abbrev Inv-loop : tie.InvT-loop
 Inv-loop t v x w d₀ d = Seeking t v x d
@@ -16,51 +15,39 @@ Inv-loop t v x w d₀ d = Seeking t v x d
 abbrev μ-loop : tie.MeasureT-loop
 μ-loop t v x w d₀ d = darts - d
 
--- src/splice.rt:73:9
 returns : tie.Need-returns Inv-loop μ-loop
 returns c = simp (ne-eqb _ _ (c .if1 .taken))
 
--- src/splice.rt:76:5
 loop-holds : tie.Need-loop-holds Inv-loop μ-loop
 loop-holds c = seeking-none _ _ _ (c .before .pre .1)
 
--- src/splice.rt:77:14
 add-if2 : tie.Need-add-if2 Inv-loop μ-loop
 add-if2 c = omega arith
 
--- src/splice.rt:77:12
 mul-if2 : tie.Need-mul-if2 Inv-loop μ-loop
 mul-if2 c = omega arith
 
--- src/splice.rt:77:12
 shared-slice-read-if2 : tie.Need-shared-slice-read-if2 Inv-loop μ-loop
 shared-slice-read-if2 c = omega (arith, c .before .before .before .before .pre .0)
 
--- src/splice.rt:77:12
 cast-if2 : tie.Need-cast-if2 Inv-loop μ-loop
 cast-if2 c = fits-16-64 (c .shared-slice-known .given _)
 
--- src/splice.rt:78:20
 cast-result : tie.Need-cast-result Inv-loop μ-loop
 cast-result c = omega arith
 
--- src/splice.rt:78:13
 returns-2 : tie.Need-returns-2 Inv-loop μ-loop
 returns-2 c = simp (eq-eqb _ _ (c .before .before .before .before .if1 .left)) (seeking-here _ _ _ _ (c .before .before .before .loop .inv) (c .before .before .loop-test .taken) (c .if2 .taken))
 
--- src/splice.rt:80:9
 add-d : tie.Need-add-d Inv-loop μ-loop
 add-d c = omega arith
 
--- src/splice.rt:76:5
 loop-less : tie.Need-loop-less Inv-loop μ-loop
 loop-less c = omega arith
 
--- src/splice.rt:76:5
 loop-again : tie.Need-loop-again Inv-loop μ-loop
 loop-again c = seeking-more _ _ _ _ (c .before .before .before .loop .inv) (c .before .before .loop-test .taken) (c .if2 .left)
 
--- src/splice.rt:68:1
 returns-3 : tie.Need-returns-3 Inv-loop μ-loop
 returns-3 c = simp (eq-eqb _ _ (c .before .before .if1 .left)) (seeking-all _ _ _ _ (c .before .loop .inv) (c .loop-test .left))
 

@@ -1,3 +1,5 @@
+-- `table::answer::code` meets its contract. The answer as C gets it: the number, or the refusal's code.
+-- Assumes nothing.
 use native.Mathlib.Omega.{arith}
 use Rattle.table.specs.Answers.{handed-on, codeOf}
 use mathlib.Core.Path.{sym, ap, _∙_}

@@ -1,3 +1,5 @@
+-- `table::answer::refusal_code` meets its contract. A refusal as C gets it: minus its number in document 01.
+-- Assumes nothing.
 use Rattle.table.specs.Answers.{refusalCode}
 use mathlib.Core.Path.{sym, ap}
 use borrow.Author.Needs.{needs}

@@ -1,3 +1,5 @@
+-- `table::dart::is_bare` meets its contract. Are the three words of a dart that is not live 65,535.
+-- Assumes nothing.
 use mathlib.Core.Path.{refl}
 use Rattle.table.specs.Rotation.{holds, fails}
 use borrow.Author.Needs.{needs}

@@ -1,3 +1,5 @@
+-- `table::empty::empty` meets its contract. Fills the slice with the empty mesh. Of what it held only the size is tested. The loop keeps `Filled`, and `words - i` falls.
+-- Assumes nothing.
 use Rattle.table.specs.Empty.{Filled, filled-none, filled-more, filled-all}
 use Rattle.table.specs.Layout.{words}
 use borrow.Author.Tests.{eq-eqb, ne-eqb}

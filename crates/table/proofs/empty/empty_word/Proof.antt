@@ -1,3 +1,5 @@
+-- `table::empty::empty_word` meets its contract. Word i of the empty mesh.
+-- Assumes nothing.
 use borrow.Author.Tests.{lt-ltb, le-ltb}
 use Rattle.table.proofs.empty.empty_word.Statement.{statement}
 use Rattle.table.proofs.empty.empty_word.Tie as tie

@@ -1,0 +1,63 @@
+-- `edits::vertex::remove_vertex` meets its contract. Removes the isolated vertex v. Answers the new face count.
+-- Assumes nothing.
+use Rattle.edits.specs.Passed.{may-remove, remove-good}
+use Rattle.edits.specs.declared.edit.Edit.the-variants.{RemoveVertex}
+use Rattle.edits.specs.Edits.{went-through, was-declined}
+use denote.Ref.{now}
+use native.Mathlib.Omega.{arith}
+use mathlib.Core.Path.{sym, _∙_, refl}
+use borrow.Author.Needs.{needs}
+use Rattle.edits.proofs.vertex.remove_vertex.Statement.{statement}
+use Rattle.edits.proofs.vertex.remove_vertex.Tie as tie
+
+remove-verdict-requires : tie.Need-remove-verdict-requires
+remove-verdict-requires c κs = search needs
+
+enum-known-r : tie.Need-enum-known-r
+enum-known-r c = search needs
+
+enum-told : tie.Need-enum-told
+enum-told c = search needs
+
+add-t : tie.Need-add-t
+add-t c = search needs
+
+mul-t : tie.Need-mul-t
+mul-t c = search needs
+
+slice-write-t : tie.Need-slice-write-t
+slice-write-t c = let m = may-remove _ _ (sym (c .before .before .remove-verdict .ensures) ∙ c .enum-told .given .1) in
+    let size = m .good .size in
+    let low = m .low in
+    omega arith
+
+face-count-requires : tie.Need-face-count-requires
+face-count-requires c κs = remove-good _ _ (may-remove _ _ (sym (c .before .before .before .remove-verdict .ensures) ∙ c .before .enum-told .given .1))
+
+same-length : tie.Need-same-length
+same-length c = search needs
+
+returns : tie.Need-returns
+returns c = was-declined (now (c .before .before .before .before .before .before .args .t)) (RemoveVertex (c .before .before .before .before .before .before .args .v)) _ (sym (c .before .before .before .remove-verdict .ensures) ∙ c .before .r .given .1)
+
+same-length-2 : tie.Need-same-length-2
+same-length-2 c = search needs
+
+returns-2 : tie.Need-returns-2
+returns-2 c = went-through (now (c .before .before .before .before .before .before .before .args .t)) (RemoveVertex (c .before .before .before .before .before .before .before .args .v)) _ _ (sym (c .before .before .before .before .remove-verdict .ensures) ∙ c .before .before .enum-told .given .1) refl (c .face-count .ensures)
+
+pub remove-vertex-spec : {M : Type 1} → statement M
+remove-vertex-spec =
+    tie.close
+    (tie.spec
+    remove-verdict-requires
+    enum-known-r
+    enum-told
+    add-t
+    mul-t
+    slice-write-t
+    face-count-requires
+    same-length
+    returns
+    same-length-2
+    returns-2)

@@ -1,0 +1,23 @@
+-- `planner::planner_add_vertex` meets its contract. Adds vertex v.
+-- Assumes nothing.
+use mathlib.Core.Path.{_∙_, ap}
+use Rattle.table.specs.Answers.{codeOf, handed-on}
+use borrow.Author.Needs.{needs}
+use Rattle.planner.proofs.planner_add_vertex.Statement.{statement}
+use Rattle.planner.proofs.planner_add_vertex.Tie as tie
+
+add-vertex-requires : tie.Need-add-vertex-requires
+add-vertex-requires c κs = search needs
+
+code-requires : tie.Need-code-requires
+code-requires c κs = search needs
+
+same-length : tie.Need-same-length
+same-length c = search needs
+
+returns : tie.Need-returns
+returns c = (handed-on (c .code .ok) (c .code .ensures ∙ ap codeOf (c .before .before .before .add-vertex .ensures .0)), c .before .before .before .add-vertex .ensures .1)
+
+pub planner-add-vertex-spec : {M : Type 1} → statement M
+planner-add-vertex-spec =
+    tie.close (tie.spec add-vertex-requires code-requires same-length returns)

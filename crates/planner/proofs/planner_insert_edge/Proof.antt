@@ -1,0 +1,25 @@
+-- `planner::planner_insert_edge` meets its contract. Inserts edge e with turns k: dart 2e into corner c1, then 2e+1 into c2.
+-- Assumes nothing.
+use mathlib.Core.Path.{_∙_, ap, refl}
+use Rattle.table.specs.Answers.{codeOf, handed-on}
+use Rattle.edits.specs.Edits.{same-insertion}
+use borrow.Author.Needs.{needs}
+use Rattle.planner.proofs.planner_insert_edge.Statement.{statement}
+use Rattle.planner.proofs.planner_insert_edge.Tie as tie
+
+insert-edge-requires : tie.Need-insert-edge-requires
+insert-edge-requires c κs = search needs
+
+code-requires : tie.Need-code-requires
+code-requires c κs = search needs
+
+same-length : tie.Need-same-length
+same-length c = search needs
+
+returns : tie.Need-returns
+returns c = let q = same-insertion _ _ _ _ (c .before .before .before .before .before .before .args .e) (c .before .before .before .before .before .before .args .c1) (c .before .before .before .before .before .before .args .c2) (c .before .before .before .before .before .before .args .k) (c .before .before .before .before .before .before .fits .k) refl (c .before .before .before .insert-edge .ensures) in
+    (handed-on (c .code .ok) (c .code .ensures ∙ ap codeOf (q .0)), q .1)
+
+pub planner-insert-edge-spec : {M : Type 1} → statement M
+planner-insert-edge-spec =
+    tie.close (tie.spec insert-edge-requires code-requires same-length returns)

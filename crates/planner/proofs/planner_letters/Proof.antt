@@ -1,0 +1,22 @@
+-- `planner::planner_letters` meets its contract. Writes the letters of the ribbon through the step of dart and type, in the order of travel from it.
+-- Assumes nothing.
+use mathlib.Core.Path.{_∙_, ap}
+use Rattle.table.specs.Answers.{codeOf, handed-on}
+use borrow.Author.Needs.{needs}
+use Rattle.planner.proofs.planner_letters.Statement.{statement}
+use Rattle.planner.proofs.planner_letters.Tie as tie
+
+letters-requires : tie.Need-letters-requires
+letters-requires c κs = search needs
+
+code-requires : tie.Need-code-requires
+code-requires c κs = search needs
+
+same-length : tie.Need-same-length
+same-length c = search needs
+
+returns : tie.Need-returns
+returns c = (handed-on (c .code .ok) (c .code .ensures ∙ ap codeOf (c .before .before .before .letters .ensures .0)), c .before .before .before .letters .ensures .1)
+
+pub planner-letters-spec : {M : Type 1} → statement M
+planner-letters-spec = tie.close (tie.spec letters-requires code-requires same-length returns)

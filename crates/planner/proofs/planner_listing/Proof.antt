@@ -1,0 +1,22 @@
+-- `planner::planner_listing` meets its contract. Writes the listing of the table's walks, and answers its number of words.
+-- Assumes nothing.
+use mathlib.Core.Path.{_∙_, ap}
+use Rattle.table.specs.Answers.{codeOf, handed-on}
+use borrow.Author.Needs.{needs}
+use Rattle.planner.proofs.planner_listing.Statement.{statement}
+use Rattle.planner.proofs.planner_listing.Tie as tie
+
+list-requires : tie.Need-list-requires
+list-requires c κs = search needs
+
+code-requires : tie.Need-code-requires
+code-requires c κs = search needs
+
+same-length : tie.Need-same-length
+same-length c = search needs
+
+returns : tie.Need-returns
+returns c = (handed-on (c .code .ok) (c .code .ensures ∙ ap codeOf (c .before .before .before .list .ensures .0)), c .before .before .before .list .ensures .1)
+
+pub planner-listing-spec : {M : Type 1} → statement M
+planner-listing-spec = tie.close (tie.spec list-requires code-requires same-length returns)

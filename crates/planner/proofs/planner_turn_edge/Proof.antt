@@ -1,0 +1,24 @@
+-- `planner::planner_turn_edge` meets its contract. Turns edge e by an amount.
+-- Assumes nothing.
+use mathlib.Core.Path.{_∙_, ap, refl}
+use Rattle.table.specs.Answers.{codeOf, handed-on}
+use Rattle.edits.specs.Edits.{same-turn}
+use borrow.Author.Needs.{needs}
+use Rattle.planner.proofs.planner_turn_edge.Statement.{statement}
+use Rattle.planner.proofs.planner_turn_edge.Tie as tie
+
+turn-edge-requires : tie.Need-turn-edge-requires
+turn-edge-requires c κs = search needs
+
+code-requires : tie.Need-code-requires
+code-requires c κs = search needs
+
+same-length : tie.Need-same-length
+same-length c = search needs
+
+returns : tie.Need-returns
+returns c = let q = same-turn _ _ _ _ (c .before .before .before .before .before .before .args .e) (c .before .before .before .before .before .before .args .amount) (c .before .before .before .before .before .before .fits .amount) refl (c .before .before .before .turn-edge .ensures) in
+    (handed-on (c .code .ok) (c .code .ensures ∙ ap codeOf (q .0)), q .1)
+
+pub planner-turn-edge-spec : {M : Type 1} → statement M
+planner-turn-edge-spec = tie.close (tie.spec turn-edge-requires code-requires same-length returns)

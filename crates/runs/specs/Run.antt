@@ -1,0 +1,52 @@
+-- A run of edits, document 01, "Runs of edits": any list of the five edits with any arguments, over one table.
+-- Assumes nothing.
+use Prim.Native.Nat.{ℕ}
+use mathlib.Core.Path.{_≡_, refl}
+use mathlib.Core.List.{List, [], _∷_, _++_}
+use lib.IntN.{ℤ, pos, negsuc, _+ℤ_}
+use Rattle.table.specs.Rotation.{rotation}
+use Rattle.tracing.specs.Listing.{faceCount}
+use Rattle.surgery.specs.Change.{Change, less, as-many, more}
+use Rattle.edits.specs.Edits.{verdict, edited}
+use Rattle.edits.specs.Changes.{change}
+use Rattle.edits.specs.declared.edit.Edit.{Edit}
+use Rattle.edits.specs.declared.edit.Verdict.{Verdict}
+use Rattle.edits.specs.declared.edit.Verdict.the-variants.{Passes, Declines}
+
+-- "each edit gets it as the last one left it": the table after the run
+unfoldable pub run : List ℕ → List Edit → List ℕ
+run t [] = t
+run t (E ∷ Es) = run (edited t E) Es
+
+-- -1, 0 or +1
+abbrev pub number : Change → ℤ
+number less = negsuc 0
+number as-many = pos 0
+number more = pos 1
+
+-- "An accepted addition of a vertex counts +1, a removal -1, any other accepted edit the change given under "Edits", read on the
+-- table just before that edit; a declined one counts 0."
+abbrev pub callsBy : Verdict → Change → ℤ
+callsBy Passes c = number c
+callsBy (Declines r) c = pos 0
+
+unfoldable pub calls : List ℕ → Edit → ℤ
+calls t E = callsBy (verdict t E) (change t E)
+
+-- what the rules call for in the whole run
+unfoldable pub called : List ℕ → List Edit → ℤ
+called t [] = pos 0
+called t (E ∷ Es) = calls t E +ℤ called (edited t E) Es
+
+-- "Its start count is the number of listed walks before the run."
+abbrev pub faceNumber : List ℕ → ℤ
+faceNumber t = pos (faceCount (rotation t))
+
+pub run-append : (t : List ℕ) (Es Fs : List Edit) → run t (Es ++ Fs) ≡ run (run t Es) Fs
+unfolding run
+run-append t [] Fs = refl
+run-append t (E ∷ Es) Fs = run-append (edited t E) Es Fs
+
+pub run-one : (t : List ℕ) (E : Edit) → run t (E ∷ []) ≡ edited t E
+unfolding run
+run-one t E = refl

@@ -1,0 +1,1 @@
+// Runs of edits: the theorem about a whole run stands in specs/.

@@ -1,0 +1,47 @@
+-- `mesh::one_root` meets its contract, a return for each case: no vertex, a larger one of its part, the smallest.
+use Rattle.surface.specs.Mesh.{root-none, root-other, root-yes}
+use native.Mathlib.Omega.{arith}
+use borrow.Author.Needs.{needs}
+use Rattle.surface.proofs.mesh.one_root.Statement.{statement}
+use Rattle.surface.proofs.mesh.one_root.Tie as tie
+
+add-if1 : tie.Need-add-if1
+add-if1 c = search needs
+
+mul-if1 : tie.Need-mul-if1
+mul-if1 c = search needs
+
+shared-slice-read-if1 : tie.Need-shared-slice-read-if1
+shared-slice-read-if1 c = search needs
+
+returns : tie.Need-returns
+returns c = root-none (c .before .before .args .t .now) (c .before .before .pre .0) (c .before .before .args .v) (c .before .before .pre .1) (c .if1 .taken)
+
+mul-if2 : tie.Need-mul-if2
+mul-if2 c = search needs
+
+element-copy-out-if2 : tie.Need-element-copy-out-if2
+element-copy-out-if2 c = search needs
+
+cast-if2 : tie.Need-cast-if2
+cast-if2 c = let n = c .before .before .before .pre .0 .low _ (c .before .before .before .pre .1) in omega arith
+
+returns-2 : tie.Need-returns-2
+returns-2 c = root-other (c .before .before .before .before .args .t .now) (c .before .before .before .before .pre .0) (c .before .before .before .before .args .v) (c .before .before .before .before .pre .1) (c .if2 .taken)
+
+returns-3 : tie.Need-returns-3
+returns-3 c = root-yes (c .before .before .before .before .args .t .now) (c .before .before .before .before .pre .0) (c .before .before .before .before .args .v) (c .before .before .before .before .pre .1) (c .before .before .if1 .left) (c .if2 .left)
+
+pub one-root-spec : {M : Type 1} → statement M
+one-root-spec =
+    tie.close
+    (tie.spec
+    add-if1
+    mul-if1
+    shared-slice-read-if1
+    returns
+    mul-if2
+    element-copy-out-if2
+    cast-if2
+    returns-2
+    returns-3)

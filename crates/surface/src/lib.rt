@@ -1,0 +1,5 @@
+// Connected parts of a mesh, their Euler numbers, orientability.
+pub mod forest;
+pub mod mesh;
+pub mod rows;
+pub mod tally;

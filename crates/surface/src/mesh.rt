@@ -9,7 +9,6 @@ use table::layout::VERTICES;
 use tracing::count::face_count;
 ghost use mathlib.Core.Path.{_≡_};
 ghost use Prim.Native.Nat.{_*_, _<_};
-ghost use lib.ListN.{length};
 ghost use Rattle.table.specs.Layout.{vertices, edges};
 ghost use Rattle.table.specs.Good.{Good};
 ghost use Rattle.table.specs.Rotation.{rotation, there?, live?};

@@ -6,7 +6,6 @@ use table::layout::NOTHING;
 use table::layout::VERTEX;
 use table::layout::VERTICES;
 ghost use mathlib.Core.Path.{_≡_};
-ghost use mathlib.Core.Bool.{Bool};
 ghost use Prim.Native.Nat.{_+_, _<_, _≤_};
 ghost use lib.Dec.{eqb};
 ghost use lib.ListN.{length};
@@ -15,8 +14,6 @@ ghost use Rattle.table.specs.Layout.{vertices};
 ghost use Rattle.table.specs.Good.{Good};
 ghost use Rattle.table.specs.Rotation.{rotation};
 ghost use Rattle.surface.specs.Rows.{flagOf, rowOf, rows, Written};
-ghost use Rattle.surface.specs.Tallying.{PartTally};
-ghost use Rattle.surface.specs.Tally.{Keyed};
 ghost use Rattle.surface.specs.Rowing.{Turn, Turned, Rowing};
 
 // 1 if there are none, else 0.

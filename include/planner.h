@@ -8,7 +8,7 @@
  * Every function returns int64_t: the answer, 0 or more, or minus the number of the refusal. A declined call
  * leaves every lent slice as it was.
  *
- * A call needs less than 16 KiB of stack, and its time grows with the number of live darts.
+ * A call needs less than 16 KiB of stack. Its time is at most linear in the size of the table, which it checks first.
  *
  * Link with libplanner.a.
  */

@@ -21,3 +21,4 @@ pub mod Rows
 pub mod Rowing
 pub mod Tables
 pub mod Mesh
+pub mod Calls

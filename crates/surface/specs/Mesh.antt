@@ -133,6 +133,7 @@ pub record MeshCounts (R : Rotation) (v e f p : ℕ) (x : ℤ) : Type 0 where
   pub walks-are : f ≡ faceCount R
   pub parts-are : p ≡ length (parts R)
   pub euler-is : x ≡ meshEuler R
+  pub euler-fits : SFits w32 x
 
 -- the word that holds V-E+F
 pub mesh-counts : {R : Rotation} → Lawful R → {v e f p : ℕ} {x : ℤ} → Counted (R .there) vertices v → Counted (λ e. R .live (2 * e)) edges e → f ≡ faceCount R
@@ -145,10 +146,12 @@ mesh-counts {R} L {v} {e} {f} A B F P X =
     let b = B .few in
     let c = faces-low L in
     let fits : SFits w32 (eulerOf v e f) = euler-sfits v e f (omega arith) (omega arith) (omega arith) in
+    let word = ap (λ z. toZ w32 (ofZ w32 z)) X ∙ toZ-ofZ fits in
     record {
       vertices-are = p;
       edges-are = q;
       walks-are = F;
       parts-are = P .passed ∙ sym (parts-count R);
-      euler-is = ap (λ z. toZ w32 (ofZ w32 z)) X ∙ toZ-ofZ fits ∙ rw (p, q, F);
+      euler-is = word ∙ rw (p, q, F);
+      euler-fits = rw word fits;
     }

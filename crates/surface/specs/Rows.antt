@@ -4,7 +4,6 @@
 use Prim.Native.Nat.{ℕ, zero, suc, _+_, _<_, _≤_}
 use native.Mathlib.Omega.{arith}
 use native.Mathlib.Numerals.{add-one, towards-suc}
-use native.Mathlib.Nat.{add-zero}
 use native.Mathlib.Decide.{ℕ-discrete}
 use mathlib.Core.Path.{_≡_, refl, sym, _∙_, ap}
 use mathlib.Core.Bool.{Bool, true, false}
@@ -14,6 +13,7 @@ use lib.Seq.{sets, length-sets}
 use lib.IntN.{ℤ, pos}
 use Rattle.table.specs.Layout.{vertices}
 use Rattle.table.specs.Rotation.{Rotation}
+use Rattle.table.specs.Output.{sets-append}
 use Rattle.surface.specs.Labels.{inPart, orientable}
 use Rattle.surface.specs.Counts.{verticesIn, edgesIn, walksIn}
 use Rattle.surface.specs.Sums.{root?}
@@ -41,10 +41,6 @@ rowIf R b r = elim b [ true ↦ row R r | false ↦ [] ]
 unfoldable pub rows : Rotation → ℕ → List ℤ
 rows R zero = []
 rows R (suc r) = rows R r ++ rowIf R (root? R r) r
-
-sets-append : (l : List ℤ) (i : ℕ) (a b : List ℤ) → sets l i (a ++ b) ≡ sets (sets l i a) (i + length a) b
-sets-append l i [] b = rw add-zero
-sets-append l i (x ∷ a) b = sets-append (set l i x) (suc i) a b ∙ ap (λ k. sets (sets (set l i x) (suc i) a) k b) (omega arith)
 
 -- the rows of the parts labelled below n stand at the front
 pub record Written (R : Rotation) (n at : ℕ) (out₀ out : List ℤ) : Type 0 where

@@ -61,6 +61,7 @@ fn one_root(t: &[u16], up: &[u16; 512], v: usize) -> u16
     1
 }
 
+// V.
 fn live_vertices(t: &[u16]) -> u16
     requires { ⌜ Good (now t) ⌝ }
     ensures { λ n. ⌜ Counted (there? (now (t .entry))) vertices n ⌝ }
@@ -75,6 +76,7 @@ fn live_vertices(t: &[u16]) -> u16
     n
 }
 
+// E.
 fn live_edges(t: &[u16]) -> u16
     requires { ⌜ Good (now t) ⌝ }
     ensures { λ n. ⌜ Counted (λ e. live? (now (t .entry)) (2 * e)) edges n ⌝ }
@@ -89,7 +91,8 @@ fn live_edges(t: &[u16]) -> u16
     n
 }
 
-fn roots(t: &[u16], up: &[u16; 512]) -> u16
+// The number of parts.
+pub fn roots(t: &[u16], up: &[u16; 512]) -> u16
     requires { ⌜ Keyed (now t) (now up) ⌝ }
     ensures { λ n. ⌜ Counted (root? (rotation (now (t .entry)))) vertices n ⌝ }
 {

@@ -13,6 +13,7 @@ ghost use lib.Seq.{sets};
 ghost use Rattle.table.specs.Layout.{vertices};
 ghost use Rattle.table.specs.Good.{Good};
 ghost use Rattle.table.specs.Rotation.{rotation};
+ghost use Rattle.surface.specs.Linking.{Labelled};
 ghost use Rattle.surface.specs.Rows.{flagOf, rowOf, rows, Written};
 ghost use Rattle.surface.specs.Rowing.{Turn, Turned, Rowing};
 
@@ -86,7 +87,20 @@ fn write_rows(
     at
 }
 
-// The parts of a good table, written out. Answers how many words they are.
+// The rows of the parts that are labelled, upward. Answers how many words they are.
+pub fn labelled_rows(t: &[u16], up: &[u16; 512], turn: &[u8; 512], out: &mut [i32]) -> usize
+    requires { ⌜ Good (now t) × Labelled (now t) (now up) (now turn) × (length (rows (rotation (now t)) vertices) ≤ length (now out)) ⌝ }
+    ensures { λ n. ⌜ Written (rotation (now (t .entry))) vertices n (now (out .entry)) (now (out .exit)) ⌝ }
+{
+    let mut vs = [0u16; 512];
+    let mut es = [0u16; 512];
+    let mut fs = [0u16; 512];
+    let mut odd = [0u16; 512];
+    tally_parts(t, up, turn, &mut vs, &mut es, &mut fs, &mut odd);
+    write_rows(t, up, &vs, &es, &fs, &odd, out)
+}
+
+// The rows of the parts of a good table. Answers how many words they are.
 pub fn parts(t: &[u16], out: &mut [i32]) -> usize
     requires { ⌜ Good (now t) × (length (rows (rotation (now t)) vertices) ≤ length (now out)) ⌝ }
     ensures { λ n. ⌜ Written (rotation (now (t .entry))) vertices n (now (out .entry)) (now (out .exit)) ⌝ }
@@ -94,10 +108,5 @@ pub fn parts(t: &[u16], out: &mut [i32]) -> usize
     let mut up = [0u16; 512];
     let mut turn = [0u8; 512];
     label_parts(t, &mut up, &mut turn);
-    let mut vs = [0u16; 512];
-    let mut es = [0u16; 512];
-    let mut fs = [0u16; 512];
-    let mut odd = [0u16; 512];
-    tally_parts(t, &up, &turn, &mut vs, &mut es, &mut fs, &mut odd);
-    write_rows(t, &up, &vs, &es, &fs, &odd, out)
+    labelled_rows(t, &up, &turn, out)
 }

@@ -11,3 +11,4 @@ pub mod Cycle
 pub mod Vertices
 pub mod Check
 pub mod Empty
+pub mod Output

@@ -3,16 +3,17 @@ use Prim.Native.Nat.{ℕ, zero, suc, _+_, _-_, _*_, _/_, _<_, _≤_}
 use native.Mathlib.Omega.{arith}
 use native.Mathlib.Numerals.{add-one}
 use native.Mathlib.Decide.{ℕ-discrete}
-use native.Mathlib.Nat.{add-zero, zero-add}
+use native.Mathlib.Nat.{zero-add}
 use mathlib.Core.Path.{_≡_, refl, _∙_, ap}
 use mathlib.Core.List.{List, [], _∷_, _++_, map, map-append}
 use mathlib.Core.Logic.{_≢_}
-use lib.ListN.{length, set, drop, length-append, length-set}
-use lib.Seq.{sets, sets-eq, length-sets}
+use lib.ListN.{length, set, length-append, length-set}
+use lib.Seq.{sets, length-sets}
 use Rattle.table.specs.Layout.{vertices, darts, isolated, vertexWord}
 use Rattle.table.specs.Good.{Good}
 use Rattle.table.specs.Rotation.{Rotation, rotation, alone?, alone-yes, alone-word}
 use Rattle.table.specs.Lawful.{good-lawful}
+use Rattle.table.specs.Output.{front, sets-front, sets-append}
 use Rattle.orbits.specs.Truth.{false-unless}
 use Rattle.tracing.specs.declared.count.Size.{Size}
 use Rattle.tracing.specs.Step.{step}
@@ -24,10 +25,6 @@ use Rattle.tracing.specs.Marks.{mark, unmarked}
 use Rattle.tracing.specs.Size.{InRange, Looked, unmet, Seen, seen-none, seen-range, seen-more, unmet-fresh, unmet-case, no-start, begins}
 
 -- stores one after another
-
-pub sets-append : (l : List ℕ) (i : ℕ) (a b : List ℕ) → sets l i (a ++ b) ≡ sets (sets l i a) (i + length a) b
-sets-append l i [] b = rw add-zero
-sets-append l i (x ∷ a) b = sets-append (set l i x) (suc i) a b ∙ ap (λ k. sets (sets (set l i x) (suc i) a) k b) (omega arith)
 
 -- the loop that writes a walk
 pub record Stepping (t : List ℕ) (s start : ℕ) (out₀ : List ℕ) (n at : ℕ) (out : List ℕ) : Type 0 where
@@ -274,17 +271,14 @@ ending-more {t} {v} k h e =
       front = rw (add-one, lonesText-suc R v) (front-more (gather (written R) (map loneCorner (lone R v))) (k .front) (e .end) (e .words));
     }
 
--- the listing at the front of a slice, the rest of which keeps its words
-abbrev pub listed : Rotation → List ℕ → List ℕ
-listed R out = listing R ++ drop (length (listing R)) out
-
+-- the walks and then the isolated vertices: the listing, at the front of the slice
 pub listed-parts : {t out : List ℕ} {r : ℕ} {mid out′ : List ℕ} → length (listing (rotation t)) ≤ length out → WroteWalks t out r mid
-    → out′ ≡ sets mid r (lonesText (rotation t) 512) → out′ ≡ listed (rotation t) out
+    → out′ ≡ sets mid r (lonesText (rotation t) 512) → out′ ≡ front (listing (rotation t)) out
 listed-parts {t} {out} {r} {mid} {out′} h k e =
     let R = rotation t in
     let joined : out′ ≡ sets out 0 (listing R) =
     e ∙ rw (listing-parts R, sets-append out 0 (walksText R darts) (lonesText R vertices), zero-add, k .words, k .end) in
-    joined ∙ sets-eq (listing R) out 0 (rw zero-add h) ∙ rw zero-add
+    joined ∙ sets-front (listing R) out h
 
 pub walks-room : (R : Rotation) (n : ℕ) → length (listing R) ≤ n → length (walksText R 2048) ≤ n
 walks-room R n h = let size = ap length (listing-parts R) ∙ length-append (walksText R darts) (lonesText R vertices) in omega arith

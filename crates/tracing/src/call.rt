@@ -3,7 +3,7 @@ use crate::count::measure;
 use crate::listing::write_listing;
 use table::answer::Answer;
 use table::answer::Refusal;
-use table::whole::check;
+use table::whole::is_good;
 ghost use mathlib.Core.Path.{_≡_};
 ghost use lib.ListN.{length};
 ghost use Rattle.tracing.specs.Call.{listAnswer, listOut};
@@ -12,9 +12,9 @@ ghost use Rattle.tracing.specs.Call.{listAnswer, listOut};
 pub fn list(t: &[u16], out: &mut [u16]) -> Answer
     ensures { λ r. ⌜ (r ≡ listAnswer (now (t .entry)) (length (now (out .entry)))) × (now (out .exit) ≡ listOut (now (t .entry)) (now (out .entry))) ⌝ }
 {
-    let Answer::Done(_) = check(t) else {
+    if !is_good(t) {
         return Answer::Declined(Refusal::Torn);
-    };
+    }
     let n = measure(t).words;
     if out.len() < n {
         return Answer::Declined(Refusal::ShortSlice);

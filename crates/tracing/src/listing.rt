@@ -12,11 +12,12 @@ ghost use Prim.Native.Nat.{_+_, _≤_};
 ghost use lib.ListN.{length};
 ghost use lib.Seq.{sets};
 ghost use Rattle.table.specs.Good.{Good};
+ghost use Rattle.table.specs.Output.{front};
 ghost use Rattle.table.specs.Rotation.{rotation};
 ghost use Rattle.tracing.specs.Walk.{walk};
 ghost use Rattle.tracing.specs.Listing.{listing};
 ghost use Rattle.tracing.specs.Stands.{Stands};
-ghost use Rattle.tracing.specs.Writing.{RoomAt, Entered, RoomLone, EnteredLone, walksText, lonesText, WroteWalks, listed};
+ghost use Rattle.tracing.specs.Writing.{RoomAt, Entered, RoomLone, EnteredLone, walksText, lonesText, WroteWalks};
 
 // The number of words of the listing.
 pub fn listing_words(t: &[u16]) -> usize
@@ -102,7 +103,7 @@ fn write_lones(t: &[u16], out: &mut [u16], start: usize)
 // The listing, at the front of a slice that is long enough. The rest keeps its words.
 pub fn write_listing(t: &[u16], out: &mut [u16])
     requires { ⌜ Good (now t) × (length (listing (rotation (now t))) ≤ length (now out)) ⌝ }
-    ensures { λ _. ⌜ now (out .exit) ≡ listed (rotation (now (t .entry))) (now (out .entry)) ⌝ }
+    ensures { λ _. ⌜ now (out .exit) ≡ front (listing (rotation (now (t .entry)))) (now (out .entry)) ⌝ }
 {
     let at = write_walks(t, out);
     write_lones(t, out, at);

@@ -4,17 +4,16 @@ use Prim.Native.Nat.{ℕ, _+_, _*_, _/_, _<_, _≤_}
 use native.Mathlib.Omega.{arith}
 use mathlib.Core.Path.{_≡_, refl, sym, _∙_, ap}
 use mathlib.Core.Bool.{Bool, true, false, _&&_}
-use mathlib.Core.List.{List, _++_}
-use native.Mathlib.Nat.{zero-add}
+use mathlib.Core.List.{List}
 use lib.Dec.{ltb, leb}
-use lib.ListN.{length, drop}
-use lib.Seq.{sets, sets-eq}
+use lib.ListN.{length}
+use lib.Seq.{sets}
 use borrow.Author.Tests.{lt-ltb, le-ltb, le-leb, lt-leb, ltb-true}
 use Rattle.orbits.specs.Truth.{truth, holds, fails, both-right}
 use Rattle.table.specs.Layout.{darts, edgeOf, edgeWord}
-use Rattle.table.specs.Good.{Good}
 use Rattle.table.specs.Rotation.{live?, yes-live, not-live, case-yes}
 use Rattle.table.specs.Check.{good?, good-case}
+use Rattle.table.specs.Output.{sized, ifGood, outBy, sets-front}
 use Rattle.table.specs.declared.answer.Answer.{Answer}
 use Rattle.table.specs.declared.answer.Answer.the-variants.{Done, Declined}
 use Rattle.table.specs.declared.answer.Refusal.{Refusal}
@@ -48,18 +47,10 @@ abbrev pub alternatesOf : List ℕ → ℕ → ℕ → Answer
 alternatesOf t d k = alternatesBy t (namedStep t d k)
 
 -- 1 if the weave is plain, and 0 if not
-abbrev pub plainBy : Bool → Bool → Answer
-plainBy true b = Done (bit b)
-plainBy false b = Declined Torn
-
 abbrev pub plainOf : List ℕ → Answer
-plainOf t = plainBy (good? t) (plain t)
+plainOf t = ifGood (good? t) (Done (bit (plain t)))
 
 -- the number of letters, if n places are enough for them
-abbrev pub sized : Bool → ℕ → Answer
-sized true n = Done n
-sized false n = Declined ShortSlice
-
 abbrev pub lettersBy : List ℕ → ℕ → Named → Answer
 lettersBy t n (There s) = let l = length (letters t s) in sized (leb l n) l
 lettersBy t n (Refused r) = Declined r
@@ -67,17 +58,8 @@ lettersBy t n (Refused r) = Declined r
 abbrev pub lettersOf : List ℕ → ℕ → ℕ → ℕ → Answer
 lettersOf t d k n = lettersBy t n (namedStep t d k)
 
--- "A declined call returns its number alone; all lent slices keep their contents. An accepted call changes nothing past its output's exact size."
-abbrev pub outBy : Answer → List ℕ → List ℕ → List ℕ
-outBy (Done n) text out = text ++ drop (length text) out
-outBy (Declined r) text out = out
-
 abbrev pub lettersOut : List ℕ → ℕ → ℕ → List ℕ → List ℕ
 lettersOut t d k out = outBy (lettersOf t d k (length out)) (letters t (2 * d + k)) out
-
--- a table that passed the check
-pub checked : {t : List ℕ} → good? t ≡ true → Good t
-checked {t} g = case-yes (good-case t) g
 
 -- the ends of the naming
 
@@ -120,7 +102,7 @@ module _ (t : List ℕ) (d k : ℕ) where
             let f : There s ≡ There (2 * d + k) = rw (g, n, l) at e in
             let word : s ≡ 2 * d + k = cc in
             let half : s / 2 ≡ d = omega arith in
-            record { stands = record { good = checked g; live = rw half l }; word = word }
+            record { stands = record { good = case-yes (good-case t) g; live = rw half l }; word = word }
       ]
     ]
   ]
@@ -153,7 +135,7 @@ module _ (t : List ℕ) (d k : ℕ) {n : Named} (e : n ≡ namedStep t d k) wher
       let word = there-steps t d k (sym f ∙ e) .word in
       let room : length (letters t s) ≤ length out = omega arith in
       rw (← e, f, le-leb (length (letters t s)) (length out) room, ← word)
-      (ap Done count, w ∙ sets-eq (letters t s) out 0 (rw zero-add room) ∙ rw zero-add)
+      (ap Done count, w ∙ sets-front (letters t s) out room)
 
 module _ (t : List ℕ) where
   pub plain-torn : good? t ≡ false → Declined Torn ≡ plainOf t

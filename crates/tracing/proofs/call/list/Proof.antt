@@ -1,30 +1,25 @@
 -- `call::list` meets its contract: torn, short or written.
-use Rattle.tracing.specs.Call.{passed-good, failed-torn, list-torn, list-short, list-done}
 use native.Mathlib.Omega.{arith}
+use Rattle.table.specs.Check.{seen-good, seen-torn}
+use Rattle.table.specs.Output.{output-torn, output-short, output-done}
 use borrow.Author.Needs.{needs}
 use Rattle.tracing.proofs.call.list.Statement.{statement}
 use Rattle.tracing.proofs.call.list.Tie as tie
 
-check-requires : tie.Need-check-requires
-check-requires c κs = search needs
-
-enum-told : tie.Need-enum-told
-enum-told c = search needs
-
-enum-told-2 : tie.Need-enum-told-2
-enum-told-2 c = search needs
+is-good-requires : tie.Need-is-good-requires
+is-good-requires c κs = search needs
 
 returns : tie.Need-returns
-returns c = list-torn _ _ (failed-torn (c .before .before .check .ensures) (c .enum-told2 .given .1))
+returns c = output-torn _ _ _ (seen-torn _ (c .before .is-good .ensures) (c .if1 .taken))
 
 measure-requires : tie.Need-measure-requires
-measure-requires c κs = passed-good (c .before .before .check .ensures) (c .enum-told .given .1)
+measure-requires c κs = seen-good _ (c .before .is-good .ensures) (c .if1 .left) .1
 
 returns-2 : tie.Need-returns-2
-returns-2 c = list-short _ _ (passed-good (c .before .before .before .before .check .ensures) (c .before .before .enum-told .given .1)) (let m = c .before .measure .ensures in omega arith)
+returns-2 c = output-short _ _ _ (seen-good _ (c .before .before .before .is-good .ensures) (c .before .before .if1 .left) .0) (let m = c .before .measure .ensures in omega arith)
 
 write-listing-requires : tie.Need-write-listing-requires
-write-listing-requires c κs = (passed-good (c .before .before .before .before .before .check .ensures) (c .before .before .before .enum-told .given .1), (let m = c .before .before .measure .ensures in omega arith))
+write-listing-requires c κs = (seen-good _ (c .before .before .before .before .is-good .ensures) (c .before .before .before .if1 .left) .1, (let m = c .before .before .measure .ensures in omega arith))
 
 cast-t13 : tie.Need-cast-t13
 cast-t13 c = search needs
@@ -33,15 +28,13 @@ same-length : tie.Need-same-length
 same-length c = search needs
 
 returns-3 : tie.Need-returns-3
-returns-3 c = list-done _ _ (passed-good (c .before .before .before .before .before .before .before .before .check .ensures) (c .before .before .before .before .before .before .enum-told .given .1)) (c .before .before .before .before .before .measure .ensures .words) (let m = c .before .before .before .before .before .measure .ensures in omega arith) (c .before .before .write-listing .ensures)
+returns-3 c = output-done _ _ _ (seen-good _ (c .before .before .before .before .before .before .before .is-good .ensures) (c .before .before .before .before .before .before .if1 .left) .0) (c .before .before .before .before .before .measure .ensures .words) (let m = c .before .before .before .before .before .measure .ensures in omega arith) (c .before .before .write-listing .ensures)
 
 pub list-spec : {M : Type 1} → statement M
 list-spec =
     tie.close
     (tie.spec
-    check-requires
-    enum-told
-    enum-told-2
+    is-good-requires
     returns
     measure-requires
     returns-2

@@ -1,8 +1,7 @@
 -- `call::named_step` meets its contract, a return for each refusal in its order: torn, no such name, absent.
 use native.Mathlib.Omega.{arith}
-use mathlib.Core.Path.{sym, _∙_}
-use borrow.Author.Tests.{not-true, not-false}
-use Rattle.weave.specs.Calls.{named-torn, named-past, named-type, named-dead, named-there, checked}
+use Rattle.table.specs.Check.{seen-good, seen-torn}
+use Rattle.weave.specs.Calls.{named-torn, named-past, named-type, named-dead, named-there}
 use borrow.Author.Needs.{needs}
 use Rattle.weave.proofs.call.named_step.Statement.{statement}
 use Rattle.weave.proofs.call.named_step.Tie as tie
@@ -11,13 +10,13 @@ is-good-requires : tie.Need-is-good-requires
 is-good-requires c κs = search needs
 
 returns : tie.Need-returns
-returns c = named-torn _ _ _ (sym (c .before .is-good .ensures) ∙ not-true _ (c .if1 .taken))
+returns c = named-torn _ _ _ (seen-torn _ (c .before .is-good .ensures) (c .if1 .taken))
 
 returns-2 : tie.Need-returns-2
-returns-2 c = named-past _ _ _ (sym (c .before .before .is-good .ensures) ∙ not-false _ (c .before .if1 .left)) (c .if2 .taken)
+returns-2 c = named-past _ _ _ (seen-good _ (c .before .before .is-good .ensures) (c .before .if1 .left) .0) (c .if2 .taken)
 
 returns-3 : tie.Need-returns-3
-returns-3 c = named-type _ _ _ (sym (c .before .before .before .is-good .ensures) ∙ not-false _ (c .before .before .if1 .left)) (c .before .if2 .left) (c .if3 .taken)
+returns-3 c = named-type _ _ _ (seen-good _ (c .before .before .before .is-good .ensures) (c .before .before .if1 .left) .0) (c .before .if2 .left) (c .if3 .taken)
 
 add-if4 : tie.Need-add-if4
 add-if4 c = search needs
@@ -26,10 +25,10 @@ mul-if4 : tie.Need-mul-if4
 mul-if4 c = search needs
 
 shared-slice-read-if4 : tie.Need-shared-slice-read-if4
-shared-slice-read-if4 c = let size = checked (sym (c .before .before .before .before .is-good .ensures) ∙ not-false _ (c .before .before .before .if1 .left)) .size in omega arith
+shared-slice-read-if4 c = let size = seen-good _ (c .before .before .before .before .is-good .ensures) (c .before .before .before .if1 .left) .1 .size in omega arith
 
 returns-4 : tie.Need-returns-4
-returns-4 c = named-dead _ _ _ (sym (c .before .before .before .before .before .is-good .ensures) ∙ not-false _ (c .before .before .before .before .if1 .left)) (c .before .before .before .if2 .left) (c .before .before .if3 .left) (c .if4 .taken)
+returns-4 c = named-dead _ _ _ (seen-good _ (c .before .before .before .before .before .is-good .ensures) (c .before .before .before .before .if1 .left) .0) (c .before .before .before .if2 .left) (c .before .before .if3 .left) (c .if4 .taken)
 
 mul-t14 : tie.Need-mul-t14
 mul-t14 c = search needs
@@ -38,7 +37,7 @@ add-t16 : tie.Need-add-t16
 add-t16 c = search needs
 
 returns-5 : tie.Need-returns-5
-returns-5 c = named-there _ _ _ (sym (c .before .before .before .before .before .is-good .ensures) ∙ not-false _ (c .before .before .before .before .if1 .left)) (c .before .before .before .if2 .left) (c .before .before .if3 .left) (c .if4 .left)
+returns-5 c = named-there _ _ _ (seen-good _ (c .before .before .before .before .before .is-good .ensures) (c .before .before .before .before .if1 .left) .0) (c .before .before .before .if2 .left) (c .before .before .if3 .left) (c .if4 .left)
 
 pub named-step-spec : {M : Type 1} → statement M
 named-step-spec =

@@ -1,0 +1,22 @@
+-- `rows::labelled_rows` meets its contract: counts, then rows.
+use Rattle.surface.specs.Tally.{labelled-keyed}
+use Rattle.surface.specs.Rowing.{rowing-none}
+use borrow.Author.Needs.{needs}
+use Rattle.surface.proofs.rows.labelled_rows.Statement.{statement}
+use Rattle.surface.proofs.rows.labelled_rows.Tie as tie
+
+tally-parts-requires : tie.Need-tally-parts-requires
+tally-parts-requires c κs = search needs
+
+write-rows-requires : tie.Need-write-rows-requires
+write-rows-requires c κs = rowing-none (labelled-keyed (c .before .before .before .before .before .before .before .before .before .before .before .pre .0) (c .before .before .before .before .before .before .before .before .before .before .before .pre .1)) (c .before .before .before .before .before .tally-parts .ensures) (c .before .before .before .before .before .before .before .before .before .before .before .pre .2)
+
+same-length : tie.Need-same-length
+same-length c = search needs
+
+returns : tie.Need-returns
+returns c = search needs
+
+pub labelled-rows-spec : {M : Type 1} → statement M
+labelled-rows-spec =
+    tie.close (tie.spec tally-parts-requires write-rows-requires same-length returns)

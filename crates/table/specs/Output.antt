@@ -1,0 +1,69 @@
+-- A call that writes an output to the front of a lent slice, document 01, "When a call declines": torn, then a slice shorter than
+-- "the output's exact size". The output may be of any kind of word.
+-- Assumes nothing.
+use Prim.Native.Nat.{ℕ, suc, _+_, _<_, _≤_}
+use native.Mathlib.Omega.{arith}
+use native.Mathlib.Nat.{add-zero, zero-add}
+use mathlib.Core.Path.{_≡_, refl, _∙_, ap}
+use mathlib.Core.Bool.{Bool, true, false}
+use mathlib.Core.List.{List, [], _∷_, _++_}
+use lib.Dec.{leb}
+use lib.ListN.{length, set, drop}
+use lib.Seq.{sets, sets-eq}
+use borrow.Author.Tests.{le-leb, lt-leb}
+use Rattle.table.specs.Check.{good?}
+use Rattle.table.specs.declared.answer.Answer.{Answer}
+use Rattle.table.specs.declared.answer.Answer.the-variants.{Done, Declined}
+use Rattle.table.specs.declared.answer.Refusal.the-variants.{Torn, ShortSlice}
+
+-- the size, if there is room for it
+abbrev pub sized : Bool → ℕ → Answer
+sized true n = Done n
+sized false n = Declined ShortSlice
+
+-- torn, unless the table is good
+abbrev pub ifGood : Bool → Answer → Answer
+ifGood true a = a
+ifGood false a = Declined Torn
+
+-- "An accepted call changes nothing past its output's exact size."
+abbrev pub front : {A : Type 0} → List A → List A → List A
+front text out = text ++ drop (length text) out
+
+-- "A declined call returns its number alone; all lent slices and records keep their contents."
+abbrev pub outBy : {A : Type 0} → Answer → List A → List A → List A
+outBy (Done n) text out = front text out
+outBy (Declined r) text out = out
+
+-- what a call answers that writes `text` of table t to a slice of n words
+unfoldable pub outputAnswer : {A : Type 0} → List ℕ → List A → ℕ → Answer
+outputAnswer t text n = ifGood (good? t) (sized (leb (length text) n) (length text))
+
+-- what it leaves in the slice
+unfoldable pub outputOut : {A : Type 0} → List ℕ → List A → List A → List A
+outputOut t text out = outBy (outputAnswer t text (length out)) text out
+
+-- text that is stored word by word
+
+pub sets-append : {A : Type 0} (l : List A) (i : ℕ) (a b : List A) → sets l i (a ++ b) ≡ sets (sets l i a) (i + length a) b
+sets-append l i [] b = rw add-zero
+sets-append l i (x ∷ a) b = sets-append (set l i x) (suc i) a b ∙ ap (λ k. sets (sets (set l i x) (suc i) a) k b) (omega arith)
+
+pub sets-front : {A : Type 0} (text out : List A) → length text ≤ length out → sets out 0 text ≡ front text out
+sets-front text out h = sets-eq text out 0 (rw zero-add h) ∙ rw zero-add
+
+-- the three ends of such a call
+
+module _ {A : Type 0} (t : List ℕ) (text out : List A) where
+  pub output-torn : good? t ≡ false → (Declined Torn ≡ outputAnswer t text (length out)) × (out ≡ outputOut t text out)
+  unfolding outputAnswer outputOut
+  output-torn g = rw g (refl, refl)
+
+  pub output-short : good? t ≡ true → length out < length text → (Declined ShortSlice ≡ outputAnswer t text (length out)) × (out ≡ outputOut t text out)
+  unfolding outputAnswer outputOut
+  output-short g h = rw (g, lt-leb (length text) (length out) h) (refl, refl)
+
+  pub output-done : {n : ℕ} {out′ : List A} → good? t ≡ true → n ≡ length text → length text ≤ length out → out′ ≡ front text out
+      → (Done n ≡ outputAnswer t text (length out)) × (out′ ≡ outputOut t text out)
+  unfolding outputAnswer outputOut
+  output-done g e h w = rw (g, le-leb (length text) (length out) h) (ap Done e, w)

@@ -72,6 +72,21 @@ int64_t planner_check(const uint16_t *table, size_t words);
 int64_t planner_listing(const uint16_t *table, size_t words, uint16_t *out, size_t out_words);
 
 /*
+ * Counts. V, E and F are live vertices, live edges and listed walks; the Euler number is V-E+F, signed. Words of `out`
+ * past those written are not changed. Both decline: PLANNER_TORN; PLANNER_SHORT_SLICE if what they write does not fit.
+ */
+
+/* Writes V, E, F, the number of connected parts and the Euler number of the mesh to the front of `out`. Answers 5. */
+int64_t planner_counts(const uint16_t *table, size_t words, int32_t *out, size_t out_words);
+
+/*
+ * Writes six words for each connected part to the front of `out`, the parts in the order of their smallest vertices:
+ * smallest vertex, V, E, F, Euler number, and 1 if the part is orientable, else 0. Answers the number of words, 3,072
+ * at most.
+ */
+int64_t planner_parts(const uint16_t *table, size_t words, int32_t *out, size_t out_words);
+
+/*
  * The five edits. Each answers the new number of faces: walks that the listing of the edited table has.
  * A corner is named by the dart that ends it, counterclockwise, or is PLANNER_LONE_CORNER + v for the corner of
  * the isolated vertex v. Refusals are tested in the order in which they are listed.

@@ -8,6 +8,7 @@ ghost use Rattle.table.specs.Check.{checkOf};
 ghost use Rattle.table.specs.Empty.{emptyOf, emptied};
 ghost use Rattle.tracing.specs.Call.{listAnswer, listOut};
 ghost use Rattle.edits.specs.Edits.{answer, edited};
+ghost use Rattle.surface.specs.Calls.{countsAnswer, countsOut, partsAnswer, partsOut};
 ghost use Rattle.weave.specs.Calls.{alternatesOf, plainOf, lettersOf, lettersOut};
 ghost use Rattle.edits.specs.declared.edit.Edit.the-variants.{AddVertex, RemoveVertex, InsertEdge, DeleteEdge, TurnEdge};
 
@@ -73,6 +74,22 @@ pub extern "C" fn planner_turn_edge(words: &mut [u16], e: u16, amount: i16) -> i
     ensures { λ r. ⌜ (r ≡ codeOf (answer (now (words .entry)) (TurnEdge e amount))) × (now (words .exit) ≡ edited (now (words .entry)) (TurnEdge e amount)) ⌝ }
 {
     code(edits::edge::turn_edge(words, e, amount))
+}
+
+// Writes V, E, F, the number of parts and the Euler number, and answers five.
+#[no_mangle]
+pub extern "C" fn planner_counts(words: &[u16], out: &mut [i32]) -> i64
+    ensures { λ r. ⌜ (r ≡ codeOf (countsAnswer (now (words .entry)) (length (now (out .entry))))) × (now (out .exit) ≡ countsOut (now (words .entry)) (now (out .entry))) ⌝ }
+{
+    code(surface::call::counts(words, out))
+}
+
+// Writes six words for each part, upward: smallest vertex, V, E, F, Euler number, orientable. Answers the number of words.
+#[no_mangle]
+pub extern "C" fn planner_parts(words: &[u16], out: &mut [i32]) -> i64
+    ensures { λ r. ⌜ (r ≡ codeOf (partsAnswer (now (words .entry)) (length (now (out .entry))))) × (now (out .exit) ≡ partsOut (now (words .entry)) (now (out .entry))) ⌝ }
+{
+    code(surface::call::parts(words, out))
 }
 
 // Does the ribbon through the step of dart and type alternate.

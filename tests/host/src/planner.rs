@@ -14,6 +14,8 @@ mod c {
         pub fn planner_insert_edge(table: *mut u16, words: usize, e: u16, c1: u16, c2: u16, k: i16) -> i64;
         pub fn planner_delete_edge(table: *mut u16, words: usize, e: u16) -> i64;
         pub fn planner_turn_edge(table: *mut u16, words: usize, e: u16, amount: i16) -> i64;
+        pub fn planner_counts(table: *const u16, words: usize, out: *mut i32, out_words: usize) -> i64;
+        pub fn planner_parts(table: *const u16, words: usize, out: *mut i32, out_words: usize) -> i64;
         pub fn planner_alternates(table: *const u16, words: usize, dart: u16, kind: u16) -> i64;
         pub fn planner_plain(table: *const u16, words: usize) -> i64;
         pub fn planner_letters(
@@ -60,6 +62,14 @@ pub fn listing(table: &[u16], out: &mut [u16]) -> i64 {
 /// The listing into an output of no words whose pointer is null.
 pub fn listing_to_null(table: &[u16]) -> i64 {
     unsafe { c::planner_listing(table.as_ptr(), table.len(), std::ptr::null_mut(), 0) }
+}
+
+pub fn counts(table: &[u16], out: &mut [i32]) -> i64 {
+    unsafe { c::planner_counts(table.as_ptr(), table.len(), out.as_mut_ptr(), out.len()) }
+}
+
+pub fn parts(table: &[u16], out: &mut [i32]) -> i64 {
+    unsafe { c::planner_parts(table.as_ptr(), table.len(), out.as_mut_ptr(), out.len()) }
 }
 
 pub fn alternates(table: &[u16], dart: u16, kind: u16) -> i64 {

@@ -1,0 +1,22 @@
+-- `planner::planner_parts` meets its contract. Writes six words for each part, upward.
+-- Assumes nothing.
+use mathlib.Core.Path.{_∙_, ap}
+use Rattle.table.specs.Answers.{codeOf, handed-on}
+use borrow.Author.Needs.{needs}
+use Rattle.planner.proofs.planner_parts.Statement.{statement}
+use Rattle.planner.proofs.planner_parts.Tie as tie
+
+parts-requires : tie.Need-parts-requires
+parts-requires c κs = search needs
+
+code-requires : tie.Need-code-requires
+code-requires c κs = search needs
+
+same-length : tie.Need-same-length
+same-length c = search needs
+
+returns : tie.Need-returns
+returns c = (handed-on (c .code .ok) (c .code .ensures ∙ ap codeOf (c .before .before .parts .ensures .0)), c .before .before .parts .ensures .1)
+
+pub planner-parts-spec : {M : Type 1} → statement M
+planner-parts-spec = tie.close (tie.spec parts-requires code-requires same-length returns)

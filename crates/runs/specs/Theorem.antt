@@ -1,24 +1,30 @@
 -- The third demand: one claim about a whole run, a field for each clause, document 01, "Runs of edits".
 -- It holds for every list of edits, declined ones included, from every good table, and so from the empty mesh.
 -- Assumes nothing.
-use Prim.Native.Nat.{ℕ, _*_}
+use Prim.Native.Nat.{ℕ, _+_, _*_}
 use native.Mathlib.Omega.{arith}
 use mathlib.Core.Path.{_≡_, refl, sym, _∙_, ap}
 use mathlib.Core.Bool.{true}
 use mathlib.Core.List.{List, [], _∷_, _++_}
 use mathlib.Core.Logic.{_↔_}
-use lib.IntN.{pos, _+ℤ_, +ℤ-idr, +ℤ-assoc}
+use lib.ListN.{length}
+use lib.IntN.{ℤ, pos, _+ℤ_, +ℤ-idr, +ℤ-assoc}
 use Rattle.table.specs.Good.{Good}
-use Rattle.table.specs.Rotation.{rotation, live?}
+use Rattle.table.specs.Rotation.{Rotation, Lawful, rotation, live?}
 use Rattle.table.specs.Lawful.{good-lawful}
 use Rattle.table.specs.Empty.{emptyTable, empty-good}
+use Rattle.table.specs.Output.{Accepted, output-accepted}
 use Rattle.table.specs.Signed.{difference, below, above}
 use Rattle.table.specs.declared.answer.Answer.the-variants.{Done, Declined}
 use Rattle.tracing.specs.Has.{times, countIn}
-use Rattle.tracing.specs.Once.{listedCorners, dart-corner-once, lone-corner-once}
+use Rattle.tracing.specs.Listing.{listing}
+use Rattle.tracing.specs.Marks.{bit}
+use Rattle.tracing.specs.Call.{listAnswer, listOut}
+use Rattle.tracing.specs.Once.{listedCorners}
+use Rattle.tracing.specs.Met.{present-once, absent-never}
 use Rattle.tracing.specs.Twice.{listedSteps}
 use Rattle.tracing.specs.Edges.{onEdge, edge-twice}
-use Rattle.tracing.specs.Corner.{Present, at-dart, at-lone}
+use Rattle.tracing.specs.Corner.{Present}
 use Rattle.tracing.specs.Stands.{Stands, stands-low}
 use Rattle.surgery.specs.Change.{Change, less, as-many, more, Changes}
 use Rattle.edits.specs.Edits.{verdict, edited, answer, edited-passes, edited-declines, answer-passes, answer-declines}
@@ -30,7 +36,9 @@ use Rattle.edits.specs.declared.edit.Verdict.the-variants.{Passes, Declines}
 use Rattle.surface.specs.Sums.{root?}
 use Rattle.surface.specs.Signed.{PartLaws}
 use Rattle.surface.specs.Tables.{table-parts}
-use Rattle.weave.specs.Letters.{alternates}
+use Rattle.surface.specs.Calls.{countsOf, countsAnswer, countsOut, partRows, partsAnswer, partsOut}
+use Rattle.weave.specs.Letters.{letters, alternates, plain}
+use Rattle.weave.specs.Calls.{lettersOf, lettersOut, alternatesOf, plainOf, letters-accepted, alternates-accepted, plain-accepted}
 use Rattle.weave.specs.Ribbon.{SameWay, alternates-iff}
 use Rattle.runs.specs.Run.{run, number, calls, called, faceNumber, run-append, run-one}
 
@@ -98,8 +106,9 @@ run-count t (E ∷ Es) g =
 pub record RunLaws (t : List ℕ) (Es : List Edit) : Type 0 where
   -- "the table stays good"
   pub good : Good (run t Es)
-  -- "listed walks meet every corner once and every live edge twice"
+  -- "listed walks meet every corner once and every live edge twice"; what is no corner of the table is met by none
   pub corners-once : (c : ℕ) → Present (rotation (run t Es)) c → times c (listedCorners (rotation (run t Es))) ≡ 1
+  pub no-others : (c : ℕ) → (Present (rotation (run t Es)) c → ⊥) → times c (listedCorners (rotation (run t Es))) ≡ 0
   pub edges-twice : (e : ℕ) → live? (run t Es) (2 * e) ≡ true → countIn (onEdge e) (listedSteps (rotation (run t Es))) ≡ 2
   -- "in each part V-E+F is at most 2, even if orientable, at most 1 if not"
   pub parts : (r : ℕ) → root? (rotation (run t Es)) r ≡ true → PartLaws (rotation (run t Es)) r
@@ -110,12 +119,21 @@ pub record RunLaws (t : List ℕ) (Es : List Edit) : Type 0 where
       → pos n ≡ faceNumber t +ℤ called t (front ++ (E ∷ []))
   -- "a ribbon alternates exactly if its turned edges all turn the same way"
   pub alternation : (s : ℕ) → Stands (run t Es) s → (alternates (run t Es) s ≡ true) ↔ SameWay (run t Es) s
+  -- "the calls for the listing, the counts and the letters, where accepted on it, answer exactly these"
+  pub listing-call : (out : List ℕ) → Accepted (listAnswer (run t Es) (length out)) (listing (rotation (run t Es))) out (listOut (run t Es) out)
+  pub counts-call : (out : List ℤ) → Accepted (countsAnswer (run t Es) (length out)) (countsOf (rotation (run t Es))) out (countsOut (run t Es) out)
+  pub parts-call : (out : List ℤ) → Accepted (partsAnswer (run t Es) (length out)) (partRows (rotation (run t Es))) out (partsOut (run t Es) out)
+  pub letters-call : (d k : ℕ) (out : List ℕ)
+      → Accepted (lettersOf (run t Es) d k (length out)) (letters (run t Es) (2 * d + k)) out (lettersOut (run t Es) d k out)
+  pub alternates-call : (d k n : ℕ) → alternatesOf (run t Es) d k ≡ Done n → n ≡ bit (alternates (run t Es) (2 * d + k))
+  pub plain-call : (n : ℕ) → plainOf (run t Es) ≡ Done n → n ≡ bit (plain (run t Es))
 
 pub run-laws : (t : List ℕ) → Good t → (Es : List Edit) → RunLaws t Es
 run-laws t g Es = record {
   good = after;
-  corners-once = λ c p. once c p;
-  edges-twice = λ e l. edge-twice (rotation (run t Es)) (good-lawful (run t Es) after) e l;
+  corners-once = present-once R L;
+  no-others = absent-never R L;
+  edges-twice = λ e l. edge-twice R L e l;
   parts = λ r h. table-parts after r h;
   count = run-count t Es g;
   answered = λ front E back e n a.
@@ -123,14 +141,22 @@ run-laws t g Es = record {
       ∙ ap faceNumber (sym (run-append t front (E ∷ []) ∙ run-one (run t front) E))
       ∙ run-count t (front ++ (E ∷ [])) g;
   alternation = λ s h. alternates-iff (run t Es) after s (stands-low h);
+  listing-call = λ out. output-accepted (run t Es) (listing R) out;
+  counts-call = λ out. output-accepted (run t Es) (countsOf R) out;
+  parts-call = λ out. output-accepted (run t Es) (partRows R) out;
+  letters-call = λ d k out. letters-accepted (run t Es) d k out;
+  alternates-call = λ d k n a. alternates-accepted (run t Es) d k n a;
+  plain-call = λ n a. plain-accepted (run t Es) n a;
 }
   where
     after : Good (run t Es)
     after = run-good t Es g
 
-    once : (c : ℕ) → Present (rotation (run t Es)) c → times c (listedCorners (rotation (run t Es))) ≡ 1
-    once c (at-dart h l) = dart-corner-once (rotation (run t Es)) (good-lawful (run t Es) after) c l
-    once c (at-lone v h e a) = rw e (lone-corner-once (rotation (run t Es)) (good-lawful (run t Es) after) v a)
+    R : Rotation
+    R = rotation (run t Es)
+
+    L : Lawful R
+    L = good-lawful (run t Es) after
 
 -- "The slice begins as the empty mesh or as any good table"
 pub empty-run-laws : (Es : List Edit) → RunLaws emptyTable Es

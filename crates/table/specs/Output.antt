@@ -14,6 +14,7 @@ use borrow.Author.Tests.{le-leb, lt-leb}
 use Rattle.table.specs.Check.{good?}
 use Rattle.table.specs.declared.answer.Answer.{Answer}
 use Rattle.table.specs.declared.answer.Answer.the-variants.{Done, Declined}
+use Rattle.table.specs.declared.answer.Refusal.{Refusal}
 use Rattle.table.specs.declared.answer.Refusal.the-variants.{Torn, ShortSlice}
 
 -- the size, if there is room for it
@@ -67,3 +68,29 @@ module _ {A : Type 0} (t : List ℕ) (text out : List A) where
       → (Done n ≡ outputAnswer t text (length out)) × (out′ ≡ outputOut t text out)
   unfolding outputAnswer outputOut
   output-done g e h w = rw (g, le-leb (length text) (length out) h) (ap Done e, w)
+
+-- what an accepted call of table t answers and leaves: the size of `text`, and `text` at the front of the slice
+pub record Accepted {A : Type 0} (a : Answer) (text out out′ : List A) : Type 0 where
+  pub size : (n : ℕ) → a ≡ Done n → n ≡ length text
+  pub words : (n : ℕ) → a ≡ Done n → out′ ≡ front text out
+
+pub done-same : {n m : ℕ} → Done m ≡ Done n → n ≡ m
+done-same e = cc
+
+pub done-declined : {n : ℕ} {r : Refusal} → Declined r ≡ Done n → ⊥
+done-declined e = let z : _≡_ {A = ℕ} 0 1 = cc in omega arith
+
+pub declined-accepted : {A : Type 0} (r : Refusal) (text out : List A) → Accepted (Declined r) text out out
+declined-accepted r text out = record { size = λ n e. absurd (done-declined e); words = λ n e. absurd (done-declined e) }
+
+pub sized-accepted : {A : Type 0} (b : Bool) (text out : List A) → Accepted (sized b (length text)) text out (outBy (sized b (length text)) text out)
+sized-accepted true text out = record { size = λ n e. done-same e; words = λ n e. refl }
+sized-accepted false text out = declined-accepted ShortSlice text out
+
+pub output-accepted : {A : Type 0} (t : List ℕ) (text out : List A) → Accepted (outputAnswer t text (length out)) text out (outputOut t text out)
+unfolding outputAnswer outputOut
+output-accepted t text out = by (good? t)
+  where
+    by : (b : Bool) → let a = ifGood b (sized (leb (length text) (length out)) (length text)) in Accepted a text out (outBy a text out)
+    by true = sized-accepted (leb (length text) (length out)) text out
+    by false = declined-accepted Torn text out

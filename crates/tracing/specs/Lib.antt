@@ -21,6 +21,7 @@ pub mod Length
 pub mod Search
 pub mod Corner
 pub mod Present
+pub mod Met
 pub mod Meeting
 pub mod EdgeSteps
 pub mod Sides

@@ -141,15 +141,15 @@ module _ (R : Rotation) (L : Lawful R) where
         from-lone (i .at) (L .there-low (i .at) (L .alone-there (i .at) a)) a (sym (i .gives))
   ]
 
-  cornersOf-dart : (c : ℕ) → c < loneAt → cornersOf R c ≡ corners R (2 * c)
+  pub cornersOf-dart : (c : ℕ) → c < loneAt → cornersOf R c ≡ corners R (2 * c)
   unfolding cornersOf
   cornersOf-dart c h = rw (lt-ltb c loneAt h, cornersOf)
 
-  cornersOf-lone : (c : ℕ) → loneAt ≤ c → cornersOf R c ≡ c ∷ []
+  pub cornersOf-lone : (c : ℕ) → loneAt ≤ c → cornersOf R c ≡ c ∷ []
   unfolding cornersOf
   cornersOf-lone c h = rw (le-ltb c loneAt h, cornersOf)
 
-  start-step : (a : ℕ) → start? R a ≡ true → R .live (2 * a / 2) ≡ true
+  pub start-step : (a : ℕ) → start? R a ≡ true → R .live (2 * a / 2) ≡ true
   start-step a s = let half : 2 * a / 2 ≡ a = omega arith in rw half (start-live R a s)
 
   -- the corners of a walk are darts

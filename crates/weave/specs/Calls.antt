@@ -13,7 +13,7 @@ use Rattle.orbits.specs.Truth.{truth, holds, fails, both-right}
 use Rattle.table.specs.Layout.{darts, edgeOf, edgeWord}
 use Rattle.table.specs.Rotation.{live?, yes-live, not-live, case-yes}
 use Rattle.table.specs.Check.{good?, good-case}
-use Rattle.table.specs.Output.{sized, ifGood, outBy, sets-front}
+use Rattle.table.specs.Output.{sized, ifGood, outBy, sets-front, Accepted, sized-accepted, declined-accepted, done-same, done-declined}
 use Rattle.table.specs.declared.answer.Answer.{Answer}
 use Rattle.table.specs.declared.answer.Answer.the-variants.{Done, Declined}
 use Rattle.table.specs.declared.answer.Refusal.{Refusal}
@@ -143,3 +143,37 @@ module _ (t : List ℕ) where
 
   pub plain-done : {b : Bool} → good? t ≡ true → b ≡ plain t → Done (bit b) ≡ plainOf t
   plain-done g e = rw (g, ← e)
+
+-- what accepted calls answered
+
+data Naming (n : Named) : Type 0 where
+  there : (s : ℕ) → n ≡ There s → Naming n
+  refused : (r : Refusal) → n ≡ Refused r → Naming n
+
+naming : (n : Named) → Naming n
+naming (There s) = there s refl
+naming (Refused r) = refused r refl
+
+module _ (t : List ℕ) (d k : ℕ) where
+  pub letters-accepted : (out : List ℕ) → Accepted (lettersOf t d k (length out)) (letters t (2 * d + k)) out (lettersOut t d k out)
+  letters-accepted out = elim (naming (namedStep t d k)) [
+    | there s e ↦
+        let word = there-steps t d k (sym e) .word in
+        rw (e, ← word) (sized-accepted (leb (length (letters t s)) (length out)) (letters t s) out)
+    | refused r e ↦ rw e (declined-accepted r (letters t (2 * d + k)) out)
+  ]
+
+  pub alternates-accepted : (n : ℕ) → alternatesOf t d k ≡ Done n → n ≡ bit (alternates t (2 * d + k))
+  alternates-accepted n a = elim (naming (namedStep t d k)) [
+    | there s e ↦
+        let word = there-steps t d k (sym e) .word in
+        let same : Done (bit (alternates t s)) ≡ Done n = rw e at a in
+        rw (← word) (done-same same)
+    | refused r e ↦ absurd (done-declined (rw e at a))
+  ]
+
+pub plain-accepted : (t : List ℕ) (n : ℕ) → plainOf t ≡ Done n → n ≡ bit (plain t)
+plain-accepted t n a = elim (truth (good? t)) [
+  | holds g ↦ let same : Done (bit (plain t)) ≡ Done n = rw g at a in done-same same
+  | fails g ↦ absurd (done-declined (rw g at a))
+]

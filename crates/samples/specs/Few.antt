@@ -3,12 +3,12 @@
 --     Few                  no edge from m on is live, and no vertex from n on
 --     facesFew, eulerFew, marksFew, lengthsFew      the same as the definitions without "Few", by the law of the like name
 -- Assumes nothing.
-use Prim.Native.Nat.{ℕ, zero, suc, _+_, _*_, _/_, _%_, _<_, _≤_}
+use Prim.Native.Nat.{ℕ, zero, suc, _*_, _≤_}
 use native.Mathlib.Omega.{arith}
 use native.Mathlib.Decide.{ℕ-discrete}
 use mathlib.Core.Path.{_≡_, refl, sym, _∙_, ap, ap₂, fun-ext}
-use mathlib.Core.Bool.{Bool, true, false, _&&_}
-use mathlib.Core.List.{List, [], _∷_, _++_, map, append-nil}
+use mathlib.Core.Bool.{Bool, false, _&&_}
+use mathlib.Core.List.{List, [], _++_, map, append-nil}
 use lib.Dec.{eqb}
 use lib.ListN.{length}
 use lib.IntN.{ℤ}
@@ -16,7 +16,7 @@ use Rattle.orbits.specs.Count.{count, count-short}
 use Rattle.table.specs.Layout.{edges, vertices, darts}
 use Rattle.table.specs.Rotation.{Rotation}
 use Rattle.tracing.specs.Walk.{walk}
-use Rattle.tracing.specs.Listing.{only, gather, starts, starts-suc, fresh-dead, alones, alones-suc, lone-no, loneCorner, faces, faceCount}
+use Rattle.tracing.specs.Listing.{only, starts, starts-suc, fresh-dead, alones, alones-suc, lone-no, loneCorner, faces, faceCount}
 use Rattle.surface.specs.Links.{Spot, spot, links, liveEdges}
 use Rattle.surface.specs.Labels.{twisted, untwisted, spots, label, orientable}
 use Rattle.surface.specs.Counts.{vertexCount, edgeCount}

@@ -3,5 +3,6 @@ pub mod Samples
 mod Sparse
 mod Few
 mod Reading
+mod Writing
 mod Editing
 pub mod Theorem

@@ -27,4 +27,3 @@ pub mod EdgeSteps
 pub mod Sides
 pub mod SidesFound
 pub mod Call
-pub mod Gathered

@@ -1,0 +1,134 @@
+//! The job program, target/bin/job (or the file that the environment variable PLANNER_JOB names), run as a process: what
+//! it prints is what the reference prints, for whole, damaged and cut jobs, for noise, and for long jobs.
+
+use reference::job::job;
+use reference::table::{empty_mesh, EDGES, VERTICES};
+use reference::trial::edits::{random_edit, Window, WINDOWS};
+use reference::trial::jobs::{random_edits, random_job, record};
+use reference::trial::random::Random;
+use std::env;
+use std::io::Write;
+use std::path::PathBuf;
+use std::process::{Command, Stdio};
+use std::thread;
+use std::time::Duration;
+
+fn program() -> PathBuf {
+    let built = PathBuf::from(env!("CARGO_MANIFEST_DIR")).join("../../target/bin/job");
+    let path = env::var_os("PLANNER_JOB").map_or(built, PathBuf::from);
+    assert!(path.is_file(), "{} is not there: make it with `rt check job`", path.display());
+    path
+}
+
+/// What the program prints for these bytes, which come to it in pieces of so many bytes.
+fn printed(input: &[u8], piece: usize) -> String {
+    let mut child = Command::new(program()).stdin(Stdio::piped()).stdout(Stdio::piped()).spawn().unwrap();
+    let mut to = child.stdin.take().unwrap();
+    let bytes = input.to_vec();
+    let writer = thread::spawn(move || {
+        for part in bytes.chunks(piece) {
+            to.write_all(part).unwrap();
+            if piece < 100 {
+                thread::sleep(Duration::from_micros(50));
+            }
+        }
+    });
+    let output = child.wait_with_output().unwrap();
+    writer.join().unwrap();
+    assert!(output.status.success(), "{:?}", output.status);
+    String::from_utf8(output.stdout).unwrap()
+}
+
+fn compare(input: &[u8]) {
+    assert_eq!(printed(input, input.len().max(100)), job(input), "{input:02x?}");
+}
+
+#[test]
+fn the_printed_example() {
+    let input = b"AV\0\0IE\0\0\x80\0\x80\0\0\x01TW\0\x01\0\x01";
+    let output = "no 3 4\nmesh 1 1 1 1 1\npart 0 1 n\nwalk 0 2 0/0:O 0/1:U\nweave plain\n";
+    assert_eq!(printed(input, 100), output);
+    assert_eq!(printed(input, 1), output);
+}
+
+#[test]
+fn no_bytes_at_all() {
+    assert_eq!(printed(b"", 100), "mesh 0 0 0 0 0\nweave plain\n");
+}
+
+#[test]
+fn every_cut_of_a_job() {
+    let mut whole = Vec::new();
+    for edit in random_edits(&mut Random::new(0xc07), 6) {
+        whole.extend(record(edit));
+    }
+    for end in 0..=whole.len() {
+        compare(&whole[..end]);
+    }
+}
+
+#[test]
+fn random_jobs_whole_and_damaged() {
+    let mut random = Random::new(0x10b5);
+    let (mut bad, mut cut, mut read_through) = (0, 0, 0);
+    for round in 0..2_500 {
+        let count = random.below(if round % 50 == 0 { 400 } else { 40 });
+        let input = random_job(&mut random, count);
+        let expected = job(&input);
+        let size = if round % 10 == 0 { 1 + random.below(20) } else { input.len().max(100) };
+        assert_eq!(printed(&input, size), expected, "{input:02x?}");
+        let last = expected.lines().filter(|line| line.starts_with("no ")).last().unwrap_or("");
+        match last.rsplit(' ').next() {
+            Some("10") => bad += 1,
+            Some("11") => cut += 1,
+            _ => read_through += 1,
+        }
+    }
+    assert!(bad > 100 && cut > 100 && read_through > 100, "{bad} {cut} {read_through}");
+}
+
+#[test]
+fn noise() {
+    let mut random = Random::new(0x9015e);
+    for _ in 0..300 {
+        let bytes: Vec<u8> = (0..random.below(30)).map(|_| random.word() as u8).collect();
+        compare(&bytes);
+    }
+}
+
+/// Records that build on each other: each is drawn for the table that those before it left.
+fn long_job(random: &mut Random, window: Window, records: usize) -> Vec<u8> {
+    let mut table = empty_mesh();
+    let mut input = Vec::new();
+    let mut growth = 10;
+    for i in 0..records {
+        if i % 1_000 == 999 {
+            growth = random.pick(&[10, 10, 5, 0]);
+        }
+        let edit = random_edit(random, &table, window, growth);
+        let _ = reference::edit::edit(&mut table, edit);
+        input.extend(record(edit));
+    }
+    input
+}
+
+#[test]
+fn jobs_that_build_large_meshes() {
+    let mut random = Random::new(0xb16);
+    for window in [WINDOWS[2], Window { vertices: VERTICES, edges: EDGES }] {
+        for records in [700, 4_000] {
+            compare(&long_job(&mut random, window, records));
+        }
+    }
+}
+
+/// 100,000 records: small edits over a small mesh, so that the reference is quick too.
+#[test]
+fn a_job_of_a_hundred_thousand_records() {
+    let mut random = Random::new(0x100_000);
+    let input = long_job(&mut random, WINDOWS[1], 100_000);
+    compare(&input);
+    let mut cut = input;
+    cut.truncate(cut.len() - 1);
+    compare(&cut);
+}

@@ -1,0 +1,294 @@
+/* The calls of the planner against plain C (plain.c): the same tables, the same arguments, one run. Before a call is timed, both
+   sides' answers and outputs are compared. Prints a table for docs/BENCHMARK.md: microseconds a call, medians, and their ratio. */
+
+#define _POSIX_C_SOURCE 199309L
+
+#include "plain.h"
+#include "planner.h"
+
+#include <stdio.h>
+#include <stdlib.h>
+#include <string.h>
+#include <time.h>
+
+enum { WORDS = PLANNER_TABLE_WORDS, OUT = 4096, LETTERS = 2048 * 99, ROUNDS = 21 };
+
+/* A table under test and what calls are lent beside it. Edits leave it as it was, two by two. */
+static uint16_t table[WORDS];
+static uint32_t lengths[PLANNER_EDGES];
+static int32_t points[3 * PLANNER_VERTICES];
+static int32_t lifts[3 * PLANNER_EDGES];
+
+/* What both sides write. */
+struct output {
+    uint16_t words[OUT];
+    int32_t counts[OUT];
+    uint8_t letters[LETTERS];
+    float coords[3 * OUT];
+};
+static struct output ours, theirs;
+
+/* The names that the edits use: a free vertex, a free edge, a live one. */
+static uint16_t free_vertex, free_edge, live_edge;
+
+static uint32_t random_state = 1;
+
+static uint32_t random_below(uint32_t n) {
+    random_state = random_state * 1664525u + 1013904223u;
+    return (uint32_t)(((uint64_t)random_state * n) >> 32);
+}
+
+/* One call on each side. */
+#define CALL(name, arguments_ours, arguments_theirs)                                                                    \
+    static int64_t our_##name(void) { return planner_##name arguments_ours; }                                         \
+    static int64_t their_##name(void) { return plain_##name arguments_theirs; }
+
+CALL(check, (table, WORDS), (table, WORDS))
+CALL(listing, (table, WORDS, ours.words, OUT), (table, WORDS, theirs.words, OUT))
+CALL(counts, (table, WORDS, ours.counts, OUT), (table, WORDS, theirs.counts, OUT))
+CALL(parts, (table, WORDS, ours.counts, OUT), (table, WORDS, theirs.counts, OUT))
+CALL(alternates, (table, WORDS, 0, 0), (table, WORDS, 0, 0))
+CALL(plain, (table, WORDS), (table, WORDS))
+CALL(letters, (table, WORDS, 0, 0, ours.letters, LETTERS), (table, WORDS, 0, 0, theirs.letters, LETTERS))
+CALL(cut_length, (table, WORDS, 0, 0, lengths, PLANNER_EDGES), (table, WORDS, 0, 0, lengths, PLANNER_EDGES))
+CALL(float_path,
+     (table, WORDS, 0, 0, points, 3 * PLANNER_VERTICES, lifts, 3 * PLANNER_EDGES, ours.words, OUT, ours.coords, 3 * OUT),
+     (table, WORDS, 0, 0, points, 3 * PLANNER_VERTICES, lifts, 3 * PLANNER_EDGES, theirs.words, OUT, theirs.coords, 3 * OUT))
+
+/* Edits come in pairs, the second of which undoes the first. */
+static int64_t our_vertex(void) {
+    int64_t a = planner_add_vertex(table, WORDS, free_vertex);
+    return 10000 * a + planner_remove_vertex(table, WORDS, free_vertex);
+}
+
+static int64_t their_vertex(void) {
+    int64_t a = plain_add_vertex(table, WORDS, free_vertex);
+    return 10000 * a + plain_remove_vertex(table, WORDS, free_vertex);
+}
+
+static int64_t our_edge(void) {
+    int64_t a = planner_insert_edge(table, WORDS, free_edge, 0, 1, 1);
+    return 10000 * a + planner_delete_edge(table, WORDS, free_edge);
+}
+
+static int64_t their_edge(void) {
+    int64_t a = plain_insert_edge(table, WORDS, free_edge, 0, 1, 1);
+    return 10000 * a + plain_delete_edge(table, WORDS, free_edge);
+}
+
+static int64_t our_turn(void) {
+    int64_t a = planner_turn_edge(table, WORDS, live_edge, 1);
+    return 10000 * a + planner_turn_edge(table, WORDS, live_edge, -1);
+}
+
+static int64_t their_turn(void) {
+    int64_t a = plain_turn_edge(table, WORDS, live_edge, 1);
+    return 10000 * a + plain_turn_edge(table, WORDS, live_edge, -1);
+}
+
+static const struct {
+    const char *name;
+    int64_t (*ours)(void);
+    int64_t (*theirs)(void);
+    int calls;
+} rows[] = {
+    {"planner_check", our_check, their_check, 1},
+    {"planner_listing", our_listing, their_listing, 1},
+    {"planner_counts", our_counts, their_counts, 1},
+    {"planner_parts", our_parts, their_parts, 1},
+    {"planner_add_vertex, planner_remove_vertex", our_vertex, their_vertex, 2},
+    {"planner_insert_edge, planner_delete_edge", our_edge, their_edge, 2},
+    {"planner_turn_edge", our_turn, their_turn, 2},
+    {"planner_alternates", our_alternates, their_alternates, 1},
+    {"planner_plain", our_plain, their_plain, 1},
+    {"planner_letters", our_letters, their_letters, 1},
+    {"planner_cut_length", our_cut_length, their_cut_length, 1},
+    {"planner_float_path", our_float_path, their_float_path, 1},
+};
+enum { ROWS = sizeof rows / sizeof rows[0] };
+
+/* A grid of poles joined along its lines, every strip with one turn: a plain weave of slanting ribbons. */
+static void link_around(uint16_t v, const uint16_t *darts, int n) {
+    int i;
+    uint16_t least = PLANNER_ISOLATED;
+    for (i = 0; i < n; i++) {
+        uint16_t d = darts[i], next = darts[(i + 1) % n];
+        table[PLANNER_NEXT_AT + d] = next;
+        table[PLANNER_PREV_AT + next] = d;
+        table[PLANNER_LEAVES_AT + d] = v;
+        least = d < least ? d : least;
+    }
+    table[PLANNER_VERTEX_AT + v] = least;
+}
+
+/* The edge from a pole to its right neighbour, and to the one above it. */
+static uint16_t across(int columns, int x, int y) {
+    return (uint16_t)(y * (columns - 1) + x);
+}
+
+static uint16_t upward(int columns, int lines, int x, int y) {
+    return (uint16_t)(lines * (columns - 1) + y * columns + x);
+}
+
+static void build_grid(int columns, int lines) {
+    int x, y, e, edges = lines * (columns - 1) + (lines - 1) * columns;
+    planner_empty(table, WORDS);
+    for (e = 0; e < edges; e++) {
+        table[PLANNER_EDGE_AT + e] = 101;
+    }
+    for (y = 0; y < lines; y++) {
+        for (x = 0; x < columns; x++) {
+            uint16_t darts[4];
+            int n = 0;
+            if (x + 1 < columns) {
+                darts[n++] = (uint16_t)(2 * across(columns, x, y));
+            }
+            if (y + 1 < lines) {
+                darts[n++] = (uint16_t)(2 * upward(columns, lines, x, y));
+            }
+            if (x > 0) {
+                darts[n++] = (uint16_t)(2 * across(columns, x - 1, y) + 1);
+            }
+            if (y > 0) {
+                darts[n++] = (uint16_t)(2 * upward(columns, lines, x, y - 1) + 1);
+            }
+            link_around((uint16_t)(y * columns + x), darts, n);
+        }
+    }
+    free_vertex = (uint16_t)(lines * columns);
+    free_edge = (uint16_t)edges;
+    live_edge = (uint16_t)(edges / 2);
+}
+
+/* Flat loops in random corners, until there are so many edges. */
+static void add_loops(int edges) {
+    for (; free_edge < edges; free_edge++) {
+        uint16_t corner = (uint16_t)random_below(2u * free_edge);
+        planner_insert_edge(table, WORDS, free_edge, corner, corner, 0);
+    }
+}
+
+static void lend(void) {
+    int i;
+    for (i = 0; i < PLANNER_EDGES; i++) {
+        lengths[i] = 1 + random_below(65535);
+    }
+    for (i = 0; i < 3 * PLANNER_VERTICES; i++) {
+        points[i] = (int32_t)random_below(131073) - 65536;
+    }
+    for (i = 0; i < 3 * PLANNER_EDGES; i++) {
+        lifts[i] = (int32_t)random_below(8193) - 4096;
+    }
+}
+
+static double now(void) {
+    struct timespec t;
+    clock_gettime(CLOCK_MONOTONIC, &t);
+    return (double)t.tv_sec + 1e-9 * (double)t.tv_nsec;
+}
+
+static double timed(int64_t (*call)(void), int times) {
+    double start = now();
+    int i;
+    for (i = 0; i < times; i++) {
+        call();
+    }
+    return (now() - start) / times;
+}
+
+static int by_size(const void *a, const void *b) {
+    double x = *(const double *)a, y = *(const double *)b;
+    return (x > y) - (x < y);
+}
+
+static double median(double *values) {
+    qsort(values, ROUNDS, sizeof *values, by_size);
+    return values[ROUNDS / 2];
+}
+
+/* Both sides once, compared. */
+static void compare(size_t row) {
+    int64_t a, b;
+    memset(&ours, 0x5a, sizeof ours);
+    memset(&theirs, 0x5a, sizeof theirs);
+    a = rows[row].ours();
+    b = rows[row].theirs();
+    if (a != b || a < 0 || memcmp(&ours, &theirs, sizeof ours) != 0) {
+        fprintf(stderr, "bench: %s differs: %lld and %lld\n", rows[row].name, (long long)a, (long long)b);
+        exit(1);
+    }
+}
+
+/* Microseconds a call of one side and of the other, measured turn by turn. */
+static void measure(size_t row, double *mine, double *other) {
+    double a[ROUNDS], b[ROUNDS];
+    int i, times;
+    compare(row);
+    times = (int)(2e-3 / timed(rows[row].theirs, 10)) + 1;
+    for (i = 0; i < ROUNDS; i++) {
+        a[i] = timed(rows[row].ours, times);
+        b[i] = timed(rows[row].theirs, times);
+    }
+    *mine = 1e6 * median(a) / rows[row].calls;
+    *other = 1e6 * median(b) / rows[row].calls;
+}
+
+/* A grid, and loops up to so many edges; one edge name stays free for the insertion. */
+static const struct {
+    int columns, lines, edges;
+} sizes[] = {{6, 3, 30}, {8, 7, 100}, {13, 12, 300}, {18, 17, 600}, {22, 23, 1023}};
+enum { SIZES = sizeof sizes / sizeof sizes[0] };
+
+/* The sizes whose ratios are printed: small, shell-sized, full. */
+static const size_t compared[] = {0, 2, 4};
+enum { COMPARED = sizeof compared / sizeof compared[0] };
+
+static double mine[ROWS][SIZES], other[ROWS][SIZES];
+
+static void print_ratios(void) {
+    size_t row, i;
+    printf("| Call |");
+    for (i = 0; i < COMPARED; i++) {
+        printf(" %d edges: planner | C | ratio |", sizes[compared[i]].edges);
+    }
+    printf("\n|---|---|---|---|---|---|---|---|---|---|\n");
+    for (row = 0; row < ROWS; row++) {
+        printf("| `%s` |", rows[row].name);
+        for (i = 0; i < COMPARED; i++) {
+            double a = mine[row][compared[i]], b = other[row][compared[i]];
+            printf(" %.2f | %.2f | %.2f |", a, b, a / b);
+        }
+        printf("\n");
+    }
+}
+
+static void print_growth(void) {
+    size_t row, size;
+    printf("\n| Call |");
+    for (size = 0; size < SIZES; size++) {
+        printf(" %d edges |", sizes[size].edges);
+    }
+    printf("\n|---|---|---|---|---|---|\n");
+    for (row = 0; row < ROWS; row++) {
+        printf("| `%s` |", rows[row].name);
+        for (size = 0; size < SIZES; size++) {
+            printf(" %.2f |", mine[row][size]);
+        }
+        printf("\n");
+    }
+}
+
+int main(void) {
+    size_t row, size;
+    for (size = 0; size < SIZES; size++) {
+        build_grid(sizes[size].columns, sizes[size].lines);
+        add_loops(sizes[size].edges);
+        lend();
+        for (row = 0; row < ROWS; row++) {
+            measure(row, &mine[row][size], &other[row][size]);
+        }
+    }
+    print_ratios();
+    print_growth();
+    return 0;
+}

@@ -1,0 +1,25 @@
+/* The rules of document 01 in plain C, for the benchmark: the calls of include/planner.h with the same checks, refusals and answers. */
+#ifndef PLAIN_H
+#define PLAIN_H
+
+#include <stddef.h>
+#include <stdint.h>
+
+int64_t plain_empty(uint16_t *t, size_t words);
+int64_t plain_check(const uint16_t *t, size_t words);
+int64_t plain_listing(const uint16_t *t, size_t words, uint16_t *out, size_t n);
+int64_t plain_counts(const uint16_t *t, size_t words, int32_t *out, size_t n);
+int64_t plain_parts(const uint16_t *t, size_t words, int32_t *out, size_t n);
+int64_t plain_add_vertex(uint16_t *t, size_t words, uint16_t v);
+int64_t plain_remove_vertex(uint16_t *t, size_t words, uint16_t v);
+int64_t plain_insert_edge(uint16_t *t, size_t words, uint16_t e, uint16_t c1, uint16_t c2, int16_t k);
+int64_t plain_delete_edge(uint16_t *t, size_t words, uint16_t e);
+int64_t plain_turn_edge(uint16_t *t, size_t words, uint16_t e, int16_t amount);
+int64_t plain_alternates(const uint16_t *t, size_t words, uint16_t dart, uint16_t type);
+int64_t plain_plain(const uint16_t *t, size_t words);
+int64_t plain_letters(const uint16_t *t, size_t words, uint16_t dart, uint16_t type, uint8_t *out, size_t n);
+int64_t plain_cut_length(const uint16_t *t, size_t words, uint16_t dart, uint16_t type, const uint32_t *lengths, size_t n);
+int64_t plain_float_path(const uint16_t *t, size_t words, uint16_t dart, uint16_t type, const int32_t *points, size_t n_points,
+                         const int32_t *lifts, size_t n_lifts, uint16_t *kinds, size_t n_kinds, float *coords, size_t n_coords);
+
+#endif

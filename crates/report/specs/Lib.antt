@@ -1,0 +1,4 @@
+-- The lines that the job program prints after reading. A file uses only those above it.
+
+pub mod Lines
+pub mod Wrote

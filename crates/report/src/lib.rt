@@ -1,0 +1,2 @@
+// The lines that the job program prints after reading.
+pub mod line;

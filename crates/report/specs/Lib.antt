@@ -2,3 +2,7 @@
 
 pub mod Lines
 pub mod Wrote
+pub mod Parts
+pub mod Steps
+pub mod Walks
+pub mod Whole

@@ -1,7 +1,7 @@
 -- A piece of text that was written, with a bound on its length: places stay far below the limit of a machine word.
 use Prim.Native.Nat.{ℕ, _+_, _*_, _<_, _≤_, _^_}
 use native.Mathlib.Omega.{arith}
-use mathlib.Core.Path.{_≡_, refl, sym, _∙_, ap}
+use mathlib.Core.Path.{_≡_, sym, ap}
 use mathlib.Core.Bool.{true, false}
 use mathlib.Core.List.{List, [], _∷_, _++_}
 use lib.IntN.{ℤ}
@@ -20,15 +20,31 @@ use Rattle.surface.specs.Signed.{meshEuler}
 use Rattle.surface.specs.EulerWord.{euler-sfits}
 use Rattle.surface.specs.Mesh.{MeshCounts, faces-low}
 use Rattle.weave.specs.Letters.{plain}
-use Rattle.text.specs.Paste.{Pasted, pasted-then, pasted-as, pasted-length}
+use Rattle.text.specs.Paste.{Pasted, paste-none, pasted-then, pasted-as, pasted-length}
 use Rattle.text.specs.Decimal.{decimal, integer, decimal-few}
 use Rattle.text.specs.Sign.{integer-few}
-use Rattle.report.specs.Lines.{space, newline, mesh-word, meshText, meshLine, kind-word, weave-word, weaveLine}
+use Rattle.report.specs.Lines.{space, newline, meshText, meshLine, kind-word, weave-word, weaveLine}
 
 -- the text stands from place `at` on; it has at most so many bytes
 pub record Wrote (most from at : ℕ) (out text : List ℕ) (r : ℕ) (out′ : List ℕ) : Type 0 where
   pub pasted : Pasted from at out text r out′
   pub near : r ≤ at + most
+
+-- bounds: 512 parts, 4,096 steps, 2,048 walks that start at a dart, 512 empty ones
+abbrev pub parts-most : ℕ
+parts-most = 512 * 40
+
+abbrev pub steps-most : ℕ
+steps-most = 4096 * 142
+
+abbrev pub walk-most : ℕ
+walk-most = steps-most + 47
+
+abbrev pub walks-most : ℕ
+walks-most = 2048 * walk-most
+
+abbrev pub lones-most : ℕ
+lones-most = 512 * 50
 
 -- one piece after another
 module _ {most from at : ℕ} {out a : List ℕ} {r : ℕ} {out′ : List ℕ} (p : Wrote most from at out a r out′) where
@@ -38,12 +54,24 @@ module _ {most from at : ℕ} {out a : List ℕ} {r : ℕ} {out′ : List ℕ} (
   pub wrote-as : {b : List ℕ} → a ≡ b → Wrote most from at out b r out′
   wrote-as e = rw (← e) p
 
+  -- a wider bound
+  pub wrote-most : (more : ℕ) → most ≤ more → Wrote more from at out a r out′
+  wrote-most more h = record { pasted = p .pasted; near = let n = p .near in omega arith }
+
   pub wrote-length : length out′ ≡ length out
   wrote-length = pasted-length (p .pasted)
+
+-- nothing
+pub wrote-none : (from at : ℕ) (out : List ℕ) → Wrote 0 from at out [] at out
+wrote-none from at out = record { pasted = record { end = omega arith; shows = sym (paste-none from at out) }; near = omega arith }
 
 -- a text of known length
 pub short : {from at : ℕ} {out text : List ℕ} {r : ℕ} {out′ : List ℕ} (most : ℕ) → Pasted from at out text r out′ → length text ≤ most → Wrote most from at out text r out′
 short most p h = record { pasted = p; near = let e = p .end in omega arith }
+
+-- a number of any word
+pub number-wrote : {from at n r : ℕ} {out out′ : List ℕ} → n < 2 ^ 64 → Pasted from at out (decimal n) r out′ → Wrote 20 from at out (decimal n) r out′
+number-wrote {n = n} h p = short 20 p (decimal-few n h)
 
 -- a space and a number
 

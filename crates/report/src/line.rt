@@ -6,7 +6,6 @@ use text::window::byte;
 use text::window::bytes;
 use weave::plain::is_plain;
 ghost use Prim.Native.Nat.{_<_, _^_};
-ghost use lib.ListN.{length};
 ghost use mathlib.Core.List.{_∷_};
 ghost use Rattle.table.specs.Good.{Good};
 ghost use Rattle.table.specs.Rotation.{rotation};

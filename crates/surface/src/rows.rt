@@ -1,5 +1,4 @@
 // The parts written out: six signed words for each, upward.
-use crate::forest::label_parts;
 use crate::tally::euler;
 use crate::tally::tally_parts;
 use table::layout::NOTHING;
@@ -98,15 +97,4 @@ pub fn labelled_rows(t: &[u16], up: &[u16; 512], turn: &[u8; 512], out: &mut [i3
     let mut odd = [0u16; 512];
     tally_parts(t, up, turn, &mut vs, &mut es, &mut fs, &mut odd);
     write_rows(t, up, &vs, &es, &fs, &odd, out)
-}
-
-// The rows of the parts of a good table. Answers how many words they are.
-pub fn parts(t: &[u16], out: &mut [i32]) -> usize
-    requires { ⌜ Good (now t) × (length (rows (rotation (now t)) vertices) ≤ length (now out)) ⌝ }
-    ensures { λ n. ⌜ Written (rotation (now (t .entry))) vertices n (now (out .entry)) (now (out .exit)) ⌝ }
-{
-    let mut up = [0u16; 512];
-    let mut turn = [0u8; 512];
-    label_parts(t, &mut up, &mut turn);
-    labelled_rows(t, &up, &turn, out)
 }

@@ -1,0 +1,2 @@
+// Along a ribbon: its cut length.
+pub mod length;

@@ -2,3 +2,4 @@
 
 pub mod CutLength
 pub mod Summing
+pub mod Exact

@@ -10,6 +10,7 @@ ghost use Rattle.tracing.specs.Call.{listAnswer, listOut};
 ghost use Rattle.edits.specs.Edits.{answer, edited};
 ghost use Rattle.surface.specs.Calls.{countsAnswer, countsOut, partsAnswer, partsOut};
 ghost use Rattle.weave.specs.Calls.{alternatesOf, plainOf, lettersOf, lettersOut};
+ghost use Rattle.ribbons.specs.CutLength.{cutLengthOf};
 ghost use Rattle.edits.specs.declared.edit.Edit.the-variants.{AddVertex, RemoveVertex, InsertEdge, DeleteEdge, TurnEdge};
 
 // Fills the slice with the empty mesh.
@@ -114,4 +115,12 @@ pub extern "C" fn planner_letters(words: &[u16], dart: u16, kind: u16, out: &mut
     ensures { λ r. ⌜ (r ≡ codeOf (lettersOf (now (words .entry)) dart kind (length (now (out .entry))))) × (now (out .exit) ≡ lettersOut (now (words .entry)) dart kind (now (out .entry))) ⌝ }
 {
     code(weave::call::letters(words, dart, kind, out))
+}
+
+// The cut length of the ribbon through the step of dart and type, in sixteenths of a millimetre.
+#[no_mangle]
+pub extern "C" fn planner_cut_length(words: &[u16], dart: u16, kind: u16, lengths: &[u32]) -> i64
+    ensures { λ r. ⌜ r ≡ codeOf (cutLengthOf (now (words .entry)) dart kind (now (lengths .entry))) ⌝ }
+{
+    code(ribbons::length::cut_length(words, dart, kind, lengths))
 }

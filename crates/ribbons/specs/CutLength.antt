@@ -1,0 +1,62 @@
+-- The cut length of a ribbon, document 01, "Over and under", and what the call for it answers.
+use Prim.Native.Nat.{ℕ, _+_, _/_, _<_, _≤_}
+use mathlib.Core.Path.{_≡_, sym, _∙_, ap}
+use mathlib.Core.Bool.{Bool, true, false, _||_}
+use mathlib.Core.List.{List, [], _∷_}
+use lib.Dec.{ltb}
+use lib.ListN.{length, getD}
+use borrow.Author.Tests.{lt-ltb, le-ltb}
+use Rattle.table.specs.Layout.{edges, edgeOf}
+use Rattle.table.specs.Rotation.{rotation}
+use Rattle.table.specs.declared.answer.Answer.{Answer}
+use Rattle.table.specs.declared.answer.Answer.the-variants.{Done, Declined}
+use Rattle.table.specs.declared.answer.Refusal.{Refusal}
+use Rattle.table.specs.declared.answer.Refusal.the-variants.{ShortSlice, Far}
+use Rattle.tracing.specs.Walk.{walk}
+use Rattle.weave.specs.declared.call.Named.{Named}
+use Rattle.weave.specs.declared.call.Named.the-variants.{There, Refused}
+use Rattle.weave.specs.Calls.{namedStep}
+use Rattle.weave.specs.Ribbon.{some}
+
+-- the length of the edge that step s is on
+abbrev pub lengthOf : List ℕ → ℕ → ℕ
+lengthOf lengths s = getD lengths (edgeOf (s / 2)) 0
+
+-- "each from 1 to 65,535 sixteenths of a millimetre": is the length of this step's edge out of the range
+abbrev pub farLength : List ℕ → ℕ → Bool
+farLength lengths s = ltb (lengthOf lengths s) 1 || ltb 65535 (lengthOf lengths s)
+
+-- "the sum over its steps of edge lengths"
+unfoldable pub cutLength : List ℕ → List ℕ → ℕ
+cutLength lengths [] = 0
+cutLength lengths (s ∷ l) = lengthOf lengths s + cutLength lengths l
+
+-- declined, if the test holds
+abbrev pub declinedIf : Bool → Refusal → Answer → Answer
+declinedIf true r a = Declined r
+declinedIf false r a = a
+
+-- 9, far: "length, point or lift out of range on an edge of the walk"
+unfoldable pub lengthAlong : List ℕ → List ℕ → Answer
+lengthAlong lengths l = declinedIf (some (farLength lengths) l) Far (Done (cutLength lengths l))
+
+-- "lent as 1,024 unsigned 32-bit words", one for each edge; "with 7 tested after 4"
+abbrev pub cutLengthBy : List ℕ → List ℕ → Named → Answer
+cutLengthBy t lengths (There s) = declinedIf (ltb (length lengths) edges) ShortSlice (lengthAlong lengths (walk (rotation t) s))
+cutLengthBy t lengths (Refused r) = Declined r
+
+-- "Cut length of a ribbon, named by any step on it"
+abbrev pub cutLengthOf : List ℕ → ℕ → ℕ → List ℕ → Answer
+cutLengthOf t d k lengths = cutLengthBy t lengths (namedStep t d k)
+
+-- the ends of the call
+
+module _ (t : List ℕ) (d k : ℕ) (lengths : List ℕ) {n : Named} (e : n ≡ namedStep t d k) where
+  pub cut-refused : {r : Refusal} → n ≡ Refused r → Declined r ≡ cutLengthOf t d k lengths
+  cut-refused f = sym (ap (cutLengthBy t lengths) (sym e ∙ f))
+
+  pub cut-short : {s : ℕ} → n ≡ There s → length lengths < edges → Declined ShortSlice ≡ cutLengthOf t d k lengths
+  cut-short {s} f h = sym (ap (cutLengthBy t lengths) (sym e ∙ f) ∙ rw (lt-ltb (length lengths) edges h))
+
+  pub cut-along : {s : ℕ} {a : Answer} → n ≡ There s → edges ≤ length lengths → a ≡ lengthAlong lengths (walk (rotation t) s) → a ≡ cutLengthOf t d k lengths
+  cut-along {s} f h g = g ∙ sym (ap (cutLengthBy t lengths) (sym e ∙ f) ∙ rw (le-ltb (length lengths) edges h))

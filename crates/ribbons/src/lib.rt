@@ -1,0 +1,3 @@
+// Along a ribbon: its cut length.
+pub mod exact;
+pub mod length;

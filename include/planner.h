@@ -136,6 +136,33 @@ int64_t planner_plain(const uint16_t *table, size_t words);
  */
 int64_t planner_letters(const uint16_t *table, size_t words, uint16_t dart, uint16_t type, uint8_t *out, size_t out_bytes);
 
+/*
+ * Cut length of the ribbon through the step: the sum over its steps of edge lengths, in sixteenths of a millimetre; it
+ * fits 32 bits. lengths[e] is edge e's, from 1 to 65535 for an edge on the ribbon; those of other edges are not looked at.
+ * Declines besides: PLANNER_SHORT_SLICE (fewer than PLANNER_EDGES lengths); PLANNER_FAR (an edge on the ribbon out of
+ * that range).
+ */
+int64_t planner_cut_length(const uint16_t *table, size_t words, uint16_t dart, uint16_t type, const uint32_t *lengths,
+                           size_t n_lengths);
+
+/*
+ * The float path of the ribbon through the step: one piece for each step, then Close. kinds[i] is one of the four below;
+ * coords has three floats for each piece, in millimetres, zeros for Close. With the coordinates a and b of the edge's two
+ * ends and its lift l, all in sixteenths, a coordinate times 32 is exactly a+b+2l over, a+b-2l under, a+b flat.
+ * Lent: three words for each vertex in `points`, within 65,536 either way; three for each edge in `lifts`, within 4,096.
+ * Answers the number of pieces, p. Writes p words to the front of `kinds` and 3p floats to the front of `coords`.
+ * Declines besides: PLANNER_SHORT_SLICE (points fewer than 1,536, lifts fewer than 3,072, kinds fewer than p, coords fewer
+ * than 3p); PLANNER_MANY_TURNS (an edge on the ribbon with more than one turn, of either hand); PLANNER_FAR (a point or
+ * lift out of range at an edge on the ribbon).
+ */
+#define PLANNER_FLAT 0
+#define PLANNER_OVER 1
+#define PLANNER_UNDER 2
+#define PLANNER_CLOSE 3
+int64_t planner_float_path(const uint16_t *table, size_t words, uint16_t dart, uint16_t type, const int32_t *points,
+                           size_t n_points, const int32_t *lifts, size_t n_lifts, uint16_t *kinds, size_t n_kinds,
+                           float *coords, size_t n_coords);
+
 #ifdef __cplusplus
 }
 #endif

@@ -26,6 +26,28 @@ mod c {
             out: *mut u8,
             out_bytes: usize,
         ) -> i64;
+        pub fn planner_cut_length(
+            table: *const u16,
+            words: usize,
+            dart: u16,
+            kind: u16,
+            lengths: *const u32,
+            n_lengths: usize,
+        ) -> i64;
+        pub fn planner_float_path(
+            table: *const u16,
+            words: usize,
+            dart: u16,
+            kind: u16,
+            points: *const i32,
+            n_points: usize,
+            lifts: *const i32,
+            n_lifts: usize,
+            kinds: *mut u16,
+            n_kinds: usize,
+            coords: *mut f32,
+            n_coords: usize,
+        ) -> i64;
     }
 }
 
@@ -82,6 +104,37 @@ pub fn plain(table: &[u16]) -> i64 {
 
 pub fn letters(table: &[u16], dart: u16, kind: u16, out: &mut [u8]) -> i64 {
     unsafe { c::planner_letters(table.as_ptr(), table.len(), dart, kind, out.as_mut_ptr(), out.len()) }
+}
+
+pub fn cut_length(table: &[u16], dart: u16, kind: u16, lengths: &[u32]) -> i64 {
+    unsafe { c::planner_cut_length(table.as_ptr(), table.len(), dart, kind, lengths.as_ptr(), lengths.len()) }
+}
+
+/// The float path of the ribbon through the step, into two outputs.
+pub fn float_path(
+    table: &[u16],
+    (dart, kind): (u16, u16),
+    points: &[i32],
+    lifts: &[i32],
+    kinds: &mut [u16],
+    coords: &mut [f32],
+) -> i64 {
+    unsafe {
+        c::planner_float_path(
+            table.as_ptr(),
+            table.len(),
+            dart,
+            kind,
+            points.as_ptr(),
+            points.len(),
+            lifts.as_ptr(),
+            lifts.len(),
+            kinds.as_mut_ptr(),
+            kinds.len(),
+            coords.as_mut_ptr(),
+            coords.len(),
+        )
+    }
 }
 
 pub fn edit(table: &mut [u16], edit: Edit) -> i64 {

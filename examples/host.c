@@ -1,0 +1,118 @@
+/*
+ * A host to start from. It builds a small shell through the library, asks for its counts, and prints the ribbon-lengths
+ * sheet, as CSV and as an aligned table: for each ribbon its steps, overs, unders, whether it alternates, and the length of
+ * strip to cut, in millimetres; then the totals. Build it with -I include and libplanner.a.
+ */
+#include "planner.h"
+
+#include <stdio.h>
+#include <stdlib.h>
+
+enum { WORDS = PLANNER_TABLE_WORDS, LISTING = 4096, LETTERS = 2048 * 99 };
+#define LONE(v) (PLANNER_LONE_CORNER + (v))
+
+static uint16_t table[WORDS];
+static uint32_t lengths[PLANNER_EDGES]; /* sixteenths of a millimetre */
+static uint16_t listing[LISTING];
+static uint8_t letters[LETTERS];
+
+/* A pavilion: poles 0 to 3 below, 4 to 7 above them; a strip with one turn along each of its twelve sides. Each strip
+   has the corners that its two ends go into, and its length. */
+static const struct {
+    uint16_t first, second;
+    double millimetres;
+} strips[] = {
+    {LONE(0), LONE(1), 2400.0}, {1, LONE(2), 1800.5}, {3, LONE(3), 2400.0}, {5, 0, 1800.5}, /* the sills */
+    {0, LONE(4), 1950.25}, {2, LONE(5), 1950.25}, {4, LONE(6), 1950.25}, {6, LONE(7), 1950.25}, /* the posts */
+    {9, 11, 2400.0}, {11, 13, 1800.5}, {13, 15, 2400.0}, {15, 16, 1800.5}, /* the eaves */
+};
+enum { POLES = 8, STRIPS = sizeof strips / sizeof strips[0] };
+
+/* The answer of a call, or the end of the program: every call answers 0 or more, or minus the number of a refusal. */
+static int64_t ask(int64_t answer, const char *what) {
+    if (answer < 0) {
+        fprintf(stderr, "%s: declined with %d\n", what, (int)-answer);
+        exit(1);
+    }
+    return answer;
+}
+
+static void build(void) {
+    uint16_t i;
+    ask(planner_empty(table, WORDS), "empty mesh");
+    for (i = 0; i < POLES; i++) {
+        ask(planner_add_vertex(table, WORDS, i), "pole");
+    }
+    for (i = 0; i < STRIPS; i++) {
+        ask(planner_insert_edge(table, WORDS, i, strips[i].first, strips[i].second, 1), "strip");
+        lengths[i] = (uint32_t)(16.0 * strips[i].millimetres + 0.5);
+    }
+}
+
+static void print_counts(void) {
+    int32_t counts[5];
+    ask(planner_counts(table, WORDS, counts, 5), "counts");
+    printf("%d poles, %d strips, %d walks, %d parts, Euler number %d, %s weave\n\n", (int)counts[0], (int)counts[1],
+           (int)counts[2], (int)counts[3], (int)counts[4], ask(planner_plain(table, WORDS), "plain") ? "plain" : "mixed");
+}
+
+struct row {
+    long steps, overs, unders, sixteenths;
+    int alternates;
+};
+
+/* The row of the ribbon through a step of so many steps. */
+static struct row row_of(uint16_t step, long steps) {
+    uint16_t dart = step / 2, type = step % 2;
+    struct row r = {0, 0, 0, 0, 0};
+    long i, n = (long)ask(planner_letters(table, WORDS, dart, type, letters, LETTERS), "letters");
+    r.steps = steps;
+    for (i = 0; i < n; i++) {
+        r.overs += letters[i] == 'O';
+        r.unders += letters[i] == 'U';
+    }
+    r.alternates = (int)ask(planner_alternates(table, WORDS, dart, type), "alternates");
+    r.sixteenths = (long)ask(planner_cut_length(table, WORDS, dart, type, lengths, PLANNER_EDGES), "cut length");
+    return r;
+}
+
+/* Whole millimetres, and sixteenths as four decimals: nothing is rounded. */
+static void print_row(const char *format, const char *name, struct row r, const char *alternates) {
+    char length[32];
+    snprintf(length, sizeof length, "%ld.%04ld", r.sixteenths / 16, r.sixteenths % 16 * 625);
+    printf(format, name, r.steps, r.overs, r.unders, alternates, length);
+}
+
+/* The sheet, a line for each listed walk that has steps, then the totals. */
+static void print_sheet(const char *format) {
+    struct row total = {0, 0, 0, 0, 1};
+    long at = 0, ribbon = 0, n = (long)ask(planner_listing(table, WORDS, listing, LISTING), "listing");
+    while (at < n) {
+        long steps = listing[at++];
+        if (steps == 0) { /* an isolated pole: one word names it */
+            at++;
+            continue;
+        }
+        struct row r = row_of(listing[at], steps);
+        char name[16];
+        snprintf(name, sizeof name, "%ld", ribbon++);
+        print_row(format, name, r, r.alternates ? "yes" : "no");
+        total.steps += r.steps;
+        total.overs += r.overs;
+        total.unders += r.unders;
+        total.sixteenths += r.sixteenths;
+        total.alternates &= r.alternates;
+        at += steps;
+    }
+    print_row(format, "total", total, total.alternates ? "yes" : "no");
+}
+
+int main(void) {
+    build();
+    print_counts();
+    printf("ribbon,steps,overs,unders,alternates,millimetres\n");
+    print_sheet("%s,%ld,%ld,%ld,%s,%s\n");
+    printf("\n%-8s%8s%8s%8s%12s%14s\n", "ribbon", "steps", "overs", "unders", "alternates", "millimetres");
+    print_sheet("%-8s%8ld%8ld%8ld%12s%14s\n");
+    return 0;
+}

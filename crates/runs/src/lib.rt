@@ -1,1 +1,2 @@
-// Runs of edits: the theorem about a whole run stands in specs/.
+// Runs of edits: the theorem about a whole run stands in specs/. Job records: decoded, and run over a table.
+pub mod records;

@@ -4,3 +4,6 @@ pub mod Theorem
 pub mod Records
 pub mod Decoding
 pub mod Reading
+pub mod Lines
+pub mod Blocks
+pub mod Running

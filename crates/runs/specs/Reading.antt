@@ -1,13 +1,13 @@
 -- All records of some bytes, document 01, "The job program": the edits, the bytes that they took, and why the reading ended.
 --     reading-nothing, reading-refused, reading-record    what a reading is, by the first record
---     reading-blocks                                      bytes that come in blocks
+--     reading-blocks, reading-bad                         bytes that come in blocks
 -- Assumes nothing.
 use Prim.Native.Nat.{ℕ, zero, suc, _+_, _*_, _≤_, _<_}
 use native.Mathlib.Omega.{arith}
-use native.Mathlib.Nat.{zero-add, add-assoc}
+use native.Mathlib.Nat.{zero-add, add-zero, add-assoc}
 use mathlib.Core.Path.{_≡_, refl, sym, _∙_, ap, ap₂}
 use mathlib.Core.Logic.{_≢_}
-use mathlib.Core.List.{List, [], _∷_, _++_}
+use mathlib.Core.List.{List, [], _∷_, _++_, append-assoc, append-nil}
 use lib.Dec.{ltb, eqb}
 use lib.ListN.{length, drop, length-append, length-drop, List·getD-append}
 use lib.Seq.{drop-drop, drop-append-le}
@@ -189,6 +189,14 @@ joined-none n r = ap (λ t. record { edits = r .edits; taken = t; stop = r .stop
 after-joined : (E : Edit) (k : ℕ) (r q : Reading) → after E k (joined r q) ≡ joined (after E k r) q
 after-joined E k r q = ap (λ t. record { edits = E ∷ (r .edits ++ q .edits); taken = t; stop = q .stop }) (sym (add-assoc k (r .taken) (q .taken)))
 
+-- one edit more, and the end
+pub joined-after : (r : Reading) (E : Edit) (k : ℕ) (q : Reading) → joined r (after E k q) ≡ joined (record { edits = r .edits ++ (E ∷ []); taken = r .taken + k; stop = 0 }) q
+joined-after r E k q =
+    ap₂ (λ l t. record { edits = l; taken = t; stop = q .stop }) (sym (append-assoc (r .edits) (E ∷ []) (q .edits))) (sym (add-assoc (r .taken) k (q .taken)))
+
+pub joined-ended : (Es : List Edit) (t n : ℕ) → joined (record { edits = Es; taken = t; stop = 0 }) (ended n) ≡ record { edits = Es; taken = t; stop = n }
+joined-ended Es t n = rw (append-nil Es, add-zero t)
+
 -- more bytes do not change a whole record
 word-append : (s b : List ℕ) (i : ℕ) → i + 1 < length s → word (s ++ b) i ≡ word s i
 word-append s b i h = ap₂ (λ x y. x * 256 + y) (List·getD-append s b 0 i (omega arith)) (List·getD-append s b 0 (i + 1) h)
@@ -228,7 +236,35 @@ blocks (suc n) a b h = elim (first-view a) [
       ∙ ap (λ l. joined (after E k r) (reading (l ++ b))) (drop-drop (r .taken) k a))
 ]
 
--- A cut record may be whole with the bytes that follow it, and a bad mark is bad whatever follows.
+-- a cut record may be whole with the bytes that follow it
 pub reading-blocks : (a b : List ℕ) → reading a .stop ≢ numberOf BadMark → reading (a ++ b) ≡ joined (reading a) (reading (drop (reading a .taken) a ++ b))
 unfolding reading
 reading-blocks a b h = blocks (length a) a b h
+
+unknown-append : (s b : List ℕ) → markOf (word s 0) ≡ Unknown → 2 ≤ length s → firstRecord (s ++ b) ≡ Refused BadMark
+unfolding firstRecord
+unknown-append s b e h =
+    let size = length-append s b in
+    let same : markOf (word (s ++ b) 0) ≡ Unknown = ap markOf (word-append s b 0 (omega arith)) ∙ e in
+    rw (ne-eqb (length (s ++ b)) 0 (omega arith), ne-eqb (length (s ++ b)) 1 (omega arith), same)
+
+bad : (n : ℕ) (a b : List ℕ) → readUpTo n a .stop ≡ numberOf BadMark → reading (a ++ b) ≡ readUpTo n a
+unfolding readUpTo
+bad zero a b h = absurd (omega arith)
+bad (suc n) a b h = elim (first-view a) [
+  | nothing z f ↦ let s = sym (ap (λ x. x .stop) (upTo-nothing n a f)) ∙ h in absurd (omega arith)
+  | cut t f ↦ let s = sym (ap (λ x. x .stop) (upTo-refused n a CutRecord f)) ∙ h in absurd (omega arith)
+  | unknown t g f ↦ reading-refused (a ++ b) BadMark (unknown-append a b g t) ∙ sym (upTo-refused n a BadMark f)
+  | whole m g t f ↦
+      let E = editOf m a in
+      let k = sizeOf m in
+      let first = upTo-record n a E k f in
+      reading-record (a ++ b) E k (whole-append m a b g t)
+      ∙ ap (after E k) (ap reading (drop-append-le k a b t) ∙ bad n (drop k a) b (sym (ap (λ x. x .stop) first) ∙ h))
+      ∙ sym first
+]
+
+-- a bad mark is bad whatever follows
+pub reading-bad : (a b : List ℕ) → reading a .stop ≡ numberOf BadMark → reading (a ++ b) ≡ reading a
+unfolding reading
+reading-bad a b h = bad (length a) a b h

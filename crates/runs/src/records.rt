@@ -34,7 +34,9 @@ fn word(s: &[u8], i: usize) -> u16
     requires { ⌜ i + 1 < length (now s) ⌝ }
     ensures { λ r. ⌜ r ≡ word (now (s .entry)) i ⌝ }
 {
-    s[i] as u16 * 256 + s[i + 1] as u16
+    let high = s[i] as u16;
+    let low = s[i + 1] as u16;
+    high * 256 + low
 }
 
 // A word in two's complement.

@@ -7,3 +7,4 @@ pub mod Reading
 pub mod Lines
 pub mod Blocks
 pub mod Running
+pub mod Moving

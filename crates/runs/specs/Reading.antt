@@ -1,8 +1,9 @@
 -- All records of some bytes, document 01, "The job program": the edits, the bytes that they took, and why the reading ended.
 --     reading-nothing, reading-refused, reading-record    what a reading is, by the first record
 --     reading-blocks, reading-bad                         bytes that come in blocks
+--     reading-bounds                                      how many bytes and edits
 -- Assumes nothing.
-use Prim.Native.Nat.{ℕ, zero, suc, _+_, _*_, _≤_, _<_}
+use Prim.Native.Nat.{ℕ, zero, suc, _+_, _-_, _*_, _≤_, _<_}
 use native.Mathlib.Omega.{arith}
 use native.Mathlib.Nat.{zero-add, add-zero, add-assoc}
 use mathlib.Core.Path.{_≡_, refl, sym, _∙_, ap, ap₂}
@@ -11,7 +12,7 @@ use mathlib.Core.List.{List, [], _∷_, _++_, append-assoc, append-nil}
 use lib.Dec.{ltb, eqb}
 use lib.ListN.{length, drop, length-append, length-drop, List·getD-append}
 use lib.Seq.{drop-drop, drop-append-le}
-use borrow.Author.Tests.{ltb-false, le-ltb, eqb-true, eqb-false, ne-eqb}
+use borrow.Author.Tests.{ltb-true, ltb-false, le-ltb, eqb-true, eqb-false, ne-eqb}
 use Rattle.orbits.specs.Truth.{truth, holds, fails}
 use Rattle.table.specs.Answers.{numberOf}
 use Rattle.table.specs.declared.answer.Refusal.{Refusal}
@@ -60,16 +61,23 @@ joined r q = record { edits = r .edits ++ q .edits; taken = r .taken + q .taken;
 
 -- what can stand first
 
+mark-size : (m : Mark) → (4 ≤ sizeOf m) × (sizeOf m ≤ 10)
+mark-size AV = (omega arith, omega arith)
+mark-size RV = (omega arith, omega arith)
+mark-size IE = (omega arith, omega arith)
+mark-size DE = (omega arith, omega arith)
+mark-size TW = (omega arith, omega arith)
+
 pub data First (s : List ℕ) (f : Found) : Type 0 where
   nothing : length s ≡ 0 → f ≡ Nothing → First s f
-  cut : 1 ≤ length s → f ≡ Refused CutRecord → First s f
+  cut : 1 ≤ length s → length s < 10 → f ≡ Refused CutRecord → First s f
   unknown : 2 ≤ length s → markOf (word s 0) ≡ Unknown → f ≡ Refused BadMark → First s f
   whole : (m : Mark) → markOf (word s 0) ≡ Known m → sizeOf m ≤ length s → f ≡ Record (editOf m s) (sizeOf m) → First s f
 
 known-first : (s : List ℕ) (m : Mark) → 2 ≤ length s → markOf (word s 0) ≡ Known m → First s (knownRecord m s)
 unfolding knownRecord
 known-first s m h e = elim (truth (ltb (length s) (sizeOf m))) [
-  | holds l ↦ cut (omega arith) (rw l)
+  | holds l ↦ let short = ltb-true (length s) (sizeOf m) l in let low = mark-size m in cut (omega arith) (omega arith) (rw l)
   | fails l ↦ whole m e (ltb-false (length s) (sizeOf m) l) (rw l)
 ]
 
@@ -82,7 +90,7 @@ unfolding firstRecord
 first-view s = elim (truth (eqb (length s) 0)) [
   | holds e ↦ nothing (eqb-true (length s) 0 e) (rw e)
   | fails e ↦ elim (truth (eqb (length s) 1)) [
-    | holds l ↦ let one = eqb-true (length s) 1 l in cut (omega arith) (rw (e, l))
+    | holds l ↦ let one = eqb-true (length s) 1 l in cut (omega arith) (omega arith) (rw (e, l))
     | fails l ↦
         let some = eqb-false (length s) 0 e in
         let two = eqb-false (length s) 1 l in
@@ -96,13 +104,6 @@ pub record Sized (s : List ℕ) (k : ℕ) : Type 0 where
   pub most : k ≤ 10
   pub there : k ≤ length s
 
-mark-size : (m : Mark) → (4 ≤ sizeOf m) × (sizeOf m ≤ 10)
-mark-size AV = (omega arith, omega arith)
-mark-size RV = (omega arith, omega arith)
-mark-size IE = (omega arith, omega arith)
-mark-size DE = (omega arith, omega arith)
-mark-size TW = (omega arith, omega arith)
-
 record-parts : {E F : Edit} {k l : ℕ} → Record E k ≡ Record F l → k ≡ l
 record-parts e = cc
 
@@ -115,7 +116,7 @@ nothing-other e = let z : _≡_ {A = ℕ} 0 1 = cc in omega arith
 pub record-sized : (s : List ℕ) {E : Edit} {k : ℕ} → firstRecord s ≡ Record E k → Sized s k
 record-sized s e = elim (first-view s) [
   | nothing h f ↦ absurd (nothing-other (sym f ∙ e))
-  | cut h f ↦ absurd (refused-other (sym f ∙ e))
+  | cut h l f ↦ absurd (refused-other (sym f ∙ e))
   | unknown h g f ↦ absurd (refused-other (sym f ∙ e))
   | whole m g h f ↦
       let size = record-parts (sym f ∙ e) in
@@ -144,7 +145,7 @@ unfolding readUpTo
 none-left zero s h = refl
 none-left (suc n) s h = elim (first-view s) [
   | nothing z f ↦ upTo-nothing n s f
-  | cut t f ↦ absurd (omega arith)
+  | cut t c f ↦ absurd (omega arith)
   | unknown t g f ↦ absurd (omega arith)
   | whole m g t f ↦ let low = mark-size m in absurd (omega arith)
 ]
@@ -154,7 +155,7 @@ enough zero m s h l = none-left zero s h ∙ sym (none-left m s h)
 enough (suc n) zero s h l = none-left (suc n) s l ∙ sym (none-left zero s l)
 enough (suc n) (suc m) s h l = elim (first-view s) [
   | nothing z f ↦ upTo-nothing n s f ∙ sym (upTo-nothing m s f)
-  | cut t f ↦ upTo-refused n s CutRecord f ∙ sym (upTo-refused m s CutRecord f)
+  | cut t c f ↦ upTo-refused n s CutRecord f ∙ sym (upTo-refused m s CutRecord f)
   | unknown t g f ↦ upTo-refused n s BadMark f ∙ sym (upTo-refused m s BadMark f)
   | whole k g t f ↦
       let low = mark-size k in
@@ -221,7 +222,7 @@ unfolding readUpTo
 blocks zero a b h = sym (joined-none 0 (reading (a ++ b)))
 blocks (suc n) a b h = elim (first-view a) [
   | nothing z f ↦ rw (upTo-nothing n a f) (sym (joined-none 0 (reading (a ++ b))))
-  | cut t f ↦ rw (upTo-refused n a CutRecord f) (sym (joined-none 11 (reading (a ++ b))))
+  | cut t c f ↦ rw (upTo-refused n a CutRecord f) (sym (joined-none 11 (reading (a ++ b))))
   | unknown t g f ↦ absurd (h (ap (λ r. r .stop) (upTo-refused n a BadMark f)))
   | whole m g t f ↦
       let E = editOf m a in
@@ -253,7 +254,7 @@ unfolding readUpTo
 bad zero a b h = absurd (omega arith)
 bad (suc n) a b h = elim (first-view a) [
   | nothing z f ↦ let s = sym (ap (λ x. x .stop) (upTo-nothing n a f)) ∙ h in absurd (omega arith)
-  | cut t f ↦ let s = sym (ap (λ x. x .stop) (upTo-refused n a CutRecord f)) ∙ h in absurd (omega arith)
+  | cut t c f ↦ let s = sym (ap (λ x. x .stop) (upTo-refused n a CutRecord f)) ∙ h in absurd (omega arith)
   | unknown t g f ↦ reading-refused (a ++ b) BadMark (unknown-append a b g t) ∙ sym (upTo-refused n a BadMark f)
   | whole m g t f ↦
       let E = editOf m a in
@@ -268,3 +269,33 @@ bad (suc n) a b h = elim (first-view a) [
 pub reading-bad : (a b : List ℕ) → reading a .stop ≡ numberOf BadMark → reading (a ++ b) ≡ reading a
 unfolding reading
 reading-bad a b h = bad (length a) a b h
+
+-- the records lie in the bytes, with at least four bytes each; what is left of them is no whole record, unless a bad mark ended the reading
+pub record Bounds (s : List ℕ) (r : Reading) : Type 0 where
+  pub within : r .taken ≤ length s
+  pub some : 4 * length (r .edits) ≤ r .taken
+  pub rest : r .stop ≢ numberOf BadMark → length s - r .taken < 10
+
+bounds : (n : ℕ) (s : List ℕ) → length s ≤ n → Bounds s (readUpTo n s)
+unfolding readUpTo
+bounds zero s h = record { within = omega arith; some = omega arith; rest = λ q. omega arith }
+bounds (suc n) s h = elim (first-view s) [
+  | nothing z f ↦ rw (upTo-nothing n s f) (record { within = omega arith; some = omega arith; rest = λ q. omega arith })
+  | cut t c f ↦ rw (upTo-refused n s CutRecord f) (record { within = omega arith; some = omega arith; rest = λ q. omega arith })
+  | unknown t g f ↦ rw (upTo-refused n s BadMark f) (record { within = omega arith; some = omega arith; rest = λ q. absurd (q refl) })
+  | whole m g t f ↦
+      let low = mark-size m in
+      let size = length-drop (sizeOf m) s in
+      let b = bounds n (drop (sizeOf m) s) (omega arith) in
+      let within = b .within in
+      let some = b .some in
+      rw (upTo-record n s (editOf m s) (sizeOf m) f) (record {
+        within = omega arith;
+        some = omega arith;
+        rest = λ q. let rest = b .rest q in omega arith;
+      })
+]
+
+pub reading-bounds : (s : List ℕ) → Bounds s (reading s)
+unfolding reading
+reading-bounds s = bounds (length s) s (omega arith)

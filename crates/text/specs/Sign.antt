@@ -1,11 +1,12 @@
 -- The sign and the size of a number in a signed word of 32 bits, as the code finds them.
 -- Assumes nothing.
-use Prim.Native.Nat.{ℕ, zero, suc, _+_, _<_, _^_}
+use Prim.Native.Nat.{ℕ, zero, suc, _+_, _<_, _≤_, _^_}
 use native.Mathlib.Omega.{arith}
 use mathlib.Core.Path.{_≡_, refl, sym, _∙_, ap}
 use mathlib.Core.Bool.{true, false}
 use mathlib.Core.List.{List, [], _∷_}
 use lib.Dec.{T}
+use lib.ListN.{length}
 use lib.IntN.{ℤ, pos, negsuc, negℤ, natAbs, _-ℤ_, +ℤ-idl}
 use lib.Signed.{mag, ltZ, nonNeg}
 use borrow.Author.Tests.{ltb-true}
@@ -13,7 +14,7 @@ use mir.Syntax.{w32, w64}
 use mir.Val.{SFits, Fits, toZ, ofZ}
 use mir.Facts.{toZ-ofZ}
 use Rattle.text.specs.Paste.{Pasted, pasted-then, pasted-as}
-use Rattle.text.specs.Decimal.{decimal, integer}
+use Rattle.text.specs.Decimal.{decimal, integer, decimal-short}
 
 -- what the tests of the sign say
 
@@ -46,6 +47,12 @@ positive (negsuc n) h = always-below n h
 size-few : (z : ℤ) → mag z < 2 ^ 31 → natAbs z < 2 ^ 64
 size-few (pos n) h = omega arith
 size-few (negsuc n) h = omega arith
+
+-- at most ten digits and a sign
+pub integer-few : {z : ℤ} → SFits w32 z → length (integer z) ≤ 11
+unfolding integer
+integer-few {z = pos n} f = let l = f .sfits in let few = decimal-short 9 n (omega arith) in omega arith
+integer-few {z = negsuc n} f = let l = f .sfits in let few = decimal-short 9 (suc n) (omega arith) in omega arith
 
 negated-few : (z : ℤ) → mag z < 2 ^ 31 → mag (negℤ z) < 2 ^ 63
 negated-few (pos zero) h = omega arith

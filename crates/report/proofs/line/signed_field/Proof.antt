@@ -1,0 +1,20 @@
+-- `line::signed_field` meets its contract: a space and a signed number.
+use Rattle.report.specs.Wrote.{signed-wrote}
+use borrow.Author.Needs.{needs}
+use Rattle.report.proofs.line.signed_field.Statement.{statement}
+use Rattle.report.proofs.line.signed_field.Tie as tie
+
+byte-requires : tie.Need-byte-requires
+byte-requires c κs = search needs
+
+integer-requires : tie.Need-integer-requires
+integer-requires c κs = search needs
+
+same-length : tie.Need-same-length
+same-length c = search needs
+
+returns : tie.Need-returns
+returns c = signed-wrote (c .before .before .before .before .before .before .before .before .before .fits .z) (c .before .before .before .before .before .before .byte .ensures) (c .before .before .integer .ensures)
+
+pub signed-field-spec : {M : Type 1} → statement M
+signed-field-spec = tie.close (tie.spec byte-requires integer-requires same-length returns)

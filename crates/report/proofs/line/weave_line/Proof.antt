@@ -1,0 +1,47 @@
+-- `line::weave_line` meets its contract, a return for each word.
+use mathlib.Core.Path.{sym, _∙_}
+use Rattle.report.specs.Wrote.{weave-plain, weave-mixed}
+use borrow.Author.Needs.{needs}
+use Rattle.report.proofs.line.weave_line.Statement.{statement}
+use Rattle.report.proofs.line.weave_line.Tie as tie
+
+is-plain-requires : tie.Need-is-plain-requires
+is-plain-requires c κs = search needs
+
+slice-aggregate-bytes : tie.Need-slice-aggregate-bytes
+slice-aggregate-bytes c = search needs
+
+bytes-requires : tie.Need-bytes-requires
+bytes-requires c κs = search needs
+
+same-length : tie.Need-same-length
+same-length c = search needs
+
+returns : tie.Need-returns
+returns c = weave-plain (c .before .before .before .before .before .before .before .before .before .args .t .now) (sym (c .before .before .before .before .before .if1 .taken) ∙ c .before .before .before .before .before .before .is-plain .ensures) (c .before .before .bytes .ensures)
+
+slice-aggregate-bytes-2 : tie.Need-slice-aggregate-bytes-2
+slice-aggregate-bytes-2 c = search needs
+
+bytes-requires-2 : tie.Need-bytes-requires-2
+bytes-requires-2 c κs = search needs
+
+same-length-2 : tie.Need-same-length-2
+same-length-2 c = search needs
+
+returns-2 : tie.Need-returns-2
+returns-2 c = weave-mixed (c .before .before .before .before .before .before .before .before .before .args .t .now) (sym (c .before .before .before .before .before .if1 .left) ∙ c .before .before .before .before .before .before .is-plain .ensures) (c .before .before .bytes2 .ensures)
+
+pub weave-line-spec : {M : Type 1} → statement M
+weave-line-spec =
+    tie.close
+    (tie.spec
+    is-plain-requires
+    slice-aggregate-bytes
+    bytes-requires
+    same-length
+    returns
+    slice-aggregate-bytes-2
+    bytes-requires-2
+    same-length-2
+    returns-2)

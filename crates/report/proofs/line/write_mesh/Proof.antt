@@ -1,0 +1,57 @@
+-- `line::write_mesh` meets its contract: the word and five fields, one after the other.
+use native.Mathlib.Omega.{arith}
+use Rattle.report.specs.Wrote.{short, wrote-then, wrote-as}
+use Rattle.report.specs.Lines.{space, meshText}
+use Rattle.text.specs.Decimal.{integer}
+use mir.Facts.{toZ-ofZ}
+use mathlib.Core.List.{_∷_}
+use mathlib.Core.Path.{ap}
+use borrow.Author.Needs.{needs}
+use Rattle.report.proofs.line.write_mesh.Statement.{statement}
+use Rattle.report.proofs.line.write_mesh.Tie as tie
+
+slice-aggregate-bytes : tie.Need-slice-aggregate-bytes
+slice-aggregate-bytes c = search needs
+
+bytes-requires : tie.Need-bytes-requires
+bytes-requires c κs = search needs
+
+field-requires : tie.Need-field-requires
+field-requires c κs = search needs
+
+field-requires-2 : tie.Need-field-requires-2
+field-requires-2 c κs = search needs
+
+field-requires-3 : tie.Need-field-requires-3
+field-requires-3 c κs = search needs
+
+field-requires-4 : tie.Need-field-requires-4
+field-requires-4 c κs = search needs
+
+signed-field-requires : tie.Need-signed-field-requires
+signed-field-requires c κs = search needs
+
+byte-requires : tie.Need-byte-requires
+byte-requires c κs = search needs
+
+same-length : tie.Need-same-length
+same-length c = search needs
+
+returns : tie.Need-returns
+unfolding meshText
+returns c = wrote-then (wrote-then (wrote-then (wrote-then (wrote-then (wrote-then (short 4 (c .before .before .before .before .before .before .before .before .before .before .before .before .before .before .before .before .before .before .before .before .before .before .before .before .before .before .bytes .ensures) (omega arith)) (c .before .before .before .before .before .before .before .before .before .before .before .before .before .before .before .before .before .before .before .before .before .before .field .ensures)) (c .before .before .before .before .before .before .before .before .before .before .before .before .before .before .before .before .before .before .field2 .ensures)) (c .before .before .before .before .before .before .before .before .before .before .before .before .before .before .field3 .ensures)) (c .before .before .before .before .before .before .before .before .before .before .field4 .ensures)) (wrote-as (c .before .before .before .before .before .before .signed-field .ensures) (ap (λ y. space ∷ integer y) (toZ-ofZ (c .before .before .before .before .before .before .before .before .before .before .before .before .before .before .before .before .before .before .before .before .before .before .before .before .before .before .before .before .before .before .fits .x))))) (short 1 (c .before .before .byte .ensures) (omega arith))
+
+pub write-mesh-spec : {M : Type 1} → statement M
+write-mesh-spec =
+    tie.close
+    (tie.spec
+    slice-aggregate-bytes
+    bytes-requires
+    field-requires
+    field-requires-2
+    field-requires-3
+    field-requires-4
+    signed-field-requires
+    byte-requires
+    same-length
+    returns)

@@ -1,0 +1,60 @@
+-- `part::write_part` meets its contract: the word and three fields, one after the other.
+use Rattle.report.specs.Parts.{euler-on}
+use Rattle.report.specs.Wrote.{short, wrote-then, wrote-as}
+use Rattle.report.specs.Lines.{partText}
+use mathlib.Core.List.{[], _∷_}
+use mathlib.Core.Path.{ap}
+use native.Mathlib.Omega.{arith}
+use borrow.Author.Needs.{needs}
+use Rattle.report.proofs.part.write_part.Statement.{statement}
+use Rattle.report.proofs.part.write_part.Tie as tie
+
+euler-requires : tie.Need-euler-requires
+euler-requires c κs = search needs
+
+side-requires : tie.Need-side-requires
+side-requires c κs = search needs
+
+slice-aggregate-bytes : tie.Need-slice-aggregate-bytes
+slice-aggregate-bytes c = search needs
+
+bytes-requires : tie.Need-bytes-requires
+bytes-requires c κs = search needs
+
+field-requires : tie.Need-field-requires
+field-requires c κs = search needs
+
+signed-field-requires : tie.Need-signed-field-requires
+signed-field-requires c κs = search needs
+
+byte-requires : tie.Need-byte-requires
+byte-requires c κs = search needs
+
+byte-requires-2 : tie.Need-byte-requires-2
+byte-requires-2 c κs = search needs
+
+byte-requires-3 : tie.Need-byte-requires-3
+byte-requires-3 c κs = search needs
+
+same-length : tie.Need-same-length
+same-length c = search needs
+
+returns : tie.Need-returns
+unfolding partText
+returns c = let fits = c .before .before .before .before .before .before .before .before .before .before .before .before .before .before .before .before .before .before .before .before .before .before .before .before .before .before .before .before .fits in wrote-then (wrote-then (wrote-then (wrote-then (short 4 (c .before .before .before .before .before .before .before .before .before .before .before .before .before .before .before .before .before .before .before .before .before .before .bytes .ensures) (omega arith)) (c .before .before .before .before .before .before .before .before .before .before .before .before .before .before .before .before .before .before .field .ensures)) (wrote-as (c .before .before .before .before .before .before .before .before .before .before .before .before .before .before .signed-field .ensures) (euler-on (c .before .before .before .before .before .before .before .before .before .before .before .before .before .before .before .before .before .before .before .before .before .before .before .before .before .before .before .before .args .v) (c .before .before .before .before .before .before .before .before .before .before .before .before .before .before .before .before .before .before .before .before .before .before .before .before .before .before .before .before .args .e) (c .before .before .before .before .before .before .before .before .before .before .before .before .before .before .before .before .before .before .before .before .before .before .before .before .before .before .before .before .args .f) (omega arith) (omega arith) (omega arith) (c .before .before .before .before .before .before .before .before .before .before .before .before .before .before .before .before .before .before .before .before .before .before .before .before .before .before .euler .ensures)))) (wrote-then (short 1 (c .before .before .before .before .before .before .before .before .before .before .byte .ensures) (omega arith)) (wrote-as (short 1 (c .before .before .before .before .before .before .byte2 .ensures) (omega arith)) (ap (λ x. x ∷ []) (c .before .before .before .before .before .before .before .before .before .before .before .before .before .before .before .before .before .before .before .before .before .before .before .before .before .side .ensures))))) (short 1 (c .before .before .byte3 .ensures) (omega arith))
+
+pub write-part-spec : {M : Type 1} → statement M
+write-part-spec =
+    tie.close
+    (tie.spec
+    euler-requires
+    side-requires
+    slice-aggregate-bytes
+    bytes-requires
+    field-requires
+    signed-field-requires
+    byte-requires
+    byte-requires-2
+    byte-requires-3
+    same-length
+    returns)

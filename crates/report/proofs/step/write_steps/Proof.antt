@@ -1,0 +1,49 @@
+-- `step::write_steps` meets its contract. The invariant: the walk is under way, and the fields of its steps so far are written.
+use Rattle.report.specs.Steps.{Stepping, stepping-none, stepping-near, stepping-more, stepping-all}
+use Rattle.report.specs.Wrote.{wrote-length}
+use Rattle.weave.specs.Hands.{walking-less}
+use Rattle.tracing.specs.Search.{left}
+use mathlib.Core.Path.{_∙_}
+use Rattle.report.proofs.step.write_steps.Statement.{statement}
+use Rattle.report.proofs.step.write_steps.Tie as tie
+
+abbrev Inv-loop : tie.InvT-loop
+Inv-loop t out₀ from at s here₀ end₀ out here end = Stepping t s from at here end out₀ out
+
+abbrev μ-loop : tie.MeasureT-loop
+μ-loop t out₀ from at s here₀ end₀ out here end = left t s here
+
+loop-holds : tie.Need-loop-holds Inv-loop μ-loop
+loop-holds c = stepping-none (c .before .before .args .from) (c .before .before .args .at) (c .before .before .args .out .now) (c .before .before .pre .0)
+
+write-step-requires : tie.Need-write-step-requires Inv-loop μ-loop
+write-step-requires c κs = (c .before .loop .inv .walking .there, stepping-near (c .before .before .before .before .pre .1) (c .before .loop .inv))
+
+step-requires : tie.Need-step-requires Inv-loop μ-loop
+step-requires c κs = c .before .before .before .before .loop .inv .walking .there
+
+same-length : tie.Need-same-length Inv-loop μ-loop
+same-length c = wrote-length (c .before .before .before .before .write-step .ensures) ∙ wrote-length (c .before .before .before .before .before .before .loop .inv .wrote)
+
+returns : tie.Need-returns Inv-loop μ-loop
+returns c = stepping-all (c .before .before .before .before .before .before .loop .inv) (c .before .before .before .before .write-step .ensures) (c .before .step .ensures) (c .if1 .taken)
+
+loop-less : tie.Need-loop-less Inv-loop μ-loop
+loop-less c = walking-less (c .before .before .before .before .before .before .loop .inv .walking) (c .before .step .ensures) (c .if1 .left)
+
+loop-again : tie.Need-loop-again Inv-loop μ-loop
+loop-again c = stepping-more (c .before .before .before .before .before .before .loop .inv) (c .before .before .before .before .write-step .ensures) (c .before .step .ensures) (c .if1 .left)
+
+pub write-steps-spec : {M : Type 1} → statement M
+write-steps-spec =
+    tie.close
+    (tie.spec
+    Inv-loop
+    μ-loop
+    loop-holds
+    write-step-requires
+    step-requires
+    same-length
+    returns
+    loop-less
+    loop-again)

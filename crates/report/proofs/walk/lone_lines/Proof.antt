@@ -1,0 +1,48 @@
+-- `walk::lone_lines` meets its contract. The invariant: the lines of the isolated vertices below v are written.
+use Rattle.report.specs.Walks.{Ending, ending-none, ending-at, ending-more, ending-all}
+use Rattle.report.specs.Wrote.{wrote-length}
+use Prim.Native.Nat.{_-_}
+use native.Mathlib.Omega.{arith}
+use Rattle.report.proofs.walk.lone_lines.Statement.{statement}
+use Rattle.report.proofs.walk.lone_lines.Tie as tie
+
+abbrev Inv-loop : tie.InvT-loop
+Inv-loop t out₀ from at first end₀ i₀ v₀ out end i v = Ending t from at first v i end out₀ out
+
+abbrev μ-loop : tie.MeasureT-loop
+μ-loop t out₀ from at first end₀ i₀ v₀ out end i v = 512 - v
+
+loop-holds : tie.Need-loop-holds Inv-loop μ-loop
+loop-holds c = ending-none (c .before .before .args .t .now) (c .before .before .args .from) (c .before .before .args .at) (c .before .before .args .first) (c .before .before .args .out .now)
+
+lone-line-requires : tie.Need-lone-line-requires Inv-loop μ-loop
+lone-line-requires c κs = ending-at (c .before .before .before .before .before .pre .0) (c .before .before .before .before .before .pre .1) (c .before .before .before .before .before .pre .2) (c .before .before .loop .inv) (c .before .loop-test .taken)
+
+add-v : tie.Need-add-v Inv-loop μ-loop
+add-v c = omega arith
+
+loop-less : tie.Need-loop-less Inv-loop μ-loop
+loop-less c = omega arith
+
+loop-again : tie.Need-loop-again Inv-loop μ-loop
+loop-again c = ending-more (c .before .before .before .before .before .loop .inv) (c .before .before .before .before .loop-test .taken) (c .before .before .lone-line .ensures)
+
+same-length : tie.Need-same-length Inv-loop μ-loop
+same-length c = wrote-length (c .before .loop .inv .wrote)
+
+returns : tie.Need-returns Inv-loop μ-loop
+returns c = ending-all (c .before .loop .inv) (c .loop-test .left)
+
+pub lone-lines-spec : {M : Type 1} → statement M
+lone-lines-spec =
+    tie.close
+    (tie.spec
+    Inv-loop
+    μ-loop
+    loop-holds
+    lone-line-requires
+    add-v
+    loop-less
+    loop-again
+    same-length
+    returns)

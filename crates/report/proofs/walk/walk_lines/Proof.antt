@@ -1,0 +1,48 @@
+-- `walk::walk_lines` meets its contract. The invariant: the lines of the walks that start below d are written, and their corners are marked.
+use Rattle.report.specs.Walks.{Numbering, numbering-none, numbering-at, numbering-more, numbering-all}
+use Rattle.report.specs.Wrote.{wrote-length}
+use Prim.Native.Nat.{_-_}
+use native.Mathlib.Omega.{arith}
+use Rattle.report.proofs.walk.walk_lines.Statement.{statement}
+use Rattle.report.proofs.walk.walk_lines.Tie as tie
+
+abbrev Inv-loop : tie.InvT-loop
+Inv-loop t out₀ from at met₀ end₀ i₀ d₀ out met end i d = Numbering t from at d i end met out₀ out
+
+abbrev μ-loop : tie.MeasureT-loop
+μ-loop t out₀ from at met₀ end₀ i₀ d₀ out met end i d = 2048 - d
+
+loop-holds : tie.Need-loop-holds Inv-loop μ-loop
+loop-holds c = numbering-none (c .before .before .args .from) (c .before .before .args .at) (c .before .before .args .out .now) (c .before .before .pre .0)
+
+walk-line-requires : tie.Need-walk-line-requires Inv-loop μ-loop
+walk-line-requires c κs = numbering-at (c .before .before .before .before .before .before .pre .1) (c .before .before .before .loop .inv) (c .before .before .loop-test .taken)
+
+add-d : tie.Need-add-d Inv-loop μ-loop
+add-d c = omega arith
+
+loop-less : tie.Need-loop-less Inv-loop μ-loop
+loop-less c = omega arith
+
+loop-again : tie.Need-loop-again Inv-loop μ-loop
+loop-again c = numbering-more (c .before .before .before .before .before .before .loop .inv) (c .before .before .before .before .before .loop-test .taken) (c .before .before .walk-line .ensures)
+
+same-length : tie.Need-same-length Inv-loop μ-loop
+same-length c = wrote-length (c .before .loop .inv .wrote)
+
+returns : tie.Need-returns Inv-loop μ-loop
+returns c = numbering-all (c .before .loop .inv) (c .loop-test .left)
+
+pub walk-lines-spec : {M : Type 1} → statement M
+walk-lines-spec =
+    tie.close
+    (tie.spec
+    Inv-loop
+    μ-loop
+    loop-holds
+    walk-line-requires
+    add-d
+    loop-less
+    loop-again
+    same-length
+    returns)

@@ -1,0 +1,6 @@
+// The lines that the job program prints after reading.
+pub mod line;
+pub mod part;
+pub mod report;
+pub mod step;
+pub mod walk;

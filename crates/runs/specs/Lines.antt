@@ -1,6 +1,6 @@
 -- The lines for records that are declined, document 01, "The job program".
 -- Assumes nothing.
-use Prim.Native.Nat.{ℕ, zero, suc, _+_, _≤_, _<_, _^_}
+use Prim.Native.Nat.{ℕ, zero, suc, _+_, _*_, _≤_, _<_, _^_}
 use native.Mathlib.Omega.{arith}
 use native.Mathlib.Nat.{add-zero}
 use mathlib.Core.Path.{_≡_, refl, sym, _∙_, ap}
@@ -79,6 +79,20 @@ answer-few : (n : ℕ) (a : Answer) → n < 2 ^ 64 → length (lineBy n a) ≤ 2
 answer-few n (Done f) h = omega arith
 answer-few n (Declined r) h = let few = decimal-few n h in let two = number-few r in simp length-append (omega arith)
 
-pub line-few : (t : List ℕ) (n : ℕ) (E : Edit) → n < 2 ^ 64 → length (editLine t n E) ≤ 27
+line-few : (t : List ℕ) (n : ℕ) (E : Edit) → n < 2 ^ 64 → length (editLine t n E) ≤ 27
 unfolding editLine
 line-few t n E h = answer-few n (answer t E) h
+
+pub lines-few : (t : List ℕ) (n : ℕ) (Es : List Edit) → n + length Es ≤ 2 ^ 64 → length (lines t n Es) ≤ 27 * length Es
+unfolding lines
+lines-few t n [] h = omega arith
+lines-few t n (E ∷ Es) h =
+    let one = line-few t n E (omega arith) in
+    let rest = lines-few (edited t E) (suc n) Es (omega arith) in
+    rw length-append (omega arith)
+
+-- the last line, whatever its number
+pub stop-few : (n r : ℕ) → n < 2 ^ 64 → r < 2 ^ 64 → length (stopLine n r) ≤ 45
+unfolding stopLine
+stop-few n zero h l = omega arith
+stop-few n (suc r) h l = let first = decimal-few n h in let second = decimal-few (suc r) l in simp length-append (omega arith)

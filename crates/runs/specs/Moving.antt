@@ -15,9 +15,9 @@ use Rattle.tracing.specs.Writing.{Front, front-none, front-more}
 use Rattle.runs.specs.declared.run.Ran.{Ran}
 use Rattle.runs.specs.declared.block.Block.{Block}
 use Rattle.runs.specs.Reading.{reading, reading-bounds}
-use Rattle.runs.specs.Lines.{lines}
-use Rattle.runs.specs.Blocks.{left, left-none, left-some}
-use Rattle.runs.specs.Running.{ran}
+use Rattle.runs.specs.Lines.{lines, lines-few}
+use Rattle.runs.specs.Blocks.{left, left-none, left-some, left-few}
+use Rattle.runs.specs.Running.{Ready, ran}
 
 -- what the code answers
 abbrev pub blockOf : List ℕ → ℕ → List ℕ → Block
@@ -27,6 +27,21 @@ blockOf t number s = record {
   written = length (lines t number (reading s .edits));
   stop = reading s .stop;
 }
+
+-- what a caller can count on: few bytes are left, so there is room for more; the records are not more than the bytes; the lines have room
+pub record BlockFits (number : ℕ) (s out : List ℕ) (b : Block) : Type 0 where
+  pub few : b .left < 10
+  pub next : b .next ≤ number + length s
+  pub written : b .written ≤ length out
+
+pub block-fits : (t : List ℕ) {number : ℕ} {s out : List ℕ} {b : Block} → Ready number s out → b ≡ blockOf t number s → BlockFits number s out b
+block-fits t {number} {s} h e =
+    let bounds = reading-bounds s in
+    let within = bounds .within in
+    let some = bounds .some in
+    let ready = h in
+    let lines = lines-few t number (reading s .edits) (omega arith) in
+    rw e (record { few = left-few s; next = omega arith; written = omega arith })
 
 -- the loop that moves bytes to the front: the first i stand
 

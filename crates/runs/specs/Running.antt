@@ -19,7 +19,7 @@ use Rattle.runs.specs.declared.run.Ran.{Ran}
 use Rattle.runs.specs.Run.{run, run-append, run-one}
 use Rattle.runs.specs.Records.{firstRecord}
 use Rattle.runs.specs.Reading.{reading, ended, after, joined, joined-none, joined-after, joined-ended, reading-nothing, reading-refused, reading-record, record-sized}
-use Rattle.runs.specs.Lines.{noLine, stopLine, editLine, lines, lines-append, lines-one, line-few}
+use Rattle.runs.specs.Lines.{noLine, stopLine, editLine, lines, lines-append, lines-one, lines-few}
 
 -- what the code asks: the records can be counted, and there is room for the lines, 27 bytes at most for 4 bytes of a record
 pub record Ready (number : ℕ) (s out : List ℕ) : Type 0 where
@@ -60,7 +60,6 @@ pub record Running (t₀ s : List ℕ) (number : ℕ) (out₀ t : List ℕ) (at 
   pub count : next ≡ number + length so-far
   pub few : 4 * length so-far ≤ at
   pub text : Pasted 0 0 out₀ (lines t₀ number so-far) end out
-  pub short : end ≤ 27 * length so-far
 
 pub running-none : {t s : List ℕ} {number : ℕ} {out : List ℕ} → Ready number s out → Running t s number out t 0 number 0 out
 unfolding run lines
@@ -74,7 +73,6 @@ running-none {s = s} {out = out} h = record {
   count = omega arith;
   few = omega arith;
   text = record { end = omega arith; shows = sym (paste-none 0 0 out) };
-  short = omega arith;
 }
 
 module _ {t₀ s : List ℕ} {number : ℕ} {out₀ t : List ℕ} {at next end : ℕ} {out : List ℕ} (k : Running t₀ s number out₀ t at next end out) where
@@ -103,9 +101,10 @@ module _ {t₀ s : List ℕ} {number : ℕ} {out₀ t : List ℕ} {at next end :
         let left = length-drop at s in
         let r = k .ready in
         let few = k .few in
-        let short = k .short in
         let count = k .count in
         let within = k .within in
+        let end = k .text .end in
+        let short = lines-few t₀ number (k .so-far) (omega arith) in
         record { some = z .some; there = omega arith; low = omega arith; number-fits = omega arith; place = omega arith }
 
     pub running-more : {E : Edit} {size : ℕ} {t′ : List ℕ} {end′ : ℕ} {out′ : List ℕ} → f ≡ Record E size → t′ ≡ edited t E → length t′ ≡ length t
@@ -116,10 +115,7 @@ module _ {t₀ s : List ℕ} {number : ℕ} {out₀ t : List ℕ} {at next end :
         let w = running-within q in
         let count = k .count in
         let few = k .few in
-        let short = k .short in
-        let line = line-few t next E (omega arith) in
         let more = length-append Es (E ∷ []) in
-        let place = p .end in
         record {
           so-far = Es ++ (E ∷ []);
           ready = k .ready;
@@ -133,7 +129,6 @@ module _ {t₀ s : List ℕ} {number : ℕ} {out₀ t : List ℕ} {at next end :
           count = omega arith;
           few = let some = w .some in omega arith;
           text = pasted-as (pasted-then (k .text) p) (line-more Es (k .table) (k .count));
-          short = omega arith;
         }
       where
         line-more : (Es : List Edit) → t ≡ run t₀ Es → next ≡ number + length Es → lines t₀ number Es ++ editLine t next E ≡ lines t₀ number (Es ++ (E ∷ []))

@@ -1,0 +1,64 @@
+-- `block::run_block` meets its contract: the records are run, and what is left of the bytes is moved, unless a bad mark ended the reading.
+use Rattle.runs.specs.Moving.{block-bad, taken-there, block-more}
+use lib.Seq.{length-take-le}
+use mathlib.Core.Path.{sym}
+use borrow.Author.Needs.{needs}
+use Rattle.runs.proofs.block.run_block.Statement.{statement}
+use Rattle.runs.proofs.block.run_block.Tie as tie
+
+slice-reshare-prefix-run-records : tie.Need-slice-reshare-prefix-run-records
+slice-reshare-prefix-run-records c = search needs
+
+slice-aggregate-run-records : tie.Need-slice-aggregate-run-records
+slice-aggregate-run-records c = sym (length-take-le _ _ (c .before .before .before .before .before .pre .0))
+
+run-records-requires : tie.Need-run-records-requires
+run-records-requires c κs = search needs
+
+same-length : tie.Need-same-length
+same-length c = search needs
+
+same-length-2 : tie.Need-same-length-2
+same-length-2 c = search needs
+
+same-length-3 : tie.Need-same-length-3
+same-length-3 c = search needs
+
+returns : tie.Need-returns
+returns c = let b = block-bad (c .before .before .before .before .before .before .before .before .before .before .before .before .before .args .t .now) (c .before .before .before .before .before .before .before .before .before .before .before .before .before .args .number) (c .before .before .before .before .before .before .before .before .before .before .before .before .before .args .buf .now) (c .before .before .before .before .before .before .before .before .before .before .before .before .before .args .n) (c .before .before .before .before .before .before .run-records .ensures .0) (c .if1 .taken) in (b .0, c .before .before .before .before .before .before .run-records .ensures .1, b .1, c .before .before .before .before .before .before .run-records .ensures .2)
+
+move-front-requires : tie.Need-move-front-requires
+move-front-requires c κs = (taken-there _ _ _ _ (c .before .before .before .before .before .before .before .run-records .ensures .0) (c .before .before .before .before .before .before .before .before .before .before .before .before .before .before .pre .0), c .before .before .before .before .before .before .before .before .before .before .before .before .before .before .pre .0)
+
+sub-t18 : tie.Need-sub-t18
+sub-t18 c = taken-there _ _ _ _ (c .before .before .before .before .before .before .before .before .before .before .run-records .ensures .0) (c .before .before .before .before .before .before .before .before .before .before .before .before .before .before .before .before .before .pre .0)
+
+same-length-4 : tie.Need-same-length-4
+same-length-4 c = search needs
+
+same-length-5 : tie.Need-same-length-5
+same-length-5 c = search needs
+
+same-length-6 : tie.Need-same-length-6
+same-length-6 c = search needs
+
+returns-2 : tie.Need-returns-2
+returns-2 c = let b = block-more _ _ _ _ (c .before .before .before .before .before .before .before .before .before .before .run-records .ensures .0) (c .before .before .before .before .before .before .before .before .before .before .before .before .before .before .before .before .before .pre .0) (c .before .before .before .before .if1 .left) (c .before .before .move-front .ensures) in (b .0, c .before .before .before .before .before .before .before .before .before .before .run-records .ensures .1, b .1, c .before .before .before .before .before .before .before .before .before .before .run-records .ensures .2)
+
+pub run-block-spec : {M : Type 1} → statement M
+run-block-spec =
+    tie.close
+    (tie.spec
+    slice-reshare-prefix-run-records
+    slice-aggregate-run-records
+    run-records-requires
+    same-length
+    same-length-2
+    same-length-3
+    returns
+    move-front-requires
+    sub-t18
+    same-length-4
+    same-length-5
+    same-length-6
+    returns-2)

@@ -1,0 +1,44 @@
+-- `lines::no_line` meets its contract: its five fields, one after the other.
+use Rattle.text.specs.Paste.{pasted-then}
+use Rattle.text.specs.Decimal.{decimal-few}
+use native.Mathlib.Omega.{arith}
+use borrow.Author.Needs.{needs}
+use Rattle.runs.proofs.lines.no_line.Statement.{statement}
+use Rattle.runs.proofs.lines.no_line.Tie as tie
+
+slice-aggregate-bytes : tie.Need-slice-aggregate-bytes
+slice-aggregate-bytes c = search needs
+
+bytes-requires : tie.Need-bytes-requires
+bytes-requires c κs = search needs
+
+number-requires : tie.Need-number-requires
+number-requires c κs = search needs
+
+byte-requires : tie.Need-byte-requires
+byte-requires c κs = let word = c .before .before .before .before .before .before .before .bytes .ensures .end in let first = c .before .before .before .number .ensures .end in let few = decimal-few _ (c .before .before .before .before .before .before .before .before .before .before .before .fits .n .fits) in omega arith
+
+number-requires-2 : tie.Need-number-requires-2
+number-requires-2 c κs = let word = c .before .before .before .before .before .before .before .before .before .before .before .bytes .ensures .end in let first = c .before .before .before .before .before .before .before .number .ensures .end in let space = c .before .before .before .byte .ensures .end in let few = decimal-few _ (c .before .before .before .before .before .before .before .before .before .before .before .before .before .before .before .fits .n .fits) in omega arith
+
+byte-requires-2 : tie.Need-byte-requires-2
+byte-requires-2 c κs = let word = c .before .before .before .before .before .before .before .before .before .before .before .before .before .before .before .bytes .ensures .end in let first = c .before .before .before .before .before .before .before .before .before .before .before .number .ensures .end in let space = c .before .before .before .before .before .before .before .byte .ensures .end in let second = c .before .before .before .number2 .ensures .end in let few = decimal-few _ (c .before .before .before .before .before .before .before .before .before .before .before .before .before .before .before .before .before .before .before .fits .n .fits) in let two = decimal-few _ (c .before .before .before .before .before .before .before .before .before .before .before .before .before .before .before .before .before .before .before .fits .refusal .fits) in omega arith
+
+same-length : tie.Need-same-length
+same-length c = search needs
+
+returns : tie.Need-returns
+returns c = pasted-then (c .before .before .before .before .before .before .before .before .before .before .before .before .before .before .before .before .before .before .bytes .ensures) (pasted-then (c .before .before .before .before .before .before .before .before .before .before .before .before .before .before .number .ensures) (pasted-then (c .before .before .before .before .before .before .before .before .before .before .byte .ensures) (pasted-then (c .before .before .before .before .before .before .number2 .ensures) (c .before .before .byte2 .ensures))))
+
+pub no-line-spec : {M : Type 1} → statement M
+no-line-spec =
+    tie.close
+    (tie.spec
+    slice-aggregate-bytes
+    bytes-requires
+    number-requires
+    byte-requires
+    number-requires-2
+    byte-requires-2
+    same-length
+    returns)

@@ -1,0 +1,47 @@
+-- `records::first_record` meets its contract: nothing, a lone byte, then by the mark.
+use mathlib.Core.Path.{refl}
+use Rattle.runs.specs.Decoding.{first-nothing, first-lone, first-marked}
+use borrow.Author.Needs.{needs}
+use Rattle.runs.proofs.records.first_record.Statement.{statement}
+use Rattle.runs.proofs.records.first_record.Tie as tie
+
+returns : tie.Need-returns
+returns c = first-nothing _ (c .if1 .taken)
+
+returns-2 : tie.Need-returns-2
+returns-2 c = first-lone _ (c .before .if1 .left) (c .if2 .taken)
+
+word-requires : tie.Need-word-requires
+word-requires c κs = search needs
+
+mark-of-requires : tie.Need-mark-of-requires
+mark-of-requires c κs = search needs
+
+enum-known-m : tie.Need-enum-known-m
+enum-known-m c = search needs
+
+known-record-requires : tie.Need-known-record-requires
+known-record-requires c κs = search needs
+
+enum-told : tie.Need-enum-told
+enum-told c = search needs
+
+returns-3 : tie.Need-returns-3
+returns-3 c = first-marked _ (c .before .before .before .before .before .before .before .if1 .left) (c .before .before .before .before .before .before .if2 .left) (c .before .before .before .before .before .word .ensures) (c .before .before .before .before .mark-of .ensures) (c .before .before .m .given .1) (c .known-record .ensures)
+
+returns-4 : tie.Need-returns-4
+returns-4 c = first-marked _ (c .before .before .before .before .before .if1 .left) (c .before .before .before .before .if2 .left) (c .before .before .before .word .ensures) (c .before .before .mark-of .ensures) (c .enum-told .given .1) refl
+
+pub first-record-spec : {M : Type 1} → statement M
+first-record-spec =
+    tie.close
+    (tie.spec
+    returns
+    returns-2
+    word-requires
+    mark-of-requires
+    enum-known-m
+    known-record-requires
+    enum-told
+    returns-3
+    returns-4)

@@ -1,0 +1,101 @@
+-- `run::run_records` meets its contract. The invariant: the edits of the bytes taken so far are done, and their lines written.
+use borrow.Author.Needs.{needs}
+use native.Mathlib.Omega.{arith}
+use Prim.Native.Nat.{_-_}
+use lib.ListN.{length}
+use Rattle.runs.specs.Running.{Running, running-none, running-within, running-more, running-size, running-refused, running-nothing}
+use Rattle.runs.proofs.run.run_records.Statement.{statement}
+use Rattle.runs.proofs.run.run_records.Tie as tie
+
+abbrev Inv-loop : tie.InvT-loop
+Inv-loop t₀ bytes number out₀ at₀ next₀ end₀ t out at next end = Running t₀ bytes number out₀ t at next end out
+
+abbrev μ-loop : tie.MeasureT-loop
+μ-loop t₀ bytes number out₀ at₀ next₀ end₀ t out at next end = length bytes - at
+
+loop-holds : tie.Need-loop-holds Inv-loop μ-loop
+loop-holds c = running-none (c .before .before .before .pre)
+
+sub-first-record : tie.Need-sub-first-record Inv-loop μ-loop
+sub-first-record c = let within = c .loop .inv .within in omega arith
+
+part-first-record-start : tie.Need-part-first-record-start Inv-loop μ-loop
+part-first-record-start c = let within = c .loop .inv .within in omega arith
+
+part-first-record-end : tie.Need-part-first-record-end Inv-loop μ-loop
+part-first-record-end c = search needs
+
+first-record-requires : tie.Need-first-record-requires Inv-loop μ-loop
+first-record-requires c κs = search needs
+
+enum-known-edit : tie.Need-enum-known-edit Inv-loop μ-loop
+enum-known-edit c = search needs
+
+run-record-requires : tie.Need-run-record-requires Inv-loop μ-loop
+run-record-requires c κs = running-within (c .before .before .before .before .before .before .before .loop .inv) (c .before .before .before .before .before .first-record .ensures) (c .before .before .before .edit .given .1) .place
+
+add-at : tie.Need-add-at Inv-loop μ-loop
+add-at c = let w = running-within (c .before .before .before .before .before .before .before .before .before .before .before .before .loop .inv) (c .before .before .before .before .before .before .before .before .before .before .first-record .ensures) (c .before .before .before .before .before .before .before .before .edit .given .1) in omega arith
+
+add-next : tie.Need-add-next Inv-loop μ-loop
+add-next c = let w = running-within (c .before .before .before .before .before .before .before .before .before .before .before .before .loop .inv) (c .before .before .before .before .before .before .before .before .before .before .first-record .ensures) (c .before .before .before .before .before .before .before .before .edit .given .1) in omega arith
+
+loop-less : tie.Need-loop-less Inv-loop μ-loop
+loop-less c = let w = running-within (c .before .before .before .before .before .before .before .before .before .before .before .before .loop .inv) (c .before .before .before .before .before .before .before .before .before .before .first-record .ensures) (c .before .before .before .before .before .before .before .before .edit .given .1) in omega arith
+
+loop-again : tie.Need-loop-again Inv-loop μ-loop
+loop-again c = running-more (c .before .before .before .before .before .before .before .before .before .before .before .before .loop .inv) (c .before .before .before .before .before .before .before .before .before .before .first-record .ensures) (c .before .before .before .before .before .before .before .before .edit .given .1) (c .before .before .before .before .run-record .ensures .0) (c .before .before .before .before .run-record .kept .0) (c .before .before .before .before .run-record .ensures .1)
+
+enum-known-r : tie.Need-enum-known-r Inv-loop μ-loop
+enum-known-r c = search needs
+
+number-of-requires : tie.Need-number-of-requires Inv-loop μ-loop
+number-of-requires c κs = search needs
+
+same-length : tie.Need-same-length Inv-loop μ-loop
+same-length c = c .before .before .before .before .before .before .loop .inv .size
+
+same-length-2 : tie.Need-same-length-2 Inv-loop μ-loop
+same-length-2 c = running-size (c .before .before .before .before .before .before .loop .inv)
+
+returns : tie.Need-returns Inv-loop μ-loop
+returns c = running-refused (c .before .before .before .before .before .before .loop .inv) (c .before .before .before .before .first-record .ensures) (c .before .before .r .given .1) (c .number-of .ensures)
+
+enum-told : tie.Need-enum-told Inv-loop μ-loop
+enum-told c = search needs
+
+same-length-3 : tie.Need-same-length-3 Inv-loop μ-loop
+same-length-3 c = c .before .before .before .before .loop .inv .size
+
+same-length-4 : tie.Need-same-length-4 Inv-loop μ-loop
+same-length-4 c = running-size (c .before .before .before .before .loop .inv)
+
+returns-2 : tie.Need-returns-2 Inv-loop μ-loop
+returns-2 c = running-nothing (c .before .before .before .before .loop .inv) (c .before .before .first-record .ensures) (c .enum-told .given .1)
+
+pub run-records-spec : {M : Type 1} → statement M
+run-records-spec =
+    tie.close
+    (tie.spec
+    Inv-loop
+    μ-loop
+    loop-holds
+    sub-first-record
+    part-first-record-start
+    part-first-record-end
+    first-record-requires
+    enum-known-edit
+    run-record-requires
+    add-at
+    add-next
+    loop-less
+    loop-again
+    enum-known-r
+    number-of-requires
+    same-length
+    same-length-2
+    returns
+    enum-told
+    same-length-3
+    same-length-4
+    returns-2)

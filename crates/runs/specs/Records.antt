@@ -1,0 +1,70 @@
+-- Job records, document 01, "The job program": the first record of some bytes.
+-- Assumes nothing.
+use Prim.Native.Nat.{ℕ, _+_, _-_, _*_}
+use mathlib.Core.Bool.{Bool, true, false}
+use mathlib.Core.List.{List}
+use lib.IntN.{ℤ, pos, negsuc}
+use lib.Dec.{ltb, eqb}
+use lib.ListN.{length, getD}
+use Rattle.table.specs.declared.answer.Refusal.the-variants.{BadMark, CutRecord}
+use Rattle.edits.specs.declared.edit.Edit.{Edit}
+use Rattle.edits.specs.declared.edit.Edit.the-variants.{AddVertex, RemoveVertex, InsertEdge, DeleteEdge, TurnEdge}
+use Rattle.runs.specs.declared.records.Mark.{Mark}
+use Rattle.runs.specs.declared.records.Mark.the-variants.{AV, RV, IE, DE, TW}
+use Rattle.runs.specs.declared.records.Marked.{Marked}
+use Rattle.runs.specs.declared.records.Marked.the-variants.{Known, Unknown}
+use Rattle.runs.specs.declared.records.Found.{Found}
+use Rattle.runs.specs.declared.records.Found.the-variants.{Record, Refused, Nothing}
+
+abbrev pub pick : {A : Type 0} → Bool → A → A → A
+pick true a b = a
+pick false a b = b
+
+-- "16-bit words, high byte first": the one at byte i
+abbrev pub word : List ℕ → ℕ → ℕ
+word s i = getD s i 0 * 256 + getD s (i + 1) 0
+
+-- "k and amount in two's complement"
+abbrev pub signedWord : ℕ → ℤ
+signedWord w = pick (ltb w 32768) (pos w) (negsuc (65535 - w))
+
+-- "a two-byte mark": the letters' codes
+abbrev pub markOf : ℕ → Marked
+markOf w =
+    pick (eqb w (65 * 256 + 86)) (Known AV)
+    (pick (eqb w (82 * 256 + 86)) (Known RV)
+    (pick (eqb w (73 * 256 + 69)) (Known IE)
+    (pick (eqb w (68 * 256 + 69)) (Known DE)
+    (pick (eqb w (84 * 256 + 87)) (Known TW)
+    Unknown))))
+
+-- "AV v; RV v; IE e c1 c2 k; DE e; TW e amount": the bytes of a record, its mark included
+abbrev pub sizeOf : Mark → ℕ
+sizeOf AV = 4
+sizeOf RV = 4
+sizeOf IE = 10
+sizeOf DE = 4
+sizeOf TW = 6
+
+abbrev pub editOf : Mark → List ℕ → Edit
+editOf AV s = AddVertex (word s 2)
+editOf RV s = RemoveVertex (word s 2)
+editOf IE s = InsertEdge (word s 2) (word s 4) (word s 6) (signedWord (word s 8))
+editOf DE s = DeleteEdge (word s 2)
+editOf TW s = TurnEdge (word s 2) (signedWord (word s 4))
+
+-- "cut record: fewer bytes than the record needs"
+unfoldable pub knownRecord : Mark → List ℕ → Found
+knownRecord m s = pick (ltb (length s) (sizeOf m)) (Refused CutRecord) (Record (editOf m s) (sizeOf m))
+
+-- "bad mark: job record with an unknown mark"
+abbrev pub markedRecord : Marked → List ℕ → Found
+markedRecord (Known m) s = knownRecord m s
+markedRecord Unknown s = Refused BadMark
+
+-- the first record; "one lone byte included" among the cut ones
+unfoldable pub firstRecord : List ℕ → Found
+firstRecord s =
+    pick (eqb (length s) 0) Nothing
+    (pick (eqb (length s) 1) (Refused CutRecord)
+    (markedRecord (markOf (word s 0)) s))

@@ -61,11 +61,11 @@ partText r x b = part-word ++ (space ∷ decimal r) ++ (space ∷ integer x) ++ 
 abbrev pub partLine : Rotation → ℕ → List ℕ
 partLine R r = partText r (partEuler R r) (orientable R r)
 
--- "each step as dart/type:letters, one letter per crossing in order of travel and none for an edge without turns"
+-- 47 is "/", 58 is ":". "each step as dart/type:letters, one letter per crossing in order of travel and none for an edge without turns"
 unfoldable pub stepText : List ℕ → ℕ → List ℕ
 stepText t s = (space ∷ decimal (s / 2)) ++ (47 ∷ []) ++ decimal (s % 2) ++ (58 ∷ []) ++ stepLetters t s
 
--- "steps", then each step; "an isolated vertex as *v". A listed face is named by the corner that its walk starts at.
+-- "steps", then each step; 42 is "*": "an isolated vertex as *v". A listed face is named by the corner that its walk starts at.
 unfoldable pub walkFields : List ℕ → ℕ → List ℕ
 walkFields t c =
     elim (ltb c loneAt) [

@@ -1,5 +1,5 @@
 -- The report, from its pieces.
-use Prim.Native.Nat.{ℕ, _+_}
+use Prim.Native.Nat.{ℕ, _+_, _<_, _^_}
 use native.Mathlib.Omega.{arith}
 use mathlib.Core.Path.{_≡_, sym, _∙_, ap}
 use mathlib.Core.List.{List, _++_, map}
@@ -8,7 +8,7 @@ use Rattle.table.specs.Layout.{vertices, darts}
 use Rattle.table.specs.Rotation.{rotation}
 use Rattle.tracing.specs.Listing.{gather, starts, alones, loneCorner, faces}
 use Rattle.surface.specs.Sums.{parts}
-use Rattle.text.specs.Paste.{Pasted}
+use Rattle.text.specs.Paste.{paste}
 use Rattle.report.specs.declared.walk.Place.{Place}
 use Rattle.report.specs.Lines.{meshLine, partLine, walkLine, numbered, weaveLine, report}
 use Rattle.report.specs.Wrote.{Wrote, wrote-then, wrote-as, lones-most, parts-most}
@@ -24,7 +24,10 @@ faces-numbered t =
 
 pub report-wrote : {t : List ℕ} {from mesh part lone r : ℕ} {walk : Place} {out o-mesh o-part o-walk o-lone out′ : List ℕ} → Wrote 101 from 0 out (meshLine (rotation t)) mesh o-mesh
     → Wrote parts-most from mesh o-mesh (gather (partLine (rotation t)) (parts (rotation t))) part o-part → PlacedAll t from part o-part walk o-walk
-    → Wrote lones-most from (walk .at) o-walk (lonesText t (walk .index) vertices) lone o-lone → Wrote 12 from lone o-lone (weaveLine t) r out′ → Pasted from 0 out (report t) r out′
+    → Wrote lones-most from (walk .at) o-walk (lonesText t (walk .index) vertices) lone o-lone → Wrote 12 from lone o-lone (weaveLine t) r out′ → (r ≡ length (report t)) × (out′ ≡ paste from 0 out (report t)) × (r < 2 ^ 31)
 unfolding report
 report-wrote {t} m p w l e =
-    wrote-then (wrote-then (wrote-then m p) (wrote-as (wrote-then (w .wrote) (rw (w .index) at l)) (faces-numbered t))) e .pasted
+    let all = wrote-then (wrote-then (wrote-then m p) (wrote-as (wrote-then (w .wrote) (rw (w .index) at l)) (faces-numbered t))) e in
+    let end = all .pasted .end in
+    let near = all .near in
+    (omega arith, all .pasted .shows, omega arith)

@@ -1,23 +1,14 @@
 /* The counts, the parts and the letters as a C host calls them, on two parts that can be counted by hand: a triangle of
    turns 0 with both its faces, and a loop of turns 1 at a vertex of its own. Written so that a C++ compiler takes it too. */
 
+#include "check.h"
 #include "planner.h"
 
 #include <stddef.h>
 #include <stdint.h>
-#include <stdio.h>
 #include <string.h>
 
 enum { WORDS = 7680, GUARD = -77 };
-
-static int failures = 0;
-
-static void check(int holds, const char *claim) {
-    printf("%s: %s\n", holds ? "ok" : "FAILED", claim);
-    if (!holds) {
-        failures++;
-    }
-}
 
 static uint16_t table[WORDS];
 static uint16_t before[WORDS];
@@ -77,6 +68,5 @@ int main(void) {
     build();
     try_the_counts();
     try_the_letters();
-    printf("%d failed\n", failures);
-    return failures == 0 ? 0 : 1;
+    return verdict();
 }

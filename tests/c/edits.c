@@ -1,22 +1,13 @@
 /* The edits and the listing as a C host calls them: document 01's printed job and some samples. Written so that a C++
    compiler takes it too. */
 
+#include "check.h"
 #include "planner.h"
 
 #include <stddef.h>
 #include <stdint.h>
-#include <stdio.h>
 
 enum { WORDS = 7680, OUT = 8 };
-
-static int failures = 0;
-
-static void check(int holds, const char *claim) {
-    printf("%s: %s\n", holds ? "ok" : "FAILED", claim);
-    if (!holds) {
-        failures++;
-    }
-}
 
 static uint16_t table[WORDS];
 static uint16_t before[WORDS];
@@ -73,6 +64,5 @@ static void try_the_edits(void) {
 int main(void) {
     try_the_printed_job();
     try_the_edits();
-    printf("%d failed\n", failures);
-    return failures == 0 ? 0 : 1;
+    return verdict();
 }

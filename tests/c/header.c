@@ -1,23 +1,14 @@
 /* include/planner.h as a C host uses it. Written so that a C++ compiler takes it too. */
 
+#include "check.h"
 #include "planner.h"
 
 #include <stddef.h>
 #include <stdint.h>
-#include <stdio.h>
 
 enum { DARTS = 2048, EDGES = 1024, VERTICES = 512 };
 enum { LEAVES = 2 * DARTS, TURNS = 3 * DARTS, VERTEX = TURNS + EDGES, WORDS = VERTEX + VERTICES };
 enum { GUARDS = 32, GUARD = 0xa5c3 };
-
-static int failures = 0;
-
-static void check(int holds, const char *claim) {
-    printf("%s: %s\n", holds ? "ok" : "FAILED", claim);
-    if (!holds) {
-        failures++;
-    }
-}
 
 /* The lent slice, with guard words on both sides. */
 static uint16_t words[GUARDS + WORDS + 1 + GUARDS];
@@ -104,6 +95,5 @@ static void try_check(void) {
 int main(void) {
     try_empty();
     try_check();
-    printf("%d failed\n", failures);
-    return failures == 0 ? 0 : 1;
+    return verdict();
 }

@@ -3,13 +3,12 @@
 
 use host::guarded::Guarded;
 use host::planner;
+use host::tables::whole_or_damaged;
 use reference::counts::{counts, Counts};
-use reference::table::{empty_mesh, WORDS};
-use reference::trial::damage::damage;
+use reference::table::empty_mesh;
 use reference::trial::k4::{k4, SPHERE, TORUS};
 use reference::trial::random::Random;
 use reference::trial::solids::{cube, dodecahedron, solid};
-use reference::trial::tables::random_table;
 
 const GUARD: u16 = 0xa5c3;
 const OUT_GUARD: i32 = -1_234_567;
@@ -79,13 +78,7 @@ fn random_tables_whole_and_damaged() {
     let mut random = Random::new(0xc0e27);
     let (mut torn, mut many_parts, mut orientable, mut not) = (0, 0, 0, 0);
     for round in 0..1_500 {
-        let mut table = random_table(&mut random);
-        if round % 4 == 0 {
-            damage(&mut random, &mut table);
-        }
-        if round % 50 == 0 {
-            table.truncate(random.below(WORDS));
-        }
+        let table = whole_or_damaged(&mut random, round);
         match counts(&table) {
             Err(refusal) => {
                 assert_eq!(refusal.number(), 1);

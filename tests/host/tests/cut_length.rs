@@ -3,14 +3,14 @@
 
 use host::guarded::Guarded;
 use host::planner;
+use host::tables::{any_step, whole_or_damaged};
 use reference::length::cut_length;
 use reference::refusal::Refusal;
-use reference::table::{DARTS, EDGES, WORDS};
+use reference::table::{DARTS, EDGES};
 use reference::trace::{walk_from, Step};
-use reference::trial::damage::damage;
 use reference::trial::random::Random;
 use reference::trial::solids::{cube, solid};
-use reference::trial::tables::{random_mesh, random_table};
+use reference::trial::tables::random_mesh;
 use std::collections::BTreeMap;
 
 const GUARD: u32 = 0x5a5a_5a5a;
@@ -75,16 +75,9 @@ fn random_tables_whole_and_damaged() {
     let mut random = Random::new(0x1e2617);
     let mut seen: BTreeMap<(&str, i64), usize> = BTreeMap::new();
     for round in 0..2_000 {
-        let mut table = random_table(&mut random);
-        if round % 5 == 0 {
-            damage(&mut random, &mut table);
-        }
-        if round % 50 == 0 {
-            table.truncate(random.below(WORDS));
-        }
+        let table = whole_or_damaged(&mut random, round);
         for _ in 0..4 {
-            let dart = if random.once_in(15) { random.word() } else { random.below(DARTS) as u16 };
-            let kind = if random.once_in(15) { random.word() } else { random.below(2) as u16 };
+            let (dart, kind) = any_step(&mut random, DARTS);
             let mut lengths: Vec<u32> = (0..EDGES).map(|_| 1 + random.below(65_535) as u32).collect();
             let far_at = match cut_length(&table, dart, kind, &lengths) {
                 Ok(_) => with_one(&mut random, &table, dart, kind, &mut lengths),

@@ -3,12 +3,11 @@
 
 use host::guarded::Guarded;
 use host::planner;
+use host::tables::{any_step, whole_or_damaged};
 use reference::path::{float_path, LIFTS, POINTS};
 use reference::table::{DARTS, WORDS};
-use reference::trial::damage::damage;
 use reference::trial::random::Random;
 use reference::trial::solids::{cube, dodecahedron, solid};
-use reference::trial::tables::random_table;
 use std::collections::BTreeMap;
 
 const WORD_GUARD: u16 = 0xa5c3;
@@ -53,7 +52,12 @@ fn every_exact_size_and_one_less() {
     let lent = |kinds, coords, points, lifts| Lent { points: vec![1; points], lifts: vec![1; lifts], kinds, coords };
     assert_eq!(compare(&table, 0, 0, &lent(7, 21, POINTS, LIFTS)), 7);
     assert_eq!(compare(&table, 0, 0, &lent(8, 22, POINTS + 1, LIFTS + 1)), 7);
-    for short in [lent(6, 21, POINTS, LIFTS), lent(7, 20, POINTS, LIFTS), lent(7, 21, POINTS - 1, LIFTS), lent(7, 21, POINTS, LIFTS - 1)] {
+    for short in [
+        lent(6, 21, POINTS, LIFTS),
+        lent(7, 20, POINTS, LIFTS),
+        lent(7, 21, POINTS - 1, LIFTS),
+        lent(7, 21, POINTS, LIFTS - 1),
+    ] {
         assert_eq!(compare(&table, 0, 0, &short), -7);
     }
     // 7 before 8 and 9, 8 before 9.
@@ -76,7 +80,9 @@ fn extreme_points_and_lifts() {
             let answer = compare(table, 0, 0, &roomy(vec![point; POINTS], vec![lift; LIFTS]));
             assert!(answer > 0);
         }
-        for (point, lift) in [(most + 1, 0), (-most - 1, 0), (0, 4_097), (0, -4_097), (i32::MAX, 0), (0, i32::MIN), (i32::MIN, 0)] {
+        for (point, lift) in
+            [(most + 1, 0), (-most - 1, 0), (0, 4_097), (0, -4_097), (i32::MAX, 0), (0, i32::MIN), (i32::MIN, 0)]
+        {
             assert_eq!(compare(table, 0, 0, &roomy(vec![point; POINTS], vec![lift; LIFTS])), -9);
         }
     }
@@ -130,17 +136,12 @@ fn random_tables_whole_and_damaged() {
     let mut random = Random::new(0xf10a7);
     let mut seen: BTreeMap<i64, usize> = BTreeMap::new();
     for round in 0..1_500 {
-        let mut table = random_table(&mut random);
-        calm(&mut random, &mut table);
-        if round % 8 == 0 {
-            damage(&mut random, &mut table);
-        }
-        if round % 60 == 0 {
-            table.truncate(random.below(WORDS));
+        let mut table = whole_or_damaged(&mut random, round);
+        if table.len() == WORDS {
+            calm(&mut random, &mut table);
         }
         for _ in 0..4 {
-            let dart = if random.once_in(20) { random.word() } else { random.below(DARTS) as u16 };
-            let kind = if random.once_in(20) { random.word() } else { random.below(2) as u16 };
+            let (dart, kind) = any_step(&mut random, DARTS);
             let (far_point, far_lift) = (random.once_in(3), random.once_in(3));
             let points = random_words(&mut random, POINTS, 65_536, far_point);
             let lifts = random_words(&mut random, LIFTS, 4_096, far_lift);

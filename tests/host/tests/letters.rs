@@ -3,10 +3,9 @@
 
 use host::guarded::Guarded;
 use host::planner;
-use reference::table::{empty_mesh, DARTS, WORDS};
-use reference::trial::damage::damage;
+use host::tables::{any_step, whole_or_damaged};
+use reference::table::{empty_mesh, DARTS};
 use reference::trial::random::Random;
-use reference::trial::tables::random_table;
 use reference::weave::{plain, ribbon_alternates, ribbon_letters, Letter};
 
 const GUARD: u16 = 0xa5c3;
@@ -81,19 +80,12 @@ fn random_tables_whole_and_damaged() {
     let mut random = Random::new(0x1e77e5);
     let (mut mixed, mut alternating, mut declined, mut plain_weaves) = (0, 0, 0, 0);
     for round in 0..400 {
-        let mut table = random_table(&mut random);
-        if round % 4 == 0 {
-            damage(&mut random, &mut table);
-        }
-        if round % 50 == 0 {
-            table.truncate(random.below(WORDS));
-        }
+        let table = whole_or_damaged(&mut random, round);
         let expected = planner::as_number(plain(&table).map(usize::from));
         assert_eq!(planner::plain(&table), expected);
         plain_weaves += usize::from(expected == 1);
         for _ in 0..12 {
-            let dart = if random.once_in(9) { random.word() } else { random.below(DARTS) as u16 };
-            let kind = if random.once_in(9) { random.word() } else { random.below(2) as u16 };
+            let (dart, kind) = any_step(&mut random, DARTS);
             match compare(&mut random, &table, dart, kind) {
                 None => declined += 1,
                 Some(true) => alternating += 1,

@@ -1,0 +1,146 @@
+/* The limits that the header promises, on a full table: a call reads and writes nothing past a lent slice, each of which ends at a
+   page that may not be touched; and a call needs less than 16 KiB of stack, run on a stack of that size that begins at such a page.
+   A call that goes further is stopped by the system. For Linux; written so that a C++ compiler takes it too. */
+
+#define _DEFAULT_SOURCE
+
+#include "check.h"
+#include "planner.h"
+
+#include <stddef.h>
+#include <stdint.h>
+#include <stdlib.h>
+#include <sys/mman.h>
+#include <ucontext.h>
+#include <unistd.h>
+
+enum { WORDS = PLANNER_TABLE_WORDS, VERTICES = PLANNER_VERTICES, EDGES = PLANNER_EDGES, STACK = 16 * 1024 };
+
+static size_t page;
+
+/* Memory of so many bytes in whole pages, between two that may not be touched. Answers where it begins; its size in whole pages. */
+static char *map(size_t bytes, size_t *whole) {
+    char *at;
+    *whole = (bytes + page - 1) / page * page;
+    at = (char *)mmap(NULL, *whole + 2 * page, PROT_READ | PROT_WRITE, MAP_PRIVATE | MAP_ANONYMOUS, -1, 0);
+    if (at == MAP_FAILED || mprotect(at, page, PROT_NONE) != 0 || mprotect(at + page + *whole, page, PROT_NONE) != 0) {
+        exit(2);
+    }
+    return at + page;
+}
+
+/* A slice of so many bytes that ends where such a page begins. */
+static void *lend(size_t bytes) {
+    size_t whole;
+    char *at = map(bytes, &whole);
+    return at + whole - bytes;
+}
+
+static uint16_t *table;
+static int64_t answers[20];
+
+/* A chain through all vertices, and loops in the corner of dart 0 for the other edges, every one with one turn: all names are used. */
+static int build(void) {
+    uint16_t i;
+    int fine = planner_empty(table, WORDS) == 0;
+    for (i = 0; i < VERTICES; i++) {
+        fine = fine && planner_add_vertex(table, WORDS, i) >= 0;
+    }
+    fine = fine && planner_insert_edge(table, WORDS, 0, 32768, 32769, 1) >= 0;
+    for (i = 1; i < VERTICES - 1; i++) {
+        fine = fine && planner_insert_edge(table, WORDS, i, (uint16_t)(2 * i - 1), (uint16_t)(32769 + i), 1) >= 0;
+    }
+    for (i = VERTICES - 1; i < EDGES; i++) {
+        fine = fine && planner_insert_edge(table, WORDS, i, 0, 0, 1) >= 0;
+    }
+    return fine;
+}
+
+static ucontext_t outside, inside;
+
+static void (*job)(void);
+
+static void enter(void) {
+    job();
+}
+
+/* Runs it on a stack of STACK bytes. */
+static void on_small_stack(void (*function)(void)) {
+    size_t whole;
+    char *stack = map(STACK, &whole);
+    job = function;
+    getcontext(&inside);
+    inside.uc_stack.ss_sp = stack;
+    inside.uc_stack.ss_size = whole;
+    inside.uc_link = &outside;
+    makecontext(&inside, enter, 0);
+    swapcontext(&outside, &inside);
+}
+
+/* What the calls are lent, each slice of the exact size that the call needs. */
+static uint16_t *listing, *kinds;
+static int32_t *counts, *parts, *points, *lifts;
+static uint32_t *lengths;
+static uint8_t *letters;
+static float *coords;
+static size_t steps, words;
+
+static void calls_that_read(void) {
+    answers[0] = planner_check(table, WORDS);
+    answers[1] = planner_listing(table, WORDS, listing, words);
+    answers[2] = planner_counts(table, WORDS, counts, 5);
+    answers[3] = planner_parts(table, WORDS, parts, 6);
+    answers[4] = planner_alternates(table, WORDS, 0, 0);
+    answers[5] = planner_plain(table, WORDS);
+    answers[6] = planner_letters(table, WORDS, 0, 0, letters, steps);
+    answers[7] = planner_cut_length(table, WORDS, 0, 0, lengths, EDGES);
+    answers[8] = planner_float_path(table, WORDS, 0, 0, points, 3 * VERTICES, lifts, 3 * EDGES, kinds, steps + 1, coords, 3 * (steps + 1));
+}
+
+static void calls_that_write(void) {
+    answers[9] = planner_turn_edge(table, WORDS, EDGES - 1, -1);
+    answers[10] = planner_delete_edge(table, WORDS, EDGES - 1);
+    answers[11] = planner_insert_edge(table, WORDS, EDGES - 1, 1, 1, 0);
+    answers[12] = planner_delete_edge(table, WORDS, VERTICES - 2);
+    answers[13] = planner_remove_vertex(table, WORDS, VERTICES - 1);
+    answers[14] = planner_add_vertex(table, WORDS, VERTICES - 1);
+    answers[15] = planner_empty(table, WORDS);
+}
+
+/* The sizes that the calls need, asked for with room to spare. */
+static void measure(void) {
+    uint16_t *roomy = (uint16_t *)malloc(5000 * sizeof *roomy);
+    words = (size_t)planner_listing(table, WORDS, roomy, 5000);
+    steps = roomy[0];
+    free(roomy);
+    listing = (uint16_t *)lend(words * sizeof *listing);
+    counts = (int32_t *)lend(5 * sizeof *counts);
+    parts = (int32_t *)lend(6 * sizeof *parts);
+    letters = (uint8_t *)lend(steps);
+    lengths = (uint32_t *)lend(EDGES * sizeof *lengths);
+    points = (int32_t *)lend(3 * VERTICES * sizeof *points);
+    lifts = (int32_t *)lend(3 * EDGES * sizeof *lifts);
+    kinds = (uint16_t *)lend((steps + 1) * sizeof *kinds);
+    coords = (float *)lend(3 * (steps + 1) * sizeof *coords);
+}
+
+int main(void) {
+    int i, fine = 1;
+    page = (size_t)sysconf(_SC_PAGESIZE);
+    table = (uint16_t *)lend(WORDS * sizeof *table);
+    check(build(), "a full table is built by edits");
+    measure();
+    for (i = 0; i < EDGES; i++) {
+        lengths[i] = 65535;
+    }
+    on_small_stack(calls_that_read);
+    check(answers[0] == 0 && answers[1] == (int64_t)words && answers[2] == 5 && answers[3] == 6, "the listing, the counts, the part");
+    check(answers[4] == 1 && answers[5] == 1 && answers[6] == (int64_t)steps, "one hand: the ribbons alternate");
+    check(answers[7] == 65535 * (int64_t)steps && answers[8] == (int64_t)steps + 1, "a cut length and a float path");
+    on_small_stack(calls_that_write);
+    for (i = 9; i <= 15; i++) {
+        fine = fine && answers[i] >= 0;
+    }
+    check(fine, "every edit is accepted");
+    return verdict();
+}

@@ -1,0 +1,2 @@
+-- What the job program's loops know.
+pub mod Progress

@@ -2,7 +2,7 @@
 -- Assumes nothing.
 use Prim.Native.Nat.{ℕ, _+_, _-_, _*_, _≤_, _<_, _^_}
 use native.Mathlib.Omega.{arith}
-use mathlib.Core.Path.{_≡_, refl, sym, _∙_}
+use mathlib.Core.Path.{_≡_, refl, sym, _∙_, ap}
 use mathlib.Core.List.{List}
 use lib.ListN.{length, take}
 use lib.Seq.{sets, length-sets, length-take-le}
@@ -10,7 +10,7 @@ use Rattle.table.specs.Layout.{words}
 use Rattle.table.specs.Good.{Good}
 use Rattle.table.specs.Empty.{emptied, empty-good}
 use borrow.Author.Tests.{eq-eqb}
-use Rattle.text.specs.Paste.{Pasted, pasted-length}
+use Rattle.text.specs.Paste.{Pasted, pasted-length, paste, paste-length}
 use Rattle.report.specs.Lines.{report}
 use Rattle.runs.specs.declared.block.Block.{Block}
 use Rattle.runs.specs.Run.{run}
@@ -71,19 +71,25 @@ going-more k h (g, few, more) z y =
 -- the loop that prints the report: a window from place `from` on
 pub record Showing (t : List ℕ) (from size : ℕ) (out : List ℕ) : Type 0 where
   pub all : size ≡ length (report t)
-  pub low : size < 2 ^ 64
+  pub low : size < 2 ^ 31
   pub within : from ≤ size
   pub buffer : 65536 ≡ length out
 
-pub showing-none : {t : List ℕ} {size : ℕ} {out out′ : List ℕ} → Pasted 0 0 out (report t) size out′ → size < 2 ^ 64 → 65536 ≡ length out → Showing t 0 size out′
-showing-none p l e = record { all = let end = p .end in omega arith; low = l; within = omega arith; buffer = e ∙ sym (pasted-length p) }
+-- what the report's function leaves
+abbrev pub Shown : List ℕ → ℕ → List ℕ → ℕ → List ℕ → Type 0
+Shown t from out size out′ = (size ≡ length (report t)) × (out′ ≡ paste from 0 out (report t)) × (size < 2 ^ 31)
+
+shown-length : (t : List ℕ) (from : ℕ) (out : List ℕ) {out′ : List ℕ} → out′ ≡ paste from 0 out (report t) → length out ≡ length out′
+shown-length t from out e = sym (ap length e ∙ paste-length from 0 out (report t))
+
+pub showing-none : {t : List ℕ} {size : ℕ} (out : List ℕ) {out′ : List ℕ} → Shown t 0 out size out′ → 65536 ≡ length out → Showing t 0 size out′
+showing-none {t} out (all, shows, low) e = record { all = all; low = low; within = omega arith; buffer = e ∙ shown-length t 0 out shows }
 
 pub showing-more : {t : List ℕ} {from size : ℕ} {out : List ℕ} {next : ℕ} {out′ : List ℕ} → Showing t from size out → 65536 < size - from
-    → Pasted (from + 65536) 0 out (report t) next out′ → next < 2 ^ 64 → Showing t (from + 65536) next out′
-showing-more k h p l =
-    let all = k .all in
-    let end = p .end in
-    record { all = omega arith; low = l; within = omega arith; buffer = k .buffer ∙ sym (pasted-length p) }
+    → Shown t (from + 65536) out next out′ → Showing t (from + 65536) next out′
+showing-more {t} {from} {size} {out} k h (all, shows, low) =
+    let same = k .all in
+    record { all = all; low = low; within = omega arith; buffer = k .buffer ∙ shown-length t (from + 65536) out shows }
 
 pub showing-same : {t : List ℕ} {from size : ℕ} {out : List ℕ} {next : ℕ} {from′ : ℕ} {out′ : List ℕ} → Showing t from size out → Showing t from′ next out′ → next ≡ size
 showing-same k m = m .all ∙ sym (k .all)

@@ -24,7 +24,7 @@ report-requires : tie.Need-report-requires Inv-loop μ-loop
 report-requires c κs = c .before .before .before .pre
 
 loop-holds : tie.Need-loop-holds Inv-loop μ-loop
-loop-holds c = showing-none (c .before .report .ensures) (c .before .report .ok) (c .before .before .before .large-buffer .ensures)
+loop-holds c = showing-none _ (c .before .report .ensures) (c .before .before .before .large-buffer .ensures)
 
 sub-loop : tie.Need-sub-loop Inv-loop μ-loop
 sub-loop c = c .loop .inv .within
@@ -45,10 +45,10 @@ report-requires-2 : tie.Need-report-requires-2 Inv-loop μ-loop
 report-requires-2 c κs = c .before .before .before .before .before .before .before .before .before .before .pre
 
 loop-less : tie.Need-loop-less Inv-loop μ-loop
-loop-less c = let h = c .before .before .before .before .before .loop-test .taken in let k = showing-more (c .before .before .before .before .before .before .loop .inv) (c .before .before .before .before .before .loop-test .taken) (c .before .report2 .ensures) (c .before .report2 .ok) in let same = showing-same (c .before .before .before .before .before .before .loop .inv) k in omega arith
+loop-less c = let h = c .before .before .before .before .before .loop-test .taken in let k = showing-more (c .before .before .before .before .before .before .loop .inv) (c .before .before .before .before .before .loop-test .taken) (c .before .report2 .ensures) in let same = showing-same (c .before .before .before .before .before .before .loop .inv) k in omega arith
 
 loop-again : tie.Need-loop-again Inv-loop μ-loop
-loop-again c = showing-more (c .before .before .before .before .before .before .loop .inv) (c .before .before .before .before .before .loop-test .taken) (c .before .report2 .ensures) (c .before .report2 .ok)
+loop-again c = showing-more (c .before .before .before .before .before .before .loop .inv) (c .before .before .before .before .before .loop-test .taken) (c .before .report2 .ensures)
 
 sub-rest : tie.Need-sub-rest Inv-loop μ-loop
 sub-rest c = c .before .loop .inv .within

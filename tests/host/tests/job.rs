@@ -7,7 +7,7 @@ use reference::trial::edits::{random_edit, Window, WINDOWS};
 use reference::trial::jobs::{random_edits, random_job, record};
 use reference::trial::random::Random;
 use std::env;
-use std::io::Write;
+use std::io::{ErrorKind, Write};
 use std::path::PathBuf;
 use std::process::{Command, Stdio};
 use std::thread;
@@ -27,7 +27,11 @@ fn printed(input: &[u8], piece: usize) -> String {
     let bytes = input.to_vec();
     let writer = thread::spawn(move || {
         for part in bytes.chunks(piece) {
-            to.write_all(part).unwrap();
+            // After a bad mark the program reads no more.
+            match to.write_all(part) {
+                Err(e) if e.kind() == ErrorKind::BrokenPipe => return,
+                written => written.unwrap(),
+            }
             if piece < 100 {
                 thread::sleep(Duration::from_micros(50));
             }

@@ -1,3 +1,7 @@
-// Along a ribbon: its cut length.
+// Along a ribbon: its cut length and its float path.
 pub mod exact;
 pub mod length;
+pub mod piece;
+pub mod place;
+pub mod range;
+pub mod survey;

@@ -9,3 +9,5 @@ pub mod Range
 pub mod Coordinate
 pub mod Pieces
 pub mod Survey
+pub mod Laying
+pub mod PathCall

@@ -1,8 +1,7 @@
 -- What the walk of a ribbon shows before its path is written: the number of its steps, and what is wrong with its edges. The loop that gathers it.
 use Prim.Native.Nat.{ℕ, zero, _+_, _<_, _≤_}
-use native.Mathlib.Omega.{arith}
 use native.Mathlib.Numerals.{add-one}
-use mathlib.Core.Path.{_≡_, refl, sym, _∙_, ap, ap₂}
+use mathlib.Core.Path.{_≡_, refl, _∙_, ap}
 use mathlib.Core.Bool.{Bool, false, _||_, or-false}
 use mathlib.Core.List.{List, [], _∷_, _++_}
 use mathlib.Core.Logic.{_≢_}

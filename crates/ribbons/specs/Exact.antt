@@ -1,13 +1,12 @@
 -- The 32-bit float of z / 32, for a whole number z: what a cast and a division give, and that nothing is rounded.
-use Prim.Native.Nat.{ℕ, suc, _+_, _*_, _^_, _≤_, _<_}
-use native.Mathlib.Nat.{mul-assoc, mul-comm, mul-pos, lt-of-lt-of-le, zero-lt-suc, le-of-lt}
-use native.Mathlib.Omega.{arith}
+use Prim.Native.Nat.{ℕ, suc, _*_, _^_, _≤_, _<_}
+use native.Mathlib.Nat.{mul-assoc, mul-comm, mul-pos, lt-of-lt-of-le, zero-lt-suc}
 use mathlib.Core.Path.{_≡_, refl, sym, _∙_, ap}
 use mathlib.Core.Bool.{Bool, true, false}
 use lib.Dec.{T, lit≤, le→leb, lt→ltb}
 use lib.IntN.{ℤ, pos, negsuc, natAbs}
 use lib.Pow.{shl-lt}
-use lib.Ieee.{Float, nan, inf, fin, binary32, prec, low, emax, up, down, unlike, round, div, ofInt, fits, ofBits, inFloat}
+use lib.Ieee.{Float, nan, inf, fin, binary32, up, down, unlike, round, div, ofInt, fits, ofBits, inFloat}
 use lib.Ieee.Exact.{HasValue, round-exact}
 use lib.Ieee.Back.{round-whole}
 use lib.Ieee.Scale.{round-same}

@@ -1,0 +1,55 @@
+-- `path::path_size` meets its contract, a return for each refusal in its order: four short slices, many turns, far.
+use Rattle.ribbons.specs.PathCall.{short-points, short-lifts, survey-few, short-kinds, short-coords, many-turns, far-away, path-sized}
+use native.Mathlib.Omega.{arith}
+use borrow.Author.Needs.{needs}
+use Rattle.ribbons.proofs.path.path_size.Statement.{statement}
+use Rattle.ribbons.proofs.path.path_size.Tie as tie
+
+returns : tie.Need-returns
+returns c = short-points _ _ _ _ _ _ (c .if1 .taken)
+
+returns-2 : tie.Need-returns-2
+returns-2 c = short-lifts _ _ _ _ _ _ (c .before .if1 .left) (c .if2 .taken)
+
+survey-from-requires : tie.Need-survey-from-requires
+survey-from-requires c κs = search needs
+
+add-pieces : tie.Need-add-pieces
+add-pieces c = let few = survey-few (record { stands = c .before .before .before .before .before .pre; points-size = c .before .before .before .if1 .left; lifts-size = c .before .before .if2 .left }) (c .before .survey-from .ensures) in omega arith
+
+returns-3 : tie.Need-returns-3
+returns-3 c = short-kinds _ _ _ _ _ _ (c .before .before .before .before .if1 .left) (c .before .before .before .if2 .left) (c .before .before .survey-from .ensures) (c .if3 .taken)
+
+mul-if4 : tie.Need-mul-if4
+mul-if4 c = let few = survey-few (record { stands = c .before .before .before .before .before .before .pre; points-size = c .before .before .before .before .if1 .left; lifts-size = c .before .before .before .if2 .left }) (c .before .before .survey-from .ensures) in omega arith
+
+returns-4 : tie.Need-returns-4
+returns-4 c = short-coords _ _ _ _ _ _ (c .before .before .before .before .before .if1 .left) (c .before .before .before .before .if2 .left) (c .before .before .before .survey-from .ensures) (c .before .if3 .left) (c .if4 .taken)
+
+returns-5 : tie.Need-returns-5
+returns-5 c = many-turns _ _ _ _ _ _ (c .before .before .before .before .before .before .if1 .left) (c .before .before .before .before .before .if2 .left) (c .before .before .before .before .survey-from .ensures) (c .before .before .if3 .left) (c .before .if4 .left) (c .if5 .taken)
+
+returns-6 : tie.Need-returns-6
+returns-6 c = far-away _ _ _ _ _ _ (c .before .before .before .before .before .before .before .if1 .left) (c .before .before .before .before .before .before .if2 .left) (c .before .before .before .before .before .survey-from .ensures) (c .before .before .before .if3 .left) (c .before .before .if4 .left) (c .before .if5 .left) (c .if6 .taken)
+
+cast-t17 : tie.Need-cast-t17
+cast-t17 c = let few = survey-few (record { stands = c .before .before .before .before .before .before .before .before .before .pre; points-size = c .before .before .before .before .before .before .before .if1 .left; lifts-size = c .before .before .before .before .before .before .if2 .left }) (c .before .before .before .before .before .survey-from .ensures) in omega arith
+
+returns-7 : tie.Need-returns-7
+returns-7 c = path-sized _ _ _ _ _ _ (c .before .before .before .before .before .before .before .if1 .left) (c .before .before .before .before .before .before .if2 .left) (c .before .before .before .before .before .survey-from .ensures) (c .before .before .before .if3 .left) (c .before .before .if4 .left) (c .before .if5 .left) (c .if6 .left)
+
+pub path-size-spec : {M : Type 1} → statement M
+path-size-spec =
+    tie.close
+    (tie.spec
+    returns
+    returns-2
+    survey-from-requires
+    add-pieces
+    returns-3
+    mul-if4
+    returns-4
+    returns-5
+    returns-6
+    cast-t17
+    returns-7)

@@ -1,0 +1,61 @@
+-- `writing::write_pieces` meets its contract. The invariant: the walk is under way, and the pieces of its n steps so far stand at the front of the slices.
+use Rattle.ribbons.specs.Laying.{Laying, laying-none, laying-lent, laying-near, laying-room, laying-more, laying-all, laying-kinds, laying-coords}
+use Rattle.weave.specs.Hands.{walking-less}
+use Rattle.tracing.specs.Search.{left}
+use Rattle.tracing.specs.Along.{walking-few}
+use native.Mathlib.Omega.{arith}
+use Rattle.ribbons.proofs.writing.write_pieces.Statement.{statement}
+use Rattle.ribbons.proofs.writing.write_pieces.Tie as tie
+
+abbrev Inv-loop : tie.InvT-loop
+Inv-loop t points lifts kinds₀ coords₀ s at₀ n₀ kinds coords at n = Laying t points lifts s at n kinds₀ coords₀ kinds coords
+
+abbrev μ-loop : tie.MeasureT-loop
+μ-loop t points lifts kinds₀ coords₀ s at₀ n₀ kinds coords at n = left t s at
+
+loop-holds : tie.Need-loop-holds Inv-loop μ-loop
+loop-holds c = laying-none (c .before .before .before .pre)
+
+piece-on-requires : tie.Need-piece-on-requires Inv-loop μ-loop
+piece-on-requires c κs = (laying-lent (c .loop .inv), laying-near (c .loop .inv))
+
+write-piece-requires : tie.Need-write-piece-requires Inv-loop μ-loop
+write-piece-requires c κs = laying-room (c .before .before .before .loop .inv)
+
+add-n : tie.Need-add-n Inv-loop μ-loop
+add-n c = let few = walking-few (c .before .before .before .before .before .before .before .before .loop .inv .walking) in omega arith
+
+step-requires : tie.Need-step-requires Inv-loop μ-loop
+step-requires c κs = c .before .before .before .before .before .before .before .before .loop .inv .walking .there
+
+same-length : tie.Need-same-length Inv-loop μ-loop
+same-length c = laying-kinds (c .before .before .before .before .before .before .before .before .before .before .loop .inv) (c .before .before .before .before .before .before .before .before .before .piece-on .ensures) (c .before .before .before .before .before .before .write-piece .ensures)
+
+same-length-2 : tie.Need-same-length-2 Inv-loop μ-loop
+same-length-2 c = laying-coords (c .before .before .before .before .before .before .before .before .before .before .loop .inv) (c .before .before .before .before .before .before .before .before .before .piece-on .ensures) (c .before .before .before .before .before .before .write-piece .ensures)
+
+returns : tie.Need-returns Inv-loop μ-loop
+returns c = laying-all (c .before .before .before .before .before .before .before .before .before .before .loop .inv) (c .before .before .before .before .before .before .before .before .before .piece-on .ensures) (c .before .before .before .before .before .before .write-piece .ensures) (c .before .step .ensures) (c .if1 .taken)
+
+loop-less : tie.Need-loop-less Inv-loop μ-loop
+loop-less c = walking-less (c .before .before .before .before .before .before .before .before .before .before .loop .inv .walking) (c .before .step .ensures) (c .if1 .left)
+
+loop-again : tie.Need-loop-again Inv-loop μ-loop
+loop-again c = laying-more (c .before .before .before .before .before .before .before .before .before .before .loop .inv) (c .before .before .before .before .before .before .before .before .before .piece-on .ensures) (c .before .before .before .before .before .before .write-piece .ensures) (c .before .step .ensures) (c .if1 .left)
+
+pub write-pieces-spec : {M : Type 1} → statement M
+write-pieces-spec =
+    tie.close
+    (tie.spec
+    Inv-loop
+    μ-loop
+    loop-holds
+    piece-on-requires
+    write-piece-requires
+    add-n
+    step-requires
+    same-length
+    same-length-2
+    returns
+    loop-less
+    loop-again)

@@ -11,6 +11,7 @@ ghost use Rattle.edits.specs.Edits.{answer, edited};
 ghost use Rattle.surface.specs.Calls.{countsAnswer, countsOut, partsAnswer, partsOut};
 ghost use Rattle.weave.specs.Calls.{alternatesOf, plainOf, lettersOf, lettersOut};
 ghost use Rattle.ribbons.specs.CutLength.{cutLengthOf};
+ghost use Rattle.ribbons.specs.PathCall.{pathAnswer, kindsOut, coordsOut};
 ghost use Rattle.edits.specs.declared.edit.Edit.the-variants.{AddVertex, RemoveVertex, InsertEdge, DeleteEdge, TurnEdge};
 
 // Fills the slice with the empty mesh.
@@ -123,4 +124,22 @@ pub extern "C" fn planner_cut_length(words: &[u16], dart: u16, kind: u16, length
     ensures { λ r. ⌜ r ≡ codeOf (cutLengthOf (now (words .entry)) dart kind (now (lengths .entry))) ⌝ }
 {
     code(ribbons::length::cut_length(words, dart, kind, lengths))
+}
+
+// Writes the float path of the ribbon through the step of dart and type: a word and three floats for each piece. Answers the number of pieces.
+#[no_mangle]
+pub extern "C" fn planner_float_path(
+    words: &[u16],
+    dart: u16,
+    kind: u16,
+    points: &[i32],
+    lifts: &[i32],
+    kinds: &mut [u16],
+    coords: &mut [f32],
+) -> i64
+    ensures { λ r. ⌜ (r ≡ codeOf (pathAnswer (now (words .entry)) dart kind (now (points .entry)) (now (lifts .entry)) (length (now (kinds .entry))) (length (now (coords .entry)))))
+        × (now (kinds .exit) ≡ kindsOut (now (words .entry)) dart kind (now (points .entry)) (now (lifts .entry)) (now (kinds .entry)) (now (coords .entry)))
+        × (now (coords .exit) ≡ coordsOut (now (words .entry)) dart kind (now (points .entry)) (now (lifts .entry)) (now (kinds .entry)) (now (coords .entry))) ⌝ }
+{
+    code(ribbons::path::float_path(words, dart, kind, points, lifts, kinds, coords))
 }

@@ -4,6 +4,7 @@ use native.Mathlib.Omega.{arith}
 use mathlib.Core.Path.{_≡_, refl, _∙_, ap}
 use mathlib.Core.Logic.{_≢_}
 use mathlib.Core.List.{List}
+use lib.Dec.{eqb}
 use lib.IntN.{ℤ, pos, negsuc, negℤ, natAbs, subℕ, _+ℤ_, _-ℤ_, _*ℤ_}
 use lib.Ieee.{Float}
 use lib.ListN.{length}
@@ -11,6 +12,7 @@ use mir.Syntax.{w32}
 use mir.Val.{SFits, toZ, ofZ}
 use mir.Facts.{toZ-ofZ}
 use borrow.Author.Tests.{eq-eqb, ne-eqb}
+use Rattle.orbits.specs.Truth.{truth, holds, fails}
 use Rattle.table.specs.Signed.{difference, below, above}
 use Rattle.weave.specs.Letters.{over, under}
 use Rattle.ribbons.specs.Exact.{over32}
@@ -142,6 +144,17 @@ module _ {a b l : ℤ} (n : Near a b l) where
     unfolding thirtySeconds
     coordinate-flat m e f = f ∙ ap over32 ends-are ∙ rw (ne-eqb letter over m, ne-eqb letter under e)
 
+-- however the strand passes, the number is small
+pub coordinate-few : (letter : ℕ) {a b l : ℤ} → Near a b l → natAbs (thirtySeconds letter a b l) ≤ 139264
+unfolding thirtySeconds
+coordinate-few letter n = elim (truth (eqb letter over)) [
+  | holds e ↦ rw e (over-few n)
+  | fails e ↦ elim (truth (eqb letter under)) [
+    | holds f ↦ rw (e, f) (under-few n)
+    | fails f ↦ rw (e, f) (let few = ends-few n in omega arith)
+  ]
+]
+
 -- a lent word that is handed on keeps its value
 pub near-held : {a b l : ℤ} → Near a b l → Near (held a) (held b) (held l)
 near-held n = rw (first-is n, second-is n, lift-is n) n
@@ -149,14 +162,18 @@ near-held n = rw (first-is n, second-is n, lift-is n) n
 coordinate-read : (letter : ℕ) {a b l : ℤ} {r : Float} → Near a b l → r ≡ over32 (thirtySeconds letter (held a) (held b) (held l)) → r ≡ over32 (thirtySeconds letter a b l)
 coordinate-read letter n e = e ∙ rw (first-is n, second-is n, lift-is n)
 
--- the words of a point, which begin at i, j and k, are there and in range
+-- the words of a point, which begin at i, j and k, are in range
 pub record NearThree (points lifts : List ℤ) (i j k : ℕ) : Type 0 where
-  pub first : i + 2 < length points
-  pub second : j + 2 < length points
-  pub lift : k + 2 < length lifts
   pub near-x : Near (sixteenths points i) (sixteenths points j) (sixteenths lifts k)
   pub near-y : Near (sixteenths points (i + 1)) (sixteenths points (j + 1)) (sixteenths lifts (k + 1))
   pub near-z : Near (sixteenths points (i + 2)) (sixteenths points (j + 2)) (sixteenths lifts (k + 2))
+
+-- they are there, too
+pub record Readable (points lifts : List ℤ) (i j k : ℕ) : Type 0 where
+  pub first : i + 2 < length points
+  pub second : j + 2 < length points
+  pub lift : k + 2 < length lifts
+  pub near : NearThree points lifts i j k
 
 -- the coordinate at three places, of words as the machine has them
 abbrev pub readAt : ℕ → List ℤ → List ℤ → ℕ → ℕ → ℕ → Float

@@ -11,3 +11,4 @@ pub mod Pieces
 pub mod Survey
 pub mod Laying
 pub mod PathCall
+pub mod Unrounded

@@ -17,7 +17,7 @@ use Rattle.ribbons.specs.declared.piece.Piece.the-variants.{Over, Under,
 use Rattle.ribbons.specs.declared.place.Places.{Places}
 use Rattle.ribbons.specs.Path.{sixteenths, firstEnd, secondEnd, liftAt, letterOf, pointAt, pieceFor, pieceOn, pointOf, past, farThree, farStep}
 use Rattle.ribbons.specs.Places.{placesOf, Lent, lies}
-use Rattle.ribbons.specs.Coordinate.{NearThree}
+use Rattle.ribbons.specs.Coordinate.{NearThree, Readable}
 
 -- none of three
 record None (a b d : Bool) : Type 0 where
@@ -47,18 +47,14 @@ three words i most e =
     }
 
 -- a step whose words are in range
-near-step : {t : List ℕ} {points lifts : List ℤ} {s : ℕ} → Lent t points lifts s → farStep t points lifts s ≡ false → NearThree points lifts (firstEnd t s) (secondEnd t s) (liftAt s)
+pub near-step : (t : List ℕ) (points lifts : List ℤ) (s : ℕ) → farStep t points lifts s ≡ false → NearThree points lifts (firstEnd t s) (secondEnd t s) (liftAt s)
 unfolding farStep
-near-step {t} {points} {lifts} {s} k e =
+near-step t points lifts s e =
     let n = none (farThree points (firstEnd t s) 65536) (farThree points (secondEnd t s) 65536) (farThree lifts (liftAt s) 4096) e in
     let f = three points (firstEnd t s) 65536 (n .first) in
     let g = three points (secondEnd t s) 65536 (n .second) in
     let h = three lifts (liftAt s) 4096 (n .third) in
-    let there = lies k in
     record {
-      first = there .first;
-      second = there .second;
-      lift = there .lift;
       near-x = record { first = f .first; second = g .first; lift = h .first };
       near-y = record { first = f .second; second = g .second; lift = h .second };
       near-z = record { first = f .third; second = g .third; lift = h .third };
@@ -79,9 +75,9 @@ module _ {t : List ℕ} {s w : ℕ} (k : EdgeWord t s w) where
 
 -- the piece of a step
 module _ {t : List ℕ} {points lifts : List ℤ} {s : ℕ} {p : Places} (k : Lent t points lifts s) (e : p ≡ placesOf t s) where
-  pub piece-near : farStep t points lifts s ≡ false → NearThree points lifts (p .first) (p .second) (p .lift)
+  pub piece-readable : farStep t points lifts s ≡ false → Readable points lifts (p .first) (p .second) (p .lift)
   unfolding placesOf
-  piece-near f = rw e (near-step k f)
+  piece-readable f = let there = lies k in rw e (record { first = there .first; second = there .second; lift = there .lift; near = near-step t points lifts s f })
 
   module _ {l : ℕ} {q : Point} (f : l ≡ letterOf t s) (g : q ≡ pointAt l points lifts (p .first) (p .second) (p .lift)) where
     point-is : q ≡ pointAt (letterOf t s) points lifts (firstEnd t s) (secondEnd t s) (liftAt s)

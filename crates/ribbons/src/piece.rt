@@ -12,7 +12,7 @@ ghost use Rattle.tracing.specs.Stands.{Stands};
 ghost use Rattle.ribbons.specs.Exact.{over32};
 ghost use Rattle.ribbons.specs.Path.{thirtySeconds, pointAt, letterOf, pieceOn, kindOf, pointOf, farStep};
 ghost use Rattle.ribbons.specs.Places.{Lent};
-ghost use Rattle.ribbons.specs.Coordinate.{Near, NearThree};
+ghost use Rattle.ribbons.specs.Coordinate.{Near, Readable};
 
 // In millimetres.
 pub struct Point {
@@ -45,7 +45,7 @@ fn coordinate(letter: u8, a: i32, b: i32, l: i32) -> f32
 
 // The point between two ends whose words begin at i and j, with the lift whose words begin at k.
 fn point_at(letter: u8, points: &[i32], lifts: &[i32], i: usize, j: usize, k: usize) -> Point
-    requires { ⌜ NearThree (now points) (now lifts) i j k ⌝ }
+    requires { ⌜ Readable (now points) (now lifts) i j k ⌝ }
     ensures { λ r. ⌜ r ≡ pointAt letter (now (points .entry)) (now (lifts .entry)) i j k ⌝ }
 {
     let x = coordinate(letter, points[i], points[j], lifts[k]);

@@ -1,5 +1,5 @@
 -- `piece::piece_on` meets its contract: over, under or flat by the letter, with the point of the step.
-use Rattle.ribbons.specs.Pieces.{piece-near, piece-over, piece-under, piece-flat}
+use Rattle.ribbons.specs.Pieces.{piece-readable, piece-over, piece-under, piece-flat}
 use borrow.Author.Needs.{needs}
 use Rattle.ribbons.proofs.piece.piece_on.Statement.{statement}
 use Rattle.ribbons.proofs.piece.piece_on.Tie as tie
@@ -11,7 +11,7 @@ places-of-requires : tie.Need-places-of-requires
 places-of-requires c κs = search needs
 
 point-at-requires : tie.Need-point-at-requires
-point-at-requires c κs = piece-near (c .before .before .before .pre .0) (c .places-of .ensures) (c .before .before .before .pre .1)
+point-at-requires c κs = piece-readable (c .before .before .before .pre .0) (c .places-of .ensures) (c .before .before .before .pre .1)
 
 returns : tie.Need-returns
 returns c = piece-over (c .before .before .before .before .before .pre .0) (c .before .before .places-of .ensures) (c .before .before .before .letter-of .ensures) (c .before .point-at .ensures) (c .if1 .taken)

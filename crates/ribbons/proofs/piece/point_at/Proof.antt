@@ -23,7 +23,7 @@ shared-slice-copy-out-coordinate-3 : tie.Need-shared-slice-copy-out-coordinate-3
 shared-slice-copy-out-coordinate-3 c = search needs
 
 coordinate-requires : tie.Need-coordinate-requires
-coordinate-requires c κs = near-held (c .before .before .before .pre .near-x)
+coordinate-requires c κs = near-held (c .before .before .before .pre .near .near-x)
 
 add-coordinate : tie.Need-add-coordinate
 add-coordinate c = search needs
@@ -53,7 +53,7 @@ shared-slice-copy-out-coordinate-6 : tie.Need-shared-slice-copy-out-coordinate-6
 shared-slice-copy-out-coordinate-6 c = search needs
 
 coordinate-requires-2 : tie.Need-coordinate-requires-2
-coordinate-requires-2 c κs = near-held (c .before .before .before .before .before .before .before .pre .near-y)
+coordinate-requires-2 c κs = near-held (c .before .before .before .before .before .before .before .pre .near .near-y)
 
 add-coordinate-4 : tie.Need-add-coordinate-4
 add-coordinate-4 c = search needs
@@ -83,10 +83,10 @@ shared-slice-copy-out-coordinate-9 : tie.Need-shared-slice-copy-out-coordinate-9
 shared-slice-copy-out-coordinate-9 c = search needs
 
 coordinate-requires-3 : tie.Need-coordinate-requires-3
-coordinate-requires-3 c κs = near-held (c .before .before .before .before .before .before .before .before .before .before .before .pre .near-z)
+coordinate-requires-3 c κs = near-held (c .before .before .before .before .before .before .before .before .before .before .before .pre .near .near-z)
 
 returns : tie.Need-returns
-returns c = point-made _ (c .before .before .before .before .before .before .before .before .before .before .before .before .pre) (c .before .before .before .before .before .before .before .before .coordinate .ensures) (c .before .before .before .before .coordinate2 .ensures) (c .coordinate3 .ensures)
+returns c = point-made _ (c .before .before .before .before .before .before .before .before .before .before .before .before .pre .near) (c .before .before .before .before .before .before .before .before .coordinate .ensures) (c .before .before .before .before .coordinate2 .ensures) (c .coordinate3 .ensures)
 
 pub point-at-spec : {M : Type 1} → statement M
 point-at-spec =

@@ -101,7 +101,6 @@ first-view s = elim (truth (eqb (length s) 0)) [
 -- a record has at least four bytes, which are there
 pub record Sized (s : List ℕ) (k : ℕ) : Type 0 where
   pub some : 4 ≤ k
-  pub most : k ≤ 10
   pub there : k ≤ length s
 
 record-parts : {E F : Edit} {k l : ℕ} → Record E k ≡ Record F l → k ≡ l
@@ -121,7 +120,7 @@ record-sized s e = elim (first-view s) [
   | whole m g h f ↦
       let size = record-parts (sym f ∙ e) in
       let low = mark-size m in
-      record { some = omega arith; most = omega arith; there = omega arith }
+      record { some = omega arith; there = omega arith }
 ]
 
 -- a reading, by the first record

@@ -111,11 +111,11 @@ fn known_record(s: &[u8], m: Mark) -> Found
     ensures { λ r. ⌜ r ≡ knownRecord m (now (s .entry)) ⌝ }
 {
     let size = size_of(m);
-    if s.len() < size {
-        return Found::Refused(Refusal::CutRecord);
+    if size <= s.len() {
+        let edit = edit_of(s, m);
+        return Found::Record { edit, size };
     }
-    let edit = edit_of(s, m);
-    Found::Record { edit, size }
+    Found::Refused(Refusal::CutRecord)
 }
 
 // The first record of some bytes. A lone byte is a cut record, whatever it is.

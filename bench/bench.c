@@ -13,8 +13,9 @@
 
 enum { WORDS = PLANNER_TABLE_WORDS, OUT = 4096, LETTERS = 2048 * 99, ROUNDS = 21 };
 
-/* A table under test and what calls are lent beside it. Edits leave it as it was, two by two. */
+/* A table under test and what calls are lent beside it. Edits leave it as it was, two by two. One more to be filled. */
 static uint16_t table[WORDS];
+static uint16_t scratch[WORDS];
 static uint32_t lengths[PLANNER_EDGES];
 static int32_t points[3 * PLANNER_VERTICES];
 static int32_t lifts[3 * PLANNER_EDGES];
@@ -43,6 +44,7 @@ static uint32_t random_below(uint32_t n) {
     static int64_t our_##name(void) { return planner_##name arguments_ours; }                                         \
     static int64_t their_##name(void) { return plain_##name arguments_theirs; }
 
+CALL(empty, (scratch, WORDS), (scratch, WORDS))
 CALL(check, (table, WORDS), (table, WORDS))
 CALL(listing, (table, WORDS, ours.words, OUT), (table, WORDS, theirs.words, OUT))
 CALL(counts, (table, WORDS, ours.counts, OUT), (table, WORDS, theirs.counts, OUT))
@@ -92,6 +94,7 @@ static const struct {
     int64_t (*theirs)(void);
     int calls;
 } rows[] = {
+    {"planner_empty", our_empty, their_empty, 1},
     {"planner_check", our_check, their_check, 1},
     {"planner_listing", our_listing, their_listing, 1},
     {"planner_counts", our_counts, their_counts, 1},

@@ -3,7 +3,7 @@
 use Prim.Native.Nat.{ℕ, _+_, _-_, _≤_, _<_}
 use native.Mathlib.Omega.{arith}
 use native.Mathlib.Decide.{decLt, ℕ-discrete}
-use mathlib.Core.Path.{_≡_, sym, _∙_, ap}
+use mathlib.Core.Path.{_≡_, refl, sym, _∙_, ap}
 use mathlib.Core.Bool.{Bool, true, false}
 use mathlib.Core.List.{List, _++_}
 use lib.ListN.{length, getD, set, replicate, length-append, length-replicate, length-set, getD-replicate, List·getD-append}
@@ -112,28 +112,44 @@ empty-good = record {
   smallest = λ v h n. absurd (n (empty-vertex v h));
 }
 
--- The loop that fills: the words below i are the empty mesh's.
-pub record Filled (t : List ℕ) (i : ℕ) : Type 0 where
-  pub low : i ≤ words
-  pub size : length t ≡ words
-  pub front : (k : ℕ) → k < i → getD t k 0 ≡ emptyWord k
+-- w stands from index `from` on, up to n; the other words are those of before
+pub record Filled (t₀ : List ℕ) (from n w : ℕ) (t : List ℕ) : Type 0 where
+  pub size : length t ≡ length t₀
+  pub inside : (k : ℕ) → from ≤ k → k < n → getD t k 0 ≡ w
+  pub outside : (k : ℕ) → (from ≤ k → k < n → ⊥) → getD t k 0 ≡ getD t₀ k 0
 
-pub filled-none : (t : List ℕ) → length t ≡ words → Filled t 0
-filled-none t s = record { low = omega arith; size = s; front = λ k h. absurd (none k h) }
+pub filled-none : (t : List ℕ) (i w : ℕ) → Filled t i i w t
+filled-none t i w = record { size = refl; inside = λ k a b. absurd (none k a b); outside = λ k n. refl }
   where
-    none : (k : ℕ) → k < 0 → ⊥
-    none k h = omega arith
+    none : (k : ℕ) → i ≤ k → k < i → ⊥
+    none k a b = omega arith
 
-pub filled-more : (t : List ℕ) (i w : ℕ) → Filled t i → i < words → w ≡ emptyWord i → Filled (set t i w) (i + 1)
-filled-more t i w f h e = record {
-  low = omega arith;
-  size = length-set t i w ∙ f .size;
-  front = λ k l. elim (ℕ-discrete k i) [
-    | yes q ↦ rw q (getD-set-same t i w 0 (rw (f .size) h) ∙ e)
-    | no q ↦ getD-set-other t i k w 0 q ∙ f .front k (omega arith)
+pub filled-more : {t₀ : List ℕ} {from n w : ℕ} {t : List ℕ} → Filled t₀ from n w t → from ≤ n → n < length t₀ → Filled t₀ from (n + 1) w (set t n w)
+filled-more {t₀} {from} {n} {w} {t} f h l = record {
+  size = length-set t n w ∙ f .size;
+  inside = λ k a b. elim (ℕ-discrete k n) [
+    | yes q ↦ rw q (getD-set-same t n w 0 (rw (f .size) l))
+    | no q ↦ getD-set-other t n k w 0 q ∙ f .inside k a (omega arith)
+  ];
+  outside = λ k o. elim (ℕ-discrete k n) [
+    | yes q ↦ absurd (o (omega arith) (omega arith))
+    | no q ↦ getD-set-other t n k w 0 q ∙ f .outside k (λ a b. o a (omega arith))
   ];
 }
 
-pub filled-all : (t : List ℕ) (i : ℕ) → Filled t i → words ≤ i → t ≡ emptyTable
-filled-all t i f h =
-    ext-getD 0 t emptyTable (f .size ∙ sym empty-size) (λ k l. f .front k (omega (arith, f .size, f .low)) ∙ sym (empty-word k (rw (f .size) at l)))
+-- the three kinds of words, one after the other
+pub filled-all : {t a b c : List ℕ} → length t ≡ words → Filled t 0 edgeAt nothing a → Filled a edgeAt vertexAt 0 b → Filled b vertexAt words nothing c
+    → c ≡ emptyTable
+filled-all {t} {a} {b} {c} s f g h =
+    let size = h .size ∙ g .size ∙ f .size ∙ s in
+    ext-getD 0 c emptyTable (size ∙ sym empty-size) (λ k l. word k (rw size at l) ∙ sym (empty-word k (rw size at l)))
+  where
+    word : (k : ℕ) → k < words → getD c k 0 ≡ emptyWord k
+    word k l = elim (decLt k edgeAt) [
+      | yes d ↦
+          rw (lt-ltb k edgeAt d) (h .outside k (λ p q. omega arith) ∙ g .outside k (λ p q. omega arith) ∙ f .inside k (omega arith) d)
+      | no d ↦ elim (decLt k vertexAt) [
+        | yes e ↦ rw (le-ltb k edgeAt (omega arith), lt-ltb k vertexAt e) (h .outside k (λ p q. omega arith) ∙ g .inside k (omega arith) e)
+        | no e ↦ rw (le-ltb k edgeAt (omega arith), le-ltb k vertexAt (omega arith)) (h .inside k (omega arith) l)
+      ]
+    ]

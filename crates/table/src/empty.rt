@@ -5,20 +5,21 @@ use crate::layout::EDGE;
 use crate::layout::NOTHING;
 use crate::layout::VERTEX;
 use crate::layout::WORDS;
+ghost use Prim.Native.Nat.{_≤_};
 ghost use mathlib.Core.Path.{_≡_};
-ghost use Rattle.table.specs.Empty.{emptyWord, emptyOf, emptied};
+ghost use lib.ListN.{length};
+ghost use Rattle.table.specs.Empty.{Filled, emptyOf, emptied};
 
-// Word i of the empty mesh.
-fn empty_word(i: usize) -> u16
-    ensures { λ r. ⌜ r ≡ emptyWord i ⌝ }
+// Stores w from index `from` on, up to `to`.
+fn fill(t: &mut [u16], from: usize, to: usize, w: u16)
+    requires { ⌜ (from ≤ to) × (to ≤ length (now t)) ⌝ }
+    ensures { λ _. ⌜ Filled (now (t .entry)) from to w (now (t .exit)) ⌝ }
 {
-    if i < EDGE {
-        return NOTHING;
+    let mut i = from;
+    while i < to {
+        t[i] = w;
+        i += 1;
     }
-    if i < VERTEX {
-        return 0;
-    }
-    NOTHING
 }
 
 // Fills the slice with the empty mesh. Of what it held only the size is tested.
@@ -28,11 +29,8 @@ pub fn empty(t: &mut [u16]) -> Answer
     if t.len() != WORDS {
         return Answer::Declined(Refusal::Torn);
     }
-    let mut i: usize = 0;
-    while i < WORDS {
-        let w = empty_word(i);
-        t[i] = w;
-        i += 1;
-    }
+    fill(t, 0, EDGE, NOTHING);
+    fill(t, EDGE, VERTEX, 0);
+    fill(t, VERTEX, WORDS, NOTHING);
     Answer::Done(0)
 }

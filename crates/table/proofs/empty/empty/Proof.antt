@@ -1,64 +1,30 @@
--- `table::empty::empty` meets its contract. Fills the slice with the empty mesh. Of what it held only the size is tested. The loop keeps `Filled`, and `words - i` falls.
--- Assumes nothing.
-use Rattle.table.specs.Empty.{Filled, filled-none, filled-more, filled-all}
-use Rattle.table.specs.Layout.{words}
+-- `empty::empty` meets its contract: the size is wrong, or each kind of word is filled.
+use mathlib.Core.Path.{refl}
 use borrow.Author.Tests.{eq-eqb, ne-eqb}
+use Rattle.table.specs.Empty.{filled-all}
 use borrow.Author.Needs.{needs}
-use mathlib.Core.Path.{refl, sym, _∙_}
-use native.Mathlib.Omega.{arith}
-use Prim.Native.Nat.{_-_}
 use Rattle.table.proofs.empty.empty.Statement.{statement}
 use Rattle.table.proofs.empty.empty.Tie as tie
 
-abbrev Inv-loop : tie.InvT-loop
-Inv-loop t₀ i₀ t i = Filled t i
-
-abbrev μ-loop : tie.MeasureT-loop
-μ-loop t₀ i₀ t i = words - i
-
-returns : tie.Need-returns Inv-loop μ-loop
+returns : tie.Need-returns
 returns c = simp (ne-eqb _ _ (c .if1 .taken)) (refl, refl)
 
-loop-holds : tie.Need-loop-holds Inv-loop μ-loop
-loop-holds c = filled-none _ (c .if1 .left)
+fill-requires : tie.Need-fill-requires
+fill-requires c κs = search needs
 
-empty-word-requires : tie.Need-empty-word-requires Inv-loop μ-loop
-empty-word-requires c κs = search needs
+fill-requires-2 : tie.Need-fill-requires-2
+fill-requires-2 c κs = search needs
 
-mul-t : tie.Need-mul-t Inv-loop μ-loop
-mul-t c = omega arith
+fill-requires-3 : tie.Need-fill-requires-3
+fill-requires-3 c κs = search needs
 
-slice-write-t : tie.Need-slice-write-t Inv-loop μ-loop
-slice-write-t c = omega (arith, c .before .before .loop .inv .size)
+same-length : tie.Need-same-length
+same-length c = search needs
 
-add-i : tie.Need-add-i Inv-loop μ-loop
-add-i c = omega arith
-
-loop-less : tie.Need-loop-less Inv-loop μ-loop
-loop-less c = omega arith
-
-loop-again : tie.Need-loop-again Inv-loop μ-loop
-loop-again c = filled-more _ _ _ (c .before .before .loop .inv) (c .before .loop-test .taken) (c .empty-word .ensures)
-
-same-length : tie.Need-same-length Inv-loop μ-loop
-same-length c = c .before .loop .inv .size ∙ sym (c .before .before .if1 .left)
-
-returns-2 : tie.Need-returns-2 Inv-loop μ-loop
-returns-2 c = simp (eq-eqb _ _ (c .before .before .if1 .left)) (refl, filled-all _ _ (c .before .loop .inv) (c .loop-test .left))
+returns-2 : tie.Need-returns-2
+returns-2 c = simp (eq-eqb _ _ (c .before .before .before .before .before .before .before .before .before .before .before .before .if1 .left)) (refl, filled-all (c .before .before .before .before .before .before .before .before .before .before .before .before .if1 .left) (c .before .before .before .before .before .before .before .before .before .before .fill .ensures) (c .before .before .before .before .before .before .fill2 .ensures) (c .before .before .fill3 .ensures))
 
 pub empty-spec : {M : Type 1} → statement M
 empty-spec =
     tie.close
-    (tie.spec
-    Inv-loop
-    μ-loop
-    returns
-    loop-holds
-    empty-word-requires
-    mul-t
-    slice-write-t
-    add-i
-    loop-less
-    loop-again
-    same-length
-    returns-2)
+    (tie.spec returns fill-requires fill-requires-2 fill-requires-3 same-length returns-2)

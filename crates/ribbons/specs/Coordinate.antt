@@ -15,8 +15,8 @@ use borrow.Author.Tests.{eq-eqb, ne-eqb}
 use Rattle.orbits.specs.Truth.{truth, holds, fails}
 use Rattle.table.specs.Signed.{difference, below, above}
 use Rattle.weave.specs.Letters.{over, under}
-use Rattle.ribbons.specs.Exact.{over32}
-use Rattle.ribbons.specs.Path.{sixteenths, thirtySeconds, pointAt}
+use Rattle.ribbons.specs.Exact.{largest, over32}
+use Rattle.ribbons.specs.Path.{farthestPoint, farthestLift, sixteenths, thirtySeconds, pointAt}
 
 -- the size of a sum
 
@@ -44,21 +44,21 @@ size-twice : (x : ℤ) → natAbs (pos 2 *ℤ x) ≡ 2 * natAbs x
 size-twice (pos n) = refl
 size-twice (negsuc n) = size-negative (2 * suc n)
 
-size-fits : (z : ℤ) → natAbs z ≤ 139264 → SFits w32 z
+size-fits : (z : ℤ) → natAbs z ≤ largest → SFits w32 z
 size-fits (pos n) h = record { sfits = omega arith }
 size-fits (negsuc n) h = record { sfits = omega arith }
 
 -- "Points lie within 65,536 either way, lifts within 4,096, so nothing is rounded."
 pub record Near (a b l : ℤ) : Type 0 where
-  pub first : natAbs a ≤ 65536
-  pub second : natAbs b ≤ 65536
-  pub lift : natAbs l ≤ 4096
+  pub first : natAbs a ≤ farthestPoint
+  pub second : natAbs b ≤ farthestPoint
+  pub lift : natAbs l ≤ farthestLift
 
 -- a number as the machine has it
 abbrev pub held : ℤ → ℤ
 held z = toZ w32 (ofZ w32 z)
 
-held-is : (z : ℤ) → natAbs z ≤ 139264 → held z ≡ z
+held-is : (z : ℤ) → natAbs z ≤ largest → held z ≡ z
 held-is z h = toZ-ofZ {w = w32} {z = z} (size-fits z h)
 
 module _ {a b l : ℤ} (n : Near a b l) where
@@ -92,7 +92,7 @@ module _ {a b l : ℤ} (n : Near a b l) where
   twice-is = toZ-ofZ {w = w32} twice-fits ∙ rw lift-is
 
   -- a+b+2l
-  over-few : natAbs (a +ℤ b +ℤ pos 2 *ℤ l) ≤ 139264
+  over-few : natAbs (a +ℤ b +ℤ pos 2 *ℤ l) ≤ largest
   over-few =
       let s = size-sum (a +ℤ b) (pos 2 *ℤ l) in
       let t = twice-few in
@@ -106,7 +106,7 @@ module _ {a b l : ℤ} (n : Near a b l) where
   over-is = toZ-ofZ {w = w32} over-fits ∙ rw (ends-are, twice-is)
 
   -- a+b-2l
-  under-few : natAbs (a +ℤ b -ℤ pos 2 *ℤ l) ≤ 139264
+  under-few : natAbs (a +ℤ b -ℤ pos 2 *ℤ l) ≤ largest
   under-few =
       let s = size-sum (a +ℤ b) (negℤ (pos 2 *ℤ l)) in
       let m = size-minus (pos 2 *ℤ l) in
@@ -121,13 +121,13 @@ module _ {a b l : ℤ} (n : Near a b l) where
   under-is = toZ-ofZ {w = w32} under-fits ∙ rw (ends-are, twice-is)
 
   -- what the float is made of is small enough
-  pub over-small : natAbs (held (held (held a +ℤ held b) +ℤ held (pos 2 *ℤ held l))) ≤ 139264
+  pub over-small : natAbs (held (held (held a +ℤ held b) +ℤ held (pos 2 *ℤ held l))) ≤ largest
   over-small = rw over-is over-few
 
-  pub under-small : natAbs (held (held (held a +ℤ held b) -ℤ held (pos 2 *ℤ held l))) ≤ 139264
+  pub under-small : natAbs (held (held (held a +ℤ held b) -ℤ held (pos 2 *ℤ held l))) ≤ largest
   under-small = rw under-is under-few
 
-  pub flat-small : natAbs (held (held a +ℤ held b)) ≤ 139264
+  pub flat-small : natAbs (held (held a +ℤ held b)) ≤ largest
   flat-small = rw ends-are (let few = ends-few in omega arith)
 
   -- the three ways to pass
@@ -145,7 +145,7 @@ module _ {a b l : ℤ} (n : Near a b l) where
     coordinate-flat m e f = f ∙ ap over32 ends-are ∙ rw (ne-eqb letter over m, ne-eqb letter under e)
 
 -- however the strand passes, the number is small
-pub coordinate-few : (letter : ℕ) {a b l : ℤ} → Near a b l → natAbs (thirtySeconds letter a b l) ≤ 139264
+pub coordinate-few : (letter : ℕ) {a b l : ℤ} → Near a b l → natAbs (thirtySeconds letter a b l) ≤ largest
 unfolding thirtySeconds
 coordinate-few letter n = elim (truth (eqb letter over)) [
   | holds e ↦ rw e (over-few n)

@@ -12,6 +12,10 @@ use lib.Ieee.Back.{round-whole}
 use lib.Ieee.Scale.{round-same}
 use lib.Ieee.Fits.{round-fits, down-pos}
 
+-- two points' coordinates and two lifts have at most this sum, either way
+abbrev pub largest : ℕ
+largest = 139264
+
 -- is z below zero
 abbrev pub negative : ℤ → Bool
 negative (pos n) = false

@@ -15,6 +15,20 @@ use Rattle.ribbons.specs.declared.piece.Piece.{Piece}
 use Rattle.ribbons.specs.declared.piece.Piece.the-variants.{Over, Under, Flat, Close}
 use Rattle.ribbons.specs.Exact.{over32}
 
+-- "1,536 points, 3,072 lifts": three words for each vertex, and three for each edge
+abbrev pub pointWords : ℕ
+pointWords = 1536
+
+abbrev pub liftWords : ℕ
+liftWords = 3072
+
+-- "Points lie within 65,536 either way, lifts within 4,096"
+abbrev pub farthestPoint : ℕ
+farthestPoint = 65536
+
+abbrev pub farthestLift : ℕ
+farthestLift = 4096
+
 -- a lent word, "in sixteenths"
 abbrev pub sixteenths : List ℤ → ℕ → ℤ
 sixteenths words i = getD words i (pos 0)
@@ -93,7 +107,7 @@ text f (p ∷ l) = f p ++ text f l
 abbrev pub manyTurns : List ℕ → ℕ → Bool
 manyTurns t s = ltb 1 (crossings (wordOf t s))
 
--- "Points lie within 65,536 either way, lifts within 4,096"
+-- is z farther than that
 abbrev pub past : ℕ → ℤ → Bool
 past most z = ltb most (natAbs z)
 
@@ -103,4 +117,4 @@ farThree words i most = past most (sixteenths words i) || (past most (sixteenths
 
 -- 9, far: "point or lift out of range on an edge of the walk"
 unfoldable pub farStep : List ℕ → List ℤ → List ℤ → ℕ → Bool
-farStep t points lifts s = farThree points (firstEnd t s) 65536 || (farThree points (secondEnd t s) 65536 || farThree lifts (liftAt s) 4096)
+farStep t points lifts s = farThree points (firstEnd t s) farthestPoint || (farThree points (secondEnd t s) farthestPoint || farThree lifts (liftAt s) farthestLift)

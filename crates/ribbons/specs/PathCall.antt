@@ -25,7 +25,7 @@ use Rattle.weave.specs.Calls.{namedStep, there-steps}
 use Rattle.weave.specs.Ribbon.{some}
 use Rattle.ribbons.specs.declared.survey.Survey.{Survey}
 use Rattle.ribbons.specs.CutLength.{declinedIf}
-use Rattle.ribbons.specs.Path.{pathFrom, kindsOf, floatsOf, text, manyTurns, farStep}
+use Rattle.ribbons.specs.Path.{pointWords, liftWords, pathFrom, kindsOf, floatsOf, text, manyTurns, farStep}
 use Rattle.ribbons.specs.Places.{Lent}
 use Rattle.ribbons.specs.Survey.{surveyOf}
 use Rattle.ribbons.specs.Laying.{kinds-length, floats-length, path-length, Room}
@@ -36,8 +36,8 @@ unfoldable pub pathAlong : List ℕ → List ℤ → List ℤ → ℕ → ℕ �
 pathAlong t points lifts m c s =
     let path = pathFrom t points lifts s in
     let steps = walk (rotation t) s in
-    declinedIf (ltb (length points) 1536) ShortSlice
-    (declinedIf (ltb (length lifts) 3072) ShortSlice
+    declinedIf (ltb (length points) pointWords) ShortSlice
+    (declinedIf (ltb (length lifts) liftWords) ShortSlice
     (declinedIf (ltb m (length (text kindsOf path))) ShortSlice
     (declinedIf (ltb c (length (text floatsOf path))) ShortSlice
     (declinedIf (some (manyTurns t) steps) ManyTurns
@@ -62,16 +62,16 @@ coordsOut t d k points lifts kinds coords = outBy (pathAnswer t d k points lifts
 -- the ends of the measuring
 
 module _ (t : List ℕ) (points lifts : List ℤ) (m c s : ℕ) where
-  pub short-points : length points < 1536 → Declined ShortSlice ≡ pathAlong t points lifts m c s
+  pub short-points : length points < pointWords → Declined ShortSlice ≡ pathAlong t points lifts m c s
   unfolding pathAlong
-  short-points h = rw (lt-ltb (length points) 1536 h)
+  short-points h = rw (lt-ltb (length points) pointWords h)
 
-  module _ (p : 1536 ≤ length points) where
-    pub short-lifts : length lifts < 3072 → Declined ShortSlice ≡ pathAlong t points lifts m c s
+  module _ (p : pointWords ≤ length points) where
+    pub short-lifts : length lifts < liftWords → Declined ShortSlice ≡ pathAlong t points lifts m c s
     unfolding pathAlong
-    short-lifts h = rw (le-ltb (length points) 1536 p, lt-ltb (length lifts) 3072 h)
+    short-lifts h = rw (le-ltb (length points) pointWords p, lt-ltb (length lifts) liftWords h)
 
-    module _ (l : 3072 ≤ length lifts) {v : Survey} (e : v ≡ surveyOf t points lifts (walk (rotation t) s)) where
+    module _ (l : liftWords ≤ length lifts) {v : Survey} (e : v ≡ surveyOf t points lifts (walk (rotation t) s)) where
       pieces-are : v .steps + 1 ≡ length (pathFrom t points lifts s)
       unfolding surveyOf
       pieces-are = rw e (sym (path-length t points lifts s))
@@ -92,27 +92,27 @@ module _ (t : List ℕ) (points lifts : List ℤ) (m c s : ℕ) where
 
       pub short-kinds : m < v .steps + 1 → Declined ShortSlice ≡ pathAlong t points lifts m c s
       unfolding pathAlong
-      short-kinds h = rw (le-ltb (length points) 1536 p, le-ltb (length lifts) 3072 l, kinds-are, lt-ltb m (v .steps + 1) h)
+      short-kinds h = rw (le-ltb (length points) pointWords p, le-ltb (length lifts) liftWords l, kinds-are, lt-ltb m (v .steps + 1) h)
 
       module _ (a : v .steps + 1 ≤ m) where
         pub short-coords : c < 3 * (v .steps + 1) → Declined ShortSlice ≡ pathAlong t points lifts m c s
         unfolding pathAlong
-        short-coords h = rw (le-ltb (length points) 1536 p, le-ltb (length lifts) 3072 l, kinds-are, le-ltb m (v .steps + 1) a, floats-are, lt-ltb c (3 * (v .steps + 1)) h)
+        short-coords h = rw (le-ltb (length points) pointWords p, le-ltb (length lifts) liftWords l, kinds-are, le-ltb m (v .steps + 1) a, floats-are, lt-ltb c (3 * (v .steps + 1)) h)
 
         module _ (b : 3 * (v .steps + 1) ≤ c) where
           pub many-turns : v .many ≡ true → Declined ManyTurns ≡ pathAlong t points lifts m c s
           unfolding pathAlong
-          many-turns h = rw (le-ltb (length points) 1536 p, le-ltb (length lifts) 3072 l, kinds-are, le-ltb m (v .steps + 1) a, floats-are, le-ltb c (3 * (v .steps + 1)) b, many-is, h)
+          many-turns h = rw (le-ltb (length points) pointWords p, le-ltb (length lifts) liftWords l, kinds-are, le-ltb m (v .steps + 1) a, floats-are, le-ltb c (3 * (v .steps + 1)) b, many-is, h)
 
           module _ (x : v .many ≡ false) where
             pub far-away : v .far ≡ true → Declined Far ≡ pathAlong t points lifts m c s
             unfolding pathAlong
-            far-away h = rw (le-ltb (length points) 1536 p, le-ltb (length lifts) 3072 l, kinds-are, le-ltb m (v .steps + 1) a, floats-are, le-ltb c (3 * (v .steps + 1)) b, many-is, x, far-is, h)
+            far-away h = rw (le-ltb (length points) pointWords p, le-ltb (length lifts) liftWords l, kinds-are, le-ltb m (v .steps + 1) a, floats-are, le-ltb c (3 * (v .steps + 1)) b, many-is, x, far-is, h)
 
             pub path-sized : v .far ≡ false → Done (v .steps + 1) ≡ pathAlong t points lifts m c s
             unfolding pathAlong
             path-sized h =
-                rw (le-ltb (length points) 1536 p, le-ltb (length lifts) 3072 l, kinds-are, le-ltb m (v .steps + 1) a, floats-are, le-ltb c (3 * (v .steps + 1)) b, many-is, x, far-is, h)
+                rw (le-ltb (length points) pointWords p, le-ltb (length lifts) liftWords l, kinds-are, le-ltb m (v .steps + 1) a, floats-are, le-ltb c (3 * (v .steps + 1)) b, many-is, x, far-is, h)
                 (ap Done pieces-are)
 
 -- a walk has at most as many steps as there are step words
@@ -141,8 +141,8 @@ unfolding pathAlong
 along-room {t} {s} h points lifts m c e =
     let path = pathFrom t points lifts s in
     let steps = walk (rotation t) s in
-    let a = passed (ltb (length points) 1536) ShortSlice _ (sym e) in
-    let b = passed (ltb (length lifts) 3072) ShortSlice _ (a .rest) in
+    let a = passed (ltb (length points) pointWords) ShortSlice _ (sym e) in
+    let b = passed (ltb (length lifts) liftWords) ShortSlice _ (a .rest) in
     let d = passed (ltb m (length (text kindsOf path))) ShortSlice _ (b .rest) in
     let f = passed (ltb c (length (text floatsOf path))) ShortSlice _ (d .rest) in
     let g = passed (some (manyTurns t) steps) ManyTurns _ (f .rest) in
@@ -153,7 +153,7 @@ along-room {t} {s} h points lifts m c e =
     let x = kinds-length path in
     let y = floats-length path in
     record {
-      lent = record { stands = h; points-size = ltb-false (length points) 1536 (a .test); lifts-size = ltb-false (length lifts) 3072 (b .test) };
+      lent = record { stands = h; points-size = ltb-false (length points) pointWords (a .test); lifts-size = ltb-false (length lifts) liftWords (b .test) };
       near = far .test;
       kinds = omega arith;
       coords = omega arith;

@@ -15,7 +15,7 @@ use Rattle.ribbons.specs.declared.piece.Point.{Point}
 use Rattle.ribbons.specs.declared.piece.Piece.{Piece}
 use Rattle.ribbons.specs.declared.piece.Piece.the-variants.{Over, Under, Flat, Close}
 use Rattle.ribbons.specs.declared.place.Places.{Places}
-use Rattle.ribbons.specs.Path.{sixteenths, firstEnd, secondEnd, liftAt, letterOf, pointAt, pieceFor, pieceOn, pointOf, past, farThree, farStep}
+use Rattle.ribbons.specs.Path.{farthestPoint, farthestLift, sixteenths, firstEnd, secondEnd, liftAt, letterOf, pointAt, pieceFor, pieceOn, pointOf, past, farThree, farStep}
 use Rattle.ribbons.specs.Places.{placesOf, Lent, lies}
 use Rattle.ribbons.specs.Coordinate.{NearThree, Readable}
 
@@ -50,10 +50,10 @@ three words i most e =
 pub near-step : (t : List ℕ) (points lifts : List ℤ) (s : ℕ) → farStep t points lifts s ≡ false → NearThree points lifts (firstEnd t s) (secondEnd t s) (liftAt s)
 unfolding farStep
 near-step t points lifts s e =
-    let n = none (farThree points (firstEnd t s) 65536) (farThree points (secondEnd t s) 65536) (farThree lifts (liftAt s) 4096) e in
-    let f = three points (firstEnd t s) 65536 (n .first) in
-    let g = three points (secondEnd t s) 65536 (n .second) in
-    let h = three lifts (liftAt s) 4096 (n .third) in
+    let n = none (farThree points (firstEnd t s) farthestPoint) (farThree points (secondEnd t s) farthestPoint) (farThree lifts (liftAt s) farthestLift) e in
+    let f = three points (firstEnd t s) farthestPoint (n .first) in
+    let g = three points (secondEnd t s) farthestPoint (n .second) in
+    let h = three lifts (liftAt s) farthestLift (n .third) in
     record {
       near-x = record { first = f .first; second = g .first; lift = h .first };
       near-y = record { first = f .second; second = g .second; lift = h .second };

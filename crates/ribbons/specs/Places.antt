@@ -9,7 +9,7 @@ use Rattle.table.specs.Layout.{words, vertices, edges, edgeOf, leaves}
 use Rattle.table.specs.Rotation.{live-yes}
 use Rattle.tracing.specs.Stands.{Stands}
 use Rattle.ribbons.specs.declared.place.Places.{Places}
-use Rattle.ribbons.specs.Path.{firstEnd, secondEnd, liftAt}
+use Rattle.ribbons.specs.Path.{pointWords, liftWords, firstEnd, secondEnd, liftAt}
 
 unfoldable pub placesOf : List ℕ → ℕ → Places
 placesOf t s = record { first = firstEnd t s; second = secondEnd t s; lift = liftAt s }
@@ -41,8 +41,8 @@ ends {t} {s} h =
 -- "1,536 points, 3,072 lifts"
 pub record Lent (t : List ℕ) (points lifts : List ℤ) (s : ℕ) : Type 0 where
   pub stands : Stands t s
-  pub points-size : 1536 ≤ length points
-  pub lifts-size : 3072 ≤ length lifts
+  pub points-size : pointWords ≤ length points
+  pub lifts-size : liftWords ≤ length lifts
 
 -- the three words of each are there
 pub record Lies (t : List ℕ) (points lifts : List ℤ) (s : ℕ) : Type 0 where

@@ -13,15 +13,15 @@ use mir.Facts.{toZ-pos, toZ-ofZ}
 use borrow.Author.Tests.{lt-ltb, le-ltb, ltb-true, ltb-false}
 use Rattle.orbits.specs.Truth.{clash}
 use Rattle.ribbons.specs.declared.place.Places.{Places}
-use Rattle.ribbons.specs.Path.{sixteenths, firstEnd, secondEnd, liftAt, past, farThree, farStep}
+use Rattle.ribbons.specs.Path.{farthestPoint, farthestLift, sixteenths, firstEnd, secondEnd, liftAt, past, farThree, farStep}
 use Rattle.ribbons.specs.Places.{placesOf, Lent, lies}
 
 -- the bound below zero, as the code has it
-module _ (m : ℕ) (h : m ≤ 65536) where
+module _ (m : ℕ) (h : m ≤ farthestPoint) where
   low-is : toZ w32 0 -ℤ toZ w32 m ≡ negℤ (pos m)
   low-is = ap₂ _-ℤ_ (toZ-pos w32 {n = 0} (omega arith)) (toZ-pos w32 {n = m} (omega arith)) ∙ +ℤ-idl (negℤ (pos m))
 
-  low-fits : (k : ℕ) → k ≤ 65536 → SFits w32 (negℤ (pos k))
+  low-fits : (k : ℕ) → k ≤ farthestPoint → SFits w32 (negℤ (pos k))
   low-fits zero l = record { sfits = omega arith }
   low-fits (suc k) l = record { sfits = omega arith }
 
@@ -43,7 +43,7 @@ past-rest zero (negsuc n) e = absurd (clash refl e)
 past-rest (suc m) (negsuc n) e = let h = ltb-false m n e in sym (le-ltb (suc m) (suc n) (omega arith))
 
 -- the two ends of the test, of a number as the machine has it
-module _ (z : ℤ) (f : SFits w32 z) (m : ℕ) (h : m ≤ 65536) where
+module _ (z : ℤ) (f : SFits w32 z) (m : ℕ) (h : m ≤ farthestPoint) where
   pub past-yes : ltZ (toZ w32 (ofZ w32 z)) (toZ w32 (ofZ w32 (toZ w32 0 -ℤ toZ w32 m))) ≡ true → true ≡ past m z
   past-yes e = past-low m z (sym (ap₂ ltZ (toZ-ofZ {w = w32} f) (bound-is m h)) ∙ e)
 
@@ -88,38 +88,38 @@ module _ {words : List ℤ} {i most : ℕ} {x : Bool} (k : Answered words i most
 
 -- the two ends of a step's edge and its lift
 module _ {t : List ℕ} {points lifts : List ℤ} {s : ℕ} {p : Places} (k : Lent t points lifts s) (e : p ≡ placesOf t s) where
-  pub first-there : (p .first + 2 < length points) × (65536 ≤ 65536)
+  pub first-there : (p .first + 2 < length points) × (farthestPoint ≤ farthestPoint)
   unfolding placesOf
   first-there = rw e (lies k .first, omega arith)
 
-  pub second-there : (p .second + 2 < length points) × (65536 ≤ 65536)
+  pub second-there : (p .second + 2 < length points) × (farthestPoint ≤ farthestPoint)
   unfolding placesOf
   second-there = rw e (lies k .second, omega arith)
 
-  pub lift-there : (p .lift + 2 < length lifts) × (4096 ≤ 65536)
+  pub lift-there : (p .lift + 2 < length lifts) × (farthestLift ≤ farthestPoint)
   unfolding placesOf
   lift-there = rw e (lies k .lift, omega arith)
 
-  module _ {x : Bool} (f : x ≡ farThree points (p .first) 65536) where
-    at-first : x ≡ farThree points (firstEnd t s) 65536
+  module _ {x : Bool} (f : x ≡ farThree points (p .first) farthestPoint) where
+    at-first : x ≡ farThree points (firstEnd t s) farthestPoint
     unfolding placesOf
-    at-first = f ∙ ap (λ q. farThree points (q .first) 65536) e
+    at-first = f ∙ ap (λ q. farThree points (q .first) farthestPoint) e
 
     pub step-first : x ≡ true → true ≡ farStep t points lifts s
     unfolding farStep
-    step-first h = any-first (farThree points (firstEnd t s) 65536) (farThree points (secondEnd t s) 65536) (farThree lifts (liftAt s) 4096) at-first h
+    step-first h = any-first (farThree points (firstEnd t s) farthestPoint) (farThree points (secondEnd t s) farthestPoint) (farThree lifts (liftAt s) farthestLift) at-first h
 
-    module _ (h : x ≡ false) {y : Bool} (g : y ≡ farThree points (p .second) 65536) where
-      at-second : y ≡ farThree points (secondEnd t s) 65536
+    module _ (h : x ≡ false) {y : Bool} (g : y ≡ farThree points (p .second) farthestPoint) where
+      at-second : y ≡ farThree points (secondEnd t s) farthestPoint
       unfolding placesOf
-      at-second = g ∙ ap (λ q. farThree points (q .second) 65536) e
+      at-second = g ∙ ap (λ q. farThree points (q .second) farthestPoint) e
 
       pub step-second : y ≡ true → true ≡ farStep t points lifts s
       unfolding farStep
-      step-second l = any-second (farThree points (firstEnd t s) 65536) (farThree points (secondEnd t s) 65536) (farThree lifts (liftAt s) 4096) at-first h at-second l
+      step-second l = any-second (farThree points (firstEnd t s) farthestPoint) (farThree points (secondEnd t s) farthestPoint) (farThree lifts (liftAt s) farthestLift) at-first h at-second l
 
-      pub step-last : y ≡ false → {z : Bool} → z ≡ farThree lifts (p .lift) 4096 → z ≡ farStep t points lifts s
+      pub step-last : y ≡ false → {z : Bool} → z ≡ farThree lifts (p .lift) farthestLift → z ≡ farStep t points lifts s
       unfolding farStep placesOf
       step-last l m =
-          any-last (farThree points (firstEnd t s) 65536) (farThree points (secondEnd t s) 65536) (farThree lifts (liftAt s) 4096) at-first h at-second l
-          (m ∙ ap (λ q. farThree lifts (q .lift) 4096) e)
+          any-last (farThree points (firstEnd t s) farthestPoint) (farThree points (secondEnd t s) farthestPoint) (farThree lifts (liftAt s) farthestLift) at-first h at-second l
+          (m ∙ ap (λ q. farThree lifts (q .lift) farthestLift) e)

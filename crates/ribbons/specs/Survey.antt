@@ -16,7 +16,7 @@ use Rattle.weave.specs.Letters.{crossings}
 use Rattle.weave.specs.Crossing.{EdgeWord}
 use Rattle.weave.specs.Ribbon.{some, some-append}
 use Rattle.ribbons.specs.declared.survey.Survey.{Survey}
-use Rattle.ribbons.specs.Path.{manyTurns, farStep}
+use Rattle.ribbons.specs.Path.{pointWords, liftWords, manyTurns, farStep}
 use Rattle.ribbons.specs.Places.{Lent}
 
 -- of these steps
@@ -44,8 +44,8 @@ module _ (t : List ℕ) (points lifts : List ℤ) (l : List ℕ) (x : ℕ) where
 pub record Surveying (t : List ℕ) (points lifts : List ℤ) (s at : ℕ) (v : Survey) : Type 0 where
   pub so-far : ℕ
   pub walking : Walking t s so-far at
-  pub points-size : 1536 ≤ length points
-  pub lifts-size : 3072 ≤ length lifts
+  pub points-size : pointWords ≤ length points
+  pub lifts-size : liftWords ≤ length lifts
   pub seen : v ≡ surveyOf t points lifts (run (step (rotation t)) s so-far)
 
 pub surveying-none : {t : List ℕ} {points lifts : List ℤ} {s : ℕ} → Lent t points lifts s → Surveying t points lifts s s (record { steps = 0; many = false; far = false })

@@ -11,6 +11,7 @@ pub struct Places {
     pub lift: usize,
 }
 
+// The places of step s.
 pub fn places_of(t: &[u16], s: u16) -> Places
     requires { ⌜ Stands (now t) s ⌝ }
     ensures { λ r. ⌜ r ≡ placesOf (now (t .entry)) s ⌝ }

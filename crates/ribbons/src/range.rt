@@ -3,7 +3,7 @@ use crate::place::places_of;
 ghost use Prim.Native.Nat.{_+_, _≤_, _<_};
 ghost use mathlib.Core.Path.{_≡_};
 ghost use lib.ListN.{length};
-ghost use Rattle.ribbons.specs.Path.{past, farThree, farStep};
+ghost use Rattle.ribbons.specs.Path.{farthestPoint, past, farThree, farStep};
 ghost use Rattle.ribbons.specs.Places.{Lent};
 
 // In sixteenths of a millimetre.
@@ -13,7 +13,7 @@ pub const FARTHEST_LIFT: u32 = 4096;
 
 // Is z more than `most` from zero, either way.
 fn is_past(z: i32, most: u32) -> bool
-    requires { ⌜ most ≤ 65536 ⌝ }
+    requires { ⌜ most ≤ farthestPoint ⌝ }
     ensures { λ r. ⌜ r ≡ past most z ⌝ }
 {
     let m = most as i32;
@@ -25,7 +25,7 @@ fn is_past(z: i32, most: u32) -> bool
 
 // Is one of the three words from index i on out of range.
 fn is_far(words: &[i32], i: usize, most: u32) -> bool
-    requires { ⌜ (i + 2 < length (now words)) × (most ≤ 65536) ⌝ }
+    requires { ⌜ (i + 2 < length (now words)) × (most ≤ farthestPoint) ⌝ }
     ensures { λ r. ⌜ r ≡ farThree (now (words .entry)) i most ⌝ }
 {
     if is_past(words[i], most) {

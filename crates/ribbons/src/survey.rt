@@ -20,6 +20,7 @@ pub struct Survey {
     pub far: bool,
 }
 
+// Does one of the two hold.
 fn either(a: bool, b: bool) -> bool
     ensures { λ r. ⌜ r ≡ (a || b) ⌝ }
 {

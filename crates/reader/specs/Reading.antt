@@ -36,6 +36,13 @@ beginBy (Refused r) = Declined r
 abbrev pub beginOf : List ℕ → ℕ → ℕ → Answer
 beginOf t d k = beginBy (namedStep t d k)
 
+-- a step and its step word, 2d+t
+abbrev pub wordAt : Step → ℕ
+wordAt s = 2 * s .dart + s .kind
+
+abbrev pub stepAt : ℕ → Step
+stepAt x = record { dart = x / 2; kind = x % 2 }
+
 -- 2, no such name: "dart past its range, type above 1"
 abbrev pub inRange : ℕ → ℕ → Bool
 inRange d k = ltb d darts && ltb k 2
@@ -46,7 +53,7 @@ placed t at first =
     unless (good? t) Torn
     (unless (inRange (at .dart) (at .kind) && inRange (first .dart) (first .kind)) NoSuchName
     (unless (live? t (at .dart) && live? t (first .dart)) Absent
-    (There (2 * at .dart + at .kind))))
+    (There (wordAt at))))
 
 -- "after a declined step the reader has not moved"; "all lent slices and records keep their contents"
 abbrev pub stays : Step → Tally → Refusal → Stepped
@@ -55,8 +62,8 @@ stays at y r = record { answer = Declined r; at = at; tally = y }
 -- the reader goes on to step `next`. "With each step it says whether the walk ends there": 1 if the next step is the one that it began at, dart and type, else 0
 abbrev pub moved : ℕ → Step → Tally → Stepped
 moved next first y = record {
-  answer = Done (bit (eqb next (2 * first .dart + first .kind)));
-  at = record { dart = next / 2; kind = next % 2 };
+  answer = Done (bit (eqb next (wordAt first)));
+  at = stepAt next;
   tally = y;
 }
 

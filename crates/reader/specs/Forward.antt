@@ -1,7 +1,7 @@
 -- A tally brought forward by one step, document 01, "Corners and walks", and when the step is declined: 7, then 9, then 6.
 use Prim.Native.Nat.{ℕ, _+_, _-_, _%_, _<_, _≤_}
 use native.Mathlib.Omega.{arith}
-use mathlib.Core.Path.{_≡_, refl, sym, _∙_, ap}
+use mathlib.Core.Path.{_≡_, _∙_}
 use mathlib.Core.Bool.{Bool, true, false, not, _&&_}
 use mathlib.Core.List.{List}
 use lib.Dec.{ltb, leb}
@@ -10,7 +10,7 @@ use borrow.Author.Tests.{lt-ltb, le-ltb, le-leb, lt-leb}
 use Rattle.table.specs.Layout.{edges}
 use Rattle.table.specs.declared.answer.Refusal.{Refusal}
 use Rattle.table.specs.declared.answer.Refusal.the-variants.{Overturned, ShortSlice, Far}
-use Rattle.weave.specs.Letters.{over, under, crossings, lettersOn, stepLetters, wordOf}
+use Rattle.weave.specs.Letters.{over, under, crossings, lettersOn, stepLetters}
 use Rattle.weave.specs.Crossing.{EdgeWord}
 use Rattle.ribbons.specs.CutLength.{lengthOf, farLength}
 use Rattle.reader.specs.declared.tally.Tally.{Tally}

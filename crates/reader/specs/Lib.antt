@@ -4,3 +4,4 @@ pub mod Counts
 pub mod Forward
 pub mod Reading
 pub mod Walked
+pub mod Words

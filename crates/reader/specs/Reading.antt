@@ -1,11 +1,10 @@
 -- The walk reader, document 01, "Corners and walks": where it stands, when it declines, and what a step leaves.
 use Prim.Native.Nat.{ℕ, _+_, _*_, _/_, _%_, _<_, _≤_}
 use native.Mathlib.Omega.{arith}
-use mathlib.Core.Path.{_≡_, refl, sym, _∙_, ap, ap₂}
+use mathlib.Core.Path.{_≡_, refl, sym, _∙_, ap}
 use mathlib.Core.Bool.{Bool, true, false, _&&_}
 use mathlib.Core.List.{List}
 use lib.Dec.{ltb, eqb}
-use lib.ListN.{length}
 use borrow.Author.Tests.{lt-ltb, le-ltb, ltb-true}
 use Rattle.orbits.specs.Truth.{truth, holds, fails, both-left, both-right}
 use Rattle.table.specs.Layout.{darts, edgeOf, edgeWord}
@@ -188,3 +187,19 @@ module _ (t : List ℕ) (at first : Step) (lengths : List ℕ) (y : Tally) {n : 
 
     pub step-moved : {z : Tally} {next : ℕ} {q : Stepped} → m ≡ Brought z → next ≡ step (rotation t) s → q ≡ moved next first z → q ≡ stepOf t at first lengths y
     step-moved {z} k h i = i ∙ ap (λ x. moved x first z) h ∙ sym (ap (steppedBy t at first y s) k) ∙ stepped
+
+-- a step goes on, or it leaves the reader and the tally as they were
+pub data Settled (at : Step) (y : Tally) (q : Stepped) : Type 0 where
+  goes : (n : ℕ) → q .answer ≡ Done n → Settled at y q
+  rests : (r : Refusal) → q ≡ stays at y r → Settled at y q
+
+pub settled : (t : List ℕ) (at first : Step) (lengths : List ℕ) (y : Tally) → Settled at y (stepOf t at first lengths y)
+settled t at first lengths y = by (placed t at first)
+  where
+    tallied : (s : ℕ) (m : Tallied) → Settled at y (steppedBy t at first y s m)
+    tallied s (Brought z) = goes (bit (eqb (step (rotation t) s) (wordAt first))) refl
+    tallied s (Kept r) = rests r refl
+
+    by : (n : Named) → Settled at y (stepBy t at first lengths y n)
+    by (There s) = tallied s (tallyOf t s lengths y)
+    by (Refused r) = rests r refl

@@ -5,23 +5,22 @@ use native.Mathlib.Omega.{arith}
 use native.Mathlib.Numerals.{add-one}
 use native.Mathlib.Decide.{ℕ-discrete}
 use mathlib.Core.Path.{_≡_, refl, sym, _∙_, ap, ap₂}
-use mathlib.Core.Bool.{Bool, true, false, _&&_, _||_, or-true}
+use mathlib.Core.Bool.{true, false, _||_, or-true}
 use mathlib.Core.List.{List, [], _∷_, _++_}
 use lib.Dec.{ltb, eqb}
 use lib.ListN.{length}
 use borrow.Author.Tests.{lt-ltb, le-leb, ltb-false, eq-eqb, ne-eqb}
-use Rattle.orbits.specs.Truth.{truth, holds, fails, clash, false-unless}
-use Rattle.orbits.specs.Iterate.{iter, iter-zero, iter-suc, iter-keeps, Period}
-use Rattle.table.specs.Layout.{darts, edges}
+use Rattle.orbits.specs.Truth.{clash, false-unless}
+use Rattle.orbits.specs.Iterate.{iter, iter-suc, iter-keeps, Period}
+use Rattle.table.specs.Layout.{edges}
 use Rattle.table.specs.Rotation.{rotation, live-yes}
 use Rattle.table.specs.Lawful.{good-lawful}
 use Rattle.table.specs.Check.{good-yes}
 use Rattle.table.specs.Output.{done-declined}
-use Rattle.table.specs.declared.answer.Answer.{Answer}
-use Rattle.table.specs.declared.answer.Answer.the-variants.{Done, Declined}
+use Rattle.table.specs.declared.answer.Answer.the-variants.{Done}
 use Rattle.tracing.specs.Step.{step}
 use Rattle.tracing.specs.Walk.{walk, run, run-suc, run-length, walk-run, walk-period, walk-period-le}
-use Rattle.tracing.specs.Listing.{gather, gather-one, gather-append}
+use Rattle.tracing.specs.Listing.{gather}
 use Rattle.tracing.specs.Marks.{bit}
 use Rattle.tracing.specs.Meets.{run-has}
 use Rattle.tracing.specs.Stands.{Stands, stands-low, stands-step}
@@ -36,7 +35,6 @@ use Rattle.ribbons.specs.CutLength.{lengthOf, farLength, cutLength}
 use Rattle.ribbons.specs.Summing.{cut-append}
 use Rattle.reader.specs.declared.place.Step.{Step}
 use Rattle.reader.specs.declared.tally.Tally.{Tally}
-use Rattle.reader.specs.declared.tally.Tallied.the-variants.{Brought}
 use Rattle.reader.specs.declared.walk.Stepped.{Stepped}
 use Rattle.reader.specs.Counts.{timesIn, times-append, unders-left}
 use Rattle.reader.specs.Forward.{fits32, stepTally, tallyOf}

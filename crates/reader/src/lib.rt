@@ -2,3 +2,4 @@
 pub mod place;
 pub mod tally;
 pub mod walk;
+pub mod words;

@@ -31,7 +31,7 @@ walk-some {t} {s} {n} {at} w q e =
     rw (walk-run R s p (walk-period-le R L s low p))
     (passes-some q (run (step R) s (p .steps)) at (run-has (step R) s at (p .steps) (record { steps = n; few = along-few (w .along) p; lands = w .along .here })) e)
 
-cut-append : (lengths a b : List ℕ) → cutLength lengths (a ++ b) ≡ cutLength lengths a + cutLength lengths b
+pub cut-append : (lengths a b : List ℕ) → cutLength lengths (a ++ b) ≡ cutLength lengths a + cutLength lengths b
 unfolding cutLength
 cut-append lengths [] b = omega arith
 cut-append lengths (s ∷ a) b = let r = cut-append lengths a b in omega arith

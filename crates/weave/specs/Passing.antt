@@ -23,7 +23,7 @@ use Rattle.weave.specs.Crossing.{EdgeWord, crossings-few, letters-length
 abbrev pub lettersBefore : List ℕ → ℕ → ℕ → List ℕ
 lettersBefore t s n = gather (stepLetters t) (run (step (rotation t)) s n)
 
-before-suc : (t : List ℕ) (s n : ℕ) → lettersBefore t s (suc n) ≡ lettersBefore t s n ++ stepLetters t (iter (step (rotation t)) n s)
+pub before-suc : (t : List ℕ) (s n : ℕ) → lettersBefore t s (suc n) ≡ lettersBefore t s n ++ stepLetters t (iter (step (rotation t)) n s)
 before-suc t s n =
     let f = step (rotation t) in
     rw (run-suc f s n, gather-append (stepLetters t) (run f s n) (iter f n s ∷ []), gather-one (stepLetters t) (iter f n s))

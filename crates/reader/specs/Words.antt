@@ -1,0 +1,84 @@
+-- A reader whose state is four words that its host keeps: dart and type of the step it stands at, then those of its walk's start.
+use Prim.Native.Nat.{ℕ, _<_, _≤_}
+use native.Mathlib.Omega.{arith}
+use mathlib.Core.Path.{_≡_, refl, sym, _∙_, ap}
+use mathlib.Core.Bool.{Bool, true, false}
+use mathlib.Core.List.{List, [], _∷_}
+use lib.Dec.{leb}
+use lib.ListN.{length, getD, set}
+use lib.Seq.{set-getD}
+use borrow.Author.Tests.{le-leb, lt-leb}
+use Rattle.orbits.specs.Truth.{truth, holds, fails}
+use Rattle.table.specs.Check.{good?}
+use Rattle.table.specs.Output.{outBy, sets-front}
+use Rattle.table.specs.declared.answer.Answer.{Answer}
+use Rattle.table.specs.declared.answer.Answer.the-variants.{Done, Declined}
+use Rattle.table.specs.declared.answer.Refusal.{Refusal}
+use Rattle.table.specs.declared.answer.Refusal.the-variants.{Torn, ShortSlice}
+use Rattle.reader.specs.declared.place.Step.{Step}
+use Rattle.reader.specs.declared.tally.Tally.{Tally}
+use Rattle.reader.specs.declared.walk.Stepped.{Stepped}
+use Rattle.reader.specs.declared.words.Told.{Told}
+use Rattle.reader.specs.Reading.{stepBy, stepOf, placed-torn, Settled, goes, rests, settled}
+
+-- "dart, type, start dart, start type"
+abbrev pub atOf : List ℕ → Step
+atOf words = record { dart = getD words 0 0; kind = getD words 1 0 }
+
+abbrev pub firstOf : List ℕ → Step
+firstOf words = record { dart = getD words 2 0; kind = getD words 3 0 }
+
+-- the step of the reader in these words
+abbrev pub stepped : List ℕ → List ℕ → List ℕ → Tally → Stepped
+stepped t words lengths y = stepOf t (atOf words) (firstOf words) lengths y
+
+-- declined, unless the test holds
+abbrev pub toldUnless : Tally → Bool → Refusal → Told → Told
+toldUnless y true r q = q
+toldUnless y false r q = record { answer = Declined r; tally = y }
+
+-- what a step tells
+abbrev pub told : Stepped → Told
+told q = record { answer = q .answer; tally = q .tally }
+
+-- 1, then 7 where the words are too few to be read, then the refusals of a step
+unfoldable pub wordsTold : List ℕ → List ℕ → List ℕ → Tally → Told
+wordsTold t words lengths y = toldUnless y (good? t) Torn (toldUnless y (leb 4 (length words)) ShortSlice (told (stepped t words lengths y)))
+
+-- "A declined call returns its number alone; all lent slices and records keep their contents." An accepted step writes where the reader then stands.
+unfoldable pub wordsOut : List ℕ → List ℕ → List ℕ → Tally → List ℕ
+wordsOut t words lengths y =
+    outBy (wordsTold t words lengths y .answer) (stepped t words lengths y .at .dart ∷ stepped t words lengths y .at .kind ∷ []) words
+
+-- the words of a step that goes on, or rests
+stored : (words : List ℕ) (y : Tally) (q : Stepped) → 4 ≤ length words → Settled (atOf words) y q
+    → set (set words 0 (q .at .dart)) 1 (q .at .kind) ≡ outBy (q .answer) (q .at .dart ∷ q .at .kind ∷ []) words
+stored words y q h (goes n e) = rw e (sets-front (q .at .dart ∷ q .at .kind ∷ []) words (omega arith))
+stored words y q h (rests r e) = rw (e, set-getD words 0 0) (set-getD words 1 0)
+
+module _ (t words lengths : List ℕ) (y : Tally) where
+  pub words-torn : good? t ≡ false → (record { answer = Declined Torn; tally = y } ≡ wordsTold t words lengths y) × (words ≡ wordsOut t words lengths y)
+  unfolding wordsTold wordsOut
+  words-torn g = rw g (refl, refl)
+
+  pub words-short : good? t ≡ true → length words < 4 → (record { answer = Declined ShortSlice; tally = y } ≡ wordsTold t words lengths y) × (words ≡ wordsOut t words lengths y)
+  unfolding wordsTold wordsOut
+  words-short g h = rw (g, lt-leb 4 (length words) h) (refl, refl)
+
+  -- the step tests the table too
+  told-step : 4 ≤ length words → told (stepped t words lengths y) ≡ wordsTold t words lengths y
+  unfolding wordsTold
+  told-step h = elim (truth (good? t)) [
+    | holds g ↦ rw (g, le-leb 4 (length words) h)
+    | fails g ↦ ap (λ n. told (stepBy t (atOf words) (firstOf words) lengths y n)) (sym (placed-torn t (atOf words) (firstOf words) g)) ∙ rw g
+  ]
+
+  pub words-stepped : {q : Stepped} → 4 ≤ length words → q ≡ stepped t words lengths y
+      → (told q ≡ wordsTold t words lengths y) × (set (set words 0 (q .at .dart)) 1 (q .at .kind) ≡ wordsOut t words lengths y)
+  unfolding wordsOut
+  words-stepped {q} h e =
+      rw e (
+        told-step h,
+        stored words y (stepped t words lengths y) h (settled t (atOf words) (firstOf words) lengths y)
+            ∙ ap (λ r. outBy (r .answer) (stepped t words lengths y .at .dart ∷ stepped t words lengths y .at .kind ∷ []) words) (told-step h),
+      )

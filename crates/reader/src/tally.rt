@@ -1,0 +1,88 @@
+// A tally, brought forward by one step: its letters are counted without a loop, and no field may pass 32 bits.
+use ribbons::length::LONGEST;
+use ribbons::length::SHORTEST;
+use table::answer::Refusal;
+use table::layout::EDGES;
+use weave::letter::UNTURNED;
+use weave::letter::crossings;
+use weave::letter::edge_word;
+ghost use Prim.Native.Nat.{_<_};
+ghost use mathlib.Core.Path.{_≡_};
+ghost use Rattle.tracing.specs.Stands.{Stands};
+ghost use Rattle.weave.specs.Letters.{over, lettersOn};
+ghost use Rattle.reader.specs.Counts.{timesIn};
+ghost use Rattle.reader.specs.Forward.{forwardOf, tallyOf};
+
+// "steps, overs, unders, length"
+#[repr(C)]
+pub struct Tally {
+    pub steps: u32,
+    pub overs: u32,
+    pub unders: u32,
+    pub length: u32,
+}
+
+// The tally with one step more, or the refusal of that step.
+pub enum Tallied {
+    Brought(Tally),
+    Kept(Refusal),
+}
+
+// The largest number of 32 bits.
+pub const MOST: u32 = 4294967295;
+
+// The number of O's among the letters of a step: every other one, from the first on if it is O.
+fn overs(w: u16, kind: u16) -> u16
+    requires { ⌜ kind < 2 ⌝ }
+    ensures { λ r. ⌜ r ≡ timesIn over (lettersOn w kind) ⌝ }
+{
+    let n = crossings(w);
+    if UNTURNED < w {
+        return (n + 1 - kind) / 2;
+    }
+    (n + kind) / 2
+}
+
+// The tally with a step more of so many O's and U's and this length.
+fn forward(y: Tally, o: u16, u: u16, length: u32) -> Tallied
+    ensures { λ r. ⌜ r ≡ forwardOf y o u length ⌝ }
+{
+    if MOST <= y.steps {
+        return Tallied::Kept(Refusal::Overturned);
+    }
+    if MOST - y.overs < o as u32 {
+        return Tallied::Kept(Refusal::Overturned);
+    }
+    if MOST - y.unders < u as u32 {
+        return Tallied::Kept(Refusal::Overturned);
+    }
+    if MOST - y.length < length {
+        return Tallied::Kept(Refusal::Overturned);
+    }
+    Tallied::Brought(Tally {
+        steps: y.steps + 1,
+        overs: y.overs + o as u32,
+        unders: y.unders + u as u32,
+        length: y.length + length,
+    })
+}
+
+// The tally with step s more.
+pub fn tally_step(t: &[u16], s: u16, lengths: &[u32], y: Tally) -> Tallied
+    requires { ⌜ Stands (now t) s ⌝ }
+    ensures { λ r. ⌜ r ≡ tallyOf (now (t .entry)) s (now (lengths .entry)) y ⌝ }
+{
+    if lengths.len() < EDGES {
+        return Tallied::Kept(Refusal::ShortSlice);
+    }
+    let l = lengths[(s / 2 / 2) as usize];
+    if l < SHORTEST {
+        return Tallied::Kept(Refusal::Far);
+    }
+    if LONGEST < l {
+        return Tallied::Kept(Refusal::Far);
+    }
+    let w = edge_word(t, s);
+    let o = overs(w, s % 2);
+    forward(y, o, crossings(w) - o, l)
+}

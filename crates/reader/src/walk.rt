@@ -1,0 +1,66 @@
+// One step of a walk reader, by value: its answer, where the reader then stands, and the tally.
+use crate::place::Step;
+use crate::place::placed;
+use crate::tally::Tallied;
+use crate::tally::Tally;
+use crate::tally::tally_step;
+use table::answer::Answer;
+use table::answer::Refusal;
+use tracing::step::step;
+use weave::call::Named;
+ghost use mathlib.Core.Path.{_≡_};
+ghost use Prim.Native.Nat.{_<_};
+ghost use Rattle.reader.specs.Reading.{moved as movedTo, stays as staysAt, stepOf};
+
+// The answer is 1 where the walk ends at the step handed out, else 0. A declined step leaves the place and the tally as they were.
+pub struct Stepped {
+    pub answer: Answer,
+    pub at: Step,
+    pub tally: Tally,
+}
+
+fn stays(at: Step, y: Tally, r: Refusal) -> Stepped
+    ensures { λ q. ⌜ q ≡ staysAt at y r ⌝ }
+{
+    Stepped {
+        answer: Answer::Declined(r),
+        at,
+        tally: y,
+    }
+}
+
+// The reader goes on to step `next`; the step handed out was the walk's last one if that is where the walk began.
+fn moved(next: u16, first: Step, y: Tally) -> Stepped
+    requires { ⌜ (first .dart < 2048) × (first .kind < 2) ⌝ }
+    ensures { λ q. ⌜ q ≡ movedTo next first y ⌝ }
+{
+    let end = next == 2 * first.dart + first.kind;
+    Stepped {
+        answer: Answer::Done(end as u32),
+        at: Step {
+            dart: next / 2,
+            kind: next % 2,
+        },
+        tally: y,
+    }
+}
+
+// Hands out the step that the reader stands at, and brings it and the tally forward.
+pub fn walk_step(t: &[u16], at: Step, first: Step, lengths: &[u32], y: Tally) -> Stepped
+    ensures { λ r. ⌜ r ≡ stepOf (now (t .entry)) at first (now (lengths .entry)) y ⌝ }
+{
+    let n = placed(t, at, first);
+    match n {
+        Named::Refused(r) => stays(at, y, r),
+        Named::There(s) => {
+            let m = tally_step(t, s, lengths, y);
+            match m {
+                Tallied::Kept(r) => stays(at, y, r),
+                Tallied::Brought(z) => {
+                    let next = step(t, s);
+                    moved(next, first, z)
+                }
+            }
+        }
+    }
+}

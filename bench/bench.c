@@ -57,6 +57,19 @@ CALL(float_path,
      (table, WORDS, 0, 0, points, 3 * PLANNER_VERTICES, lifts, 3 * PLANNER_EDGES, ours.words, OUT, ours.coords, 3 * OUT),
      (table, WORDS, 0, 0, points, 3 * PLANNER_VERTICES, lifts, 3 * PLANNER_EDGES, theirs.words, OUT, theirs.coords, 3 * OUT))
 
+/* One step of a reader that is made anew, over a tally at zeros. */
+static int64_t our_walk_step(void) {
+    struct planner_tally tally = {0, 0, 0, 0};
+    memset(ours.words, 0, 4 * sizeof ours.words[0]);
+    return 10000 * planner_walk_step(table, WORDS, ours.words, 4, lengths, PLANNER_EDGES, &tally) + tally.overs;
+}
+
+static int64_t their_walk_step(void) {
+    struct planner_tally tally = {0, 0, 0, 0};
+    memset(theirs.words, 0, 4 * sizeof theirs.words[0]);
+    return 10000 * plain_walk_step(table, WORDS, theirs.words, 4, lengths, PLANNER_EDGES, &tally) + tally.overs;
+}
+
 /* Edits come in pairs, the second of which undoes the first. */
 static int64_t our_vertex(void) {
     int64_t a = planner_add_vertex(table, WORDS, free_vertex);
@@ -107,6 +120,7 @@ static const struct {
     {"planner_letters", our_letters, their_letters, 1},
     {"planner_cut_length", our_cut_length, their_cut_length, 1},
     {"planner_float_path", our_float_path, their_float_path, 1},
+    {"planner_walk_step", our_walk_step, their_walk_step, 1},
 };
 enum { ROWS = sizeof rows / sizeof rows[0] };
 

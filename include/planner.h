@@ -163,6 +163,24 @@ int64_t planner_float_path(const uint16_t *table, size_t words, uint16_t dart, u
                            size_t n_points, const int32_t *lifts, size_t n_lifts, uint16_t *kinds, size_t n_kinds,
                            float *coords, size_t n_coords);
 
+/*
+ * A walk, one step at a time. The host keeps a reader, four words: dart and type of the step that it hands out next, dart and
+ * type of the step that its walk began at; to make one, set both to the step to begin with. A call hands out the step that the
+ * reader stands at, which the host reads there before the call, moves the reader on, and brings the tally forward by that step:
+ * steps by 1, overs and unders by its letters, length by its edge's length. Answers 1 if the walk ends at that step, else 0; the
+ * step after the last is the first again.
+ * Declines: PLANNER_TORN; PLANNER_SHORT_SLICE if there are fewer than four words; PLANNER_NO_SUCH_NAME and PLANNER_ABSENT (the
+ * step or the start); PLANNER_SHORT_SLICE (fewer than PLANNER_EDGES lengths); PLANNER_FAR (the length of the step's own edge is
+ * not from 1 to 65535); PLANNER_OVERTURNED (a field of the tally would pass 32 bits). Then neither the reader nor the tally has
+ * changed. A tally begun at zeros fits over one walk.
+ */
+struct planner_tally {
+    uint32_t steps, overs, unders, length;
+};
+#define PLANNER_READER_WORDS 4
+int64_t planner_walk_step(const uint16_t *table, size_t words, uint16_t *reader, size_t n_reader, const uint32_t *lengths,
+                          size_t n_lengths, struct planner_tally *tally);
+
 #ifdef __cplusplus
 }
 #endif

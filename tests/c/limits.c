@@ -78,7 +78,8 @@ static void on_small_stack(void (*function)(void)) {
 }
 
 /* What the calls are lent, each slice of the exact size that the call needs. */
-static uint16_t *listing, *kinds;
+static uint16_t *listing, *kinds, *reader;
+static struct planner_tally *tally;
 static int32_t *counts, *parts, *points, *lifts;
 static uint32_t *lengths;
 static uint8_t *letters;
@@ -95,6 +96,15 @@ static void calls_that_read(void) {
     answers[6] = planner_letters(table, WORDS, 0, 0, letters, steps);
     answers[7] = planner_cut_length(table, WORDS, 0, 0, lengths, EDGES);
     answers[8] = planner_float_path(table, WORDS, 0, 0, points, 3 * VERTICES, lifts, 3 * EDGES, kinds, steps + 1, coords, 3 * (steps + 1));
+}
+
+/* A whole walk, step by step: it ends, or a step is declined. */
+static void read_a_walk(void) {
+    int64_t ends = 0;
+    while (ends == 0) {
+        ends = planner_walk_step(table, WORDS, reader, 4, lengths, EDGES, tally);
+    }
+    answers[16] = ends;
 }
 
 static void calls_that_write(void) {
@@ -122,6 +132,8 @@ static void measure(void) {
     lifts = (int32_t *)lend(3 * EDGES * sizeof *lifts);
     kinds = (uint16_t *)lend((steps + 1) * sizeof *kinds);
     coords = (float *)lend(3 * (steps + 1) * sizeof *coords);
+    reader = (uint16_t *)lend(4 * sizeof *reader);
+    tally = (struct planner_tally *)lend(sizeof *tally);
 }
 
 int main(void) {
@@ -137,6 +149,9 @@ int main(void) {
     check(answers[0] == 0 && answers[1] == (int64_t)words && answers[2] == 5 && answers[3] == 6, "the listing, the counts, the part");
     check(answers[4] == 1 && answers[5] == 1 && answers[6] == (int64_t)steps, "one hand: the ribbons alternate");
     check(answers[7] == 65535 * (int64_t)steps && answers[8] == (int64_t)steps + 1, "a cut length and a float path");
+    on_small_stack(read_a_walk);
+    check(answers[16] == 1 && tally->steps == steps && tally->overs + tally->unders == steps && tally->length == 65535 * steps,
+          "the walk again, step by step, with its tally");
     on_small_stack(calls_that_write);
     for (i = 9; i <= 15; i++) {
         fine = fine && answers[i] >= 0;

@@ -1,14 +1,19 @@
 -- A reader whose state is four words that its host keeps: dart and type of the step it stands at, then those of its walk's start.
-use Prim.Native.Nat.{ℕ, _<_, _≤_}
+use Prim.Native.Nat.{ℕ, _<_, _≤_, _^_}
 use native.Mathlib.Omega.{arith}
 use mathlib.Core.Path.{_≡_, refl, sym, _∙_, ap}
 use mathlib.Core.Bool.{Bool, true, false}
 use mathlib.Core.List.{List, [], _∷_}
 use lib.Dec.{leb}
+use lib.IntN.{ℤ}
+use lib.Signed.{mag}
 use lib.ListN.{length, getD, set}
 use lib.Seq.{set-getD}
 use borrow.Author.Tests.{le-leb, lt-leb}
+use mir.Syntax.{w64}
+use mir.Val.{toZ, ofZ}
 use Rattle.orbits.specs.Truth.{truth, holds, fails}
+use Rattle.table.specs.Answers.{codeOf, handed-on}
 use Rattle.table.specs.Check.{good?}
 use Rattle.table.specs.Output.{outBy, sets-front}
 use Rattle.table.specs.declared.answer.Answer.{Answer}
@@ -18,6 +23,7 @@ use Rattle.table.specs.declared.answer.Refusal.the-variants.{Torn, ShortSlice}
 use Rattle.reader.specs.declared.place.Step.{Step}
 use Rattle.reader.specs.declared.tally.Tally.{Tally}
 use Rattle.reader.specs.declared.walk.Stepped.{Stepped}
+use Rattle.reader.specs.declared.words.Coded.{Coded}
 use Rattle.reader.specs.declared.words.Told.{Told}
 use Rattle.reader.specs.Reading.{stepBy, stepOf, placed-torn, Settled, goes, rests, settled}
 
@@ -44,6 +50,13 @@ told q = record { answer = q .answer; tally = q .tally }
 -- 1, then 7 where the words are too few to be read, then the refusals of a step
 unfoldable pub wordsTold : List ℕ → List ℕ → List ℕ → Tally → Told
 wordsTold t words lengths y = toldUnless y (good? t) Torn (toldUnless y (leb 4 (length words)) ShortSlice (told (stepped t words lengths y)))
+
+-- the answer as C gets it
+abbrev pub coded : Told → Coded
+coded q = record { code = codeOf (q .answer); tally = q .tally }
+
+abbrev pub wordsCoded : List ℕ → List ℕ → List ℕ → Tally → Coded
+wordsCoded t words lengths y = coded (wordsTold t words lengths y)
 
 -- "A declined call returns its number alone; all lent slices and records keep their contents." An accepted step writes where the reader then stands.
 unfoldable pub wordsOut : List ℕ → List ℕ → List ℕ → Tally → List ℕ
@@ -82,3 +95,8 @@ module _ (t words lengths : List ℕ) (y : Tally) where
         stored words y (stepped t words lengths y) h (settled t (atOf words) (firstOf words) lengths y)
             ∙ ap (λ r. outBy (r .answer) (stepped t words lengths y .at .dart ∷ stepped t words lengths y .at .kind ∷ []) words) (told-step h),
       )
+
+-- the code of an answer, handed on
+pub words-coded : {q : Told} {z : ℤ} (t words lengths : List ℕ) (y : Tally) → mag z < 2 ^ 63 → z ≡ codeOf (q .answer) → q ≡ wordsTold t words lengths y
+    → record { code = toZ w64 (ofZ w64 z); tally = q .tally } ≡ wordsCoded t words lengths y
+words-coded {q} t words lengths y h e f = ap (λ c. record { code = c; tally = q .tally }) (handed-on h e) ∙ ap coded f

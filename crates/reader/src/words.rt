@@ -4,9 +4,10 @@ use crate::tally::Tally;
 use crate::walk::walk_step;
 use table::answer::Answer;
 use table::answer::Refusal;
+use table::answer::code;
 use table::whole::is_good;
 ghost use mathlib.Core.Path.{_≡_};
-ghost use Rattle.reader.specs.Words.{wordsTold, wordsOut};
+ghost use Rattle.reader.specs.Words.{wordsTold, wordsOut, wordsCoded};
 
 // How many words a reader's state has.
 pub const STATE: usize = 4;
@@ -49,11 +50,21 @@ pub fn step_words(t: &[u16], words: &mut [u16], lengths: &[u32], y: Tally) -> To
     Told { answer, tally }
 }
 
-// The same over a tally that its caller lends.
-pub fn step_slice(t: &[u16], words: &mut [u16], lengths: &[u32], tally: &mut Tally) -> Answer
-    ensures { λ r. ⌜ (r ≡ wordsTold (now (t .entry)) (now (words .entry)) (now (lengths .entry)) (now (tally .entry)) .answer) × (now (words .exit) ≡ wordsOut (now (t .entry)) (now (words .entry)) (now (lengths .entry)) (now (tally .entry))) × (now (tally .exit) ≡ wordsTold (now (t .entry)) (now (words .entry)) (now (lengths .entry)) (now (tally .entry)) .tally) ⌝ }
+// The same, with the answer as C gets it.
+pub struct Coded {
+    pub code: i64,
+    pub tally: Tally,
+}
+
+pub fn step_code(t: &[u16], words: &mut [u16], lengths: &[u32], y: Tally) -> Coded
+    ensures { λ r. ⌜ (r ≡ wordsCoded (now (t .entry)) (now (words .entry)) (now (lengths .entry)) y) × (now (words .exit) ≡ wordsOut (now (t .entry)) (now (words .entry)) (now (lengths .entry)) y) ⌝ }
 {
-    let told = step_words(t, words, lengths, *tally);
-    *tally = told.tally;
-    told.answer
+    let told = step_words(t, words, lengths, y);
+    let answer = told.answer;
+    let tally = told.tally;
+    let number = code(answer);
+    Coded {
+        code: number,
+        tally,
+    }
 }

@@ -48,7 +48,26 @@ mod c {
             coords: *mut f32,
             n_coords: usize,
         ) -> i64;
+        pub fn planner_walk_step(
+            table: *const u16,
+            words: usize,
+            reader: *mut u16,
+            n_reader: usize,
+            lengths: *const u32,
+            n_lengths: usize,
+            tally: *mut super::Tally,
+        ) -> i64;
     }
+}
+
+/// struct planner_tally
+#[repr(C)]
+#[derive(Clone, Copy, Debug, Default, PartialEq, Eq)]
+pub struct Tally {
+    pub steps: u32,
+    pub overs: u32,
+    pub unders: u32,
+    pub length: u32,
 }
 
 /// What a call of the reference answers, as the C interface says it.
@@ -133,6 +152,22 @@ pub fn float_path(
             kinds.len(),
             coords.as_mut_ptr(),
             coords.len(),
+        )
+    }
+}
+
+/// One step of the reader that the host keeps in four words.
+pub fn walk_step(table: &[u16], reader: &mut [u16], lengths: &[u32], tally: &mut Tally) -> i64 {
+    let (words, n_reader) = (table.len(), reader.len());
+    unsafe {
+        c::planner_walk_step(
+            table.as_ptr(),
+            words,
+            reader.as_mut_ptr(),
+            n_reader,
+            lengths.as_ptr(),
+            lengths.len(),
+            tally,
         )
     }
 }

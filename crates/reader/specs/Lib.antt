@@ -5,3 +5,4 @@ pub mod Forward
 pub mod Reading
 pub mod Walked
 pub mod Words
+pub mod Held

@@ -10,6 +10,7 @@ use Rattle.orbits.specs.Truth.{truth, holds, fails, both-left, both-right}
 use Rattle.table.specs.Layout.{darts, edgeOf, edgeWord}
 use Rattle.table.specs.Rotation.{rotation, live?, yes-live, not-live, case-yes}
 use Rattle.table.specs.Check.{good?, good-case}
+use Rattle.table.specs.Output.{done-declined}
 use Rattle.table.specs.declared.answer.Answer.{Answer}
 use Rattle.table.specs.declared.answer.Answer.the-variants.{Done, Declined}
 use Rattle.table.specs.declared.answer.Refusal.{Refusal}
@@ -87,6 +88,14 @@ placed-begun t s = rw (and-self (inRange (s .dart) (s .kind)), and-self (live? t
     and-self true = refl
     and-self false = refl
 
+-- and so a reader that could not be made hands out no step
+pub begun-declined : (t : List ℕ) (s : Step) (lengths : List ℕ) (y : Tally) {r : Refusal} → beginOf t (s .dart) (s .kind) ≡ Declined r → stepOf t s s lengths y ≡ stays s y r
+begun-declined t s lengths y {r} e = ap (stepBy t s s lengths y) (placed-begun t s ∙ refused (namedStep t (s .dart) (s .kind)) e)
+  where
+    refused : (n : Named) → beginBy n ≡ Declined r → n ≡ Refused r
+    refused (There x) f = absurd (done-declined (sym f))
+    refused (Refused q) f = let same : q ≡ r = cc in ap Refused same
+
 -- the ends of the making
 
 module _ (t : List ℕ) (d k : ℕ) {n : Named} (e : n ≡ namedStep t d k) where
@@ -95,6 +104,10 @@ module _ (t : List ℕ) (d k : ℕ) {n : Named} (e : n ≡ namedStep t d k) wher
 
   pub begin-there : {s : ℕ} → n ≡ There s → Done 0 ≡ beginOf t d k
   begin-there f = sym (ap beginBy (sym e ∙ f))
+
+-- a step that has a name
+pub in-range : (d k : ℕ) → d < darts → k ≤ 1 → inRange d k ≡ true
+in-range d k h l = rw (lt-ltb d darts h, lt-ltb k 2 (omega arith))
 
 -- the ends of the placing
 
@@ -108,34 +121,31 @@ module _ (t : List ℕ) (at first : Step) where
     unfolding placed
     placed-past h = rw (g, le-ltb (at .dart) darts h)
 
-    module _ (d : at .dart < darts) where
-      pub placed-type : 1 < at .kind → Refused NoSuchName ≡ placed t at first
+    pub placed-type : at .dart < darts → 1 < at .kind → Refused NoSuchName ≡ placed t at first
+    unfolding placed
+    placed-type h l = rw (g, lt-ltb (at .dart) darts h, le-ltb (at .kind) 2 (omega arith))
+
+    module _ (n : inRange (at .dart) (at .kind) ≡ true) where
+      pub first-past : darts ≤ first .dart → Refused NoSuchName ≡ placed t at first
       unfolding placed
-      placed-type h = rw (g, lt-ltb (at .dart) darts d, le-ltb (at .kind) 2 (omega arith))
+      first-past h = rw (g, n, le-ltb (first .dart) darts h)
 
-      module _ (k : at .kind ≤ 1) where
-        pub placed-first-past : darts ≤ first .dart → Refused NoSuchName ≡ placed t at first
+      pub first-type : first .dart < darts → 1 < first .kind → Refused NoSuchName ≡ placed t at first
+      unfolding placed
+      first-type h l = rw (g, n, lt-ltb (first .dart) darts h, le-ltb (first .kind) 2 (omega arith))
+
+      module _ (m : inRange (first .dart) (first .kind) ≡ true) where
+        pub placed-dead : edgeWord t (edgeOf (at .dart)) ≡ 0 → Refused Absent ≡ placed t at first
         unfolding placed
-        placed-first-past h = rw (g, lt-ltb (at .dart) darts d, lt-ltb (at .kind) 2 (omega arith), le-ltb (first .dart) darts h)
+        placed-dead z = rw (g, n, m, not-live t (at .dart) (λ v. v .on z))
 
-        module _ (f : first .dart < darts) where
-          pub placed-first-type : 1 < first .kind → Refused NoSuchName ≡ placed t at first
-          unfolding placed
-          placed-first-type h = rw (g, lt-ltb (at .dart) darts d, lt-ltb (at .kind) 2 (omega arith), lt-ltb (first .dart) darts f, le-ltb (first .kind) 2 (omega arith))
+        pub first-dead : at .dart < darts → (edgeWord t (edgeOf (at .dart)) ≡ 0 → ⊥) → edgeWord t (edgeOf (first .dart)) ≡ 0 → Refused Absent ≡ placed t at first
+        unfolding placed
+        first-dead h on z = rw (g, n, m, yes-live t (at .dart) (record { low = h; on = on }), not-live t (first .dart) (λ v. v .on z))
 
-          module _ (j : first .kind ≤ 1) where
-            pub placed-dead : edgeWord t (edgeOf (at .dart)) ≡ 0 → Refused Absent ≡ placed t at first
-            unfolding placed
-            placed-dead h = rw (g, lt-ltb (at .dart) darts d, lt-ltb (at .kind) 2 (omega arith), lt-ltb (first .dart) darts f, lt-ltb (first .kind) 2 (omega arith), not-live t (at .dart) (λ v. v .on h))
-
-            module _ (on : edgeWord t (edgeOf (at .dart)) ≡ 0 → ⊥) where
-              pub placed-first-dead : edgeWord t (edgeOf (first .dart)) ≡ 0 → Refused Absent ≡ placed t at first
-              unfolding placed
-              placed-first-dead h = rw (g, lt-ltb (at .dart) darts d, lt-ltb (at .kind) 2 (omega arith), lt-ltb (first .dart) darts f, lt-ltb (first .kind) 2 (omega arith), yes-live t (at .dart) (record { low = d; on = on }), not-live t (first .dart) (λ v. v .on h))
-
-              pub placed-there : (edgeWord t (edgeOf (first .dart)) ≡ 0 → ⊥) → There (2 * at .dart + at .kind) ≡ placed t at first
-              unfolding placed
-              placed-there h = rw (g, lt-ltb (at .dart) darts d, lt-ltb (at .kind) 2 (omega arith), lt-ltb (first .dart) darts f, lt-ltb (first .kind) 2 (omega arith), yes-live t (at .dart) (record { low = d; on = on }), yes-live t (first .dart) (record { low = f; on = h }))
+        pub placed-there : live? t (at .dart) ≡ true → live? t (first .dart) ≡ true → There (wordAt at) ≡ placed t at first
+        unfolding placed
+        placed-there l f = rw (g, n, m, l, f)
 
 -- a reader that stands at a live step, and whose walk began at one
 pub record Placed (t : List ℕ) (at first : Step) (s : ℕ) : Type 0 where

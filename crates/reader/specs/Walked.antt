@@ -13,7 +13,7 @@ use borrow.Author.Tests.{lt-ltb, le-leb, ltb-false, eq-eqb, ne-eqb}
 use Rattle.orbits.specs.Truth.{clash, false-unless}
 use Rattle.orbits.specs.Iterate.{iter, iter-suc, iter-keeps, Period}
 use Rattle.table.specs.Layout.{edges}
-use Rattle.table.specs.Rotation.{rotation, live-yes}
+use Rattle.table.specs.Rotation.{rotation, live?, live-yes}
 use Rattle.table.specs.Lawful.{good-lawful}
 use Rattle.table.specs.Check.{good-yes}
 use Rattle.table.specs.Output.{done-declined}
@@ -38,7 +38,7 @@ use Rattle.reader.specs.declared.tally.Tally.{Tally}
 use Rattle.reader.specs.declared.walk.Stepped.{Stepped}
 use Rattle.reader.specs.Counts.{timesIn, times-append, unders-left}
 use Rattle.reader.specs.Forward.{fits32, stepTally, tallyOf}
-use Rattle.reader.specs.Reading.{beginBy, beginOf, wordAt, stepAt, placed-begun, placed-there, there-placed, moved, stepBy, stepOf}
+use Rattle.reader.specs.Reading.{beginBy, beginOf, wordAt, stepAt, in-range, placed-begun, placed-there, there-placed, moved, stepBy, stepOf}
 
 -- "A tally begun at zeros"
 abbrev pub zeros : Tally
@@ -63,6 +63,7 @@ ribbonTally t lengths s = record {
   length = cutLength lengths (walk (rotation t) s);
 }
 
+-- a reader made at `first`, over one walk
 pub record Walked (t : List ℕ) (first : Step) (lengths : List ℕ) : Type 0 where
   -- it "hands out one step at a time": those of the walk
   pub steps : handed t first lengths (length (walk (rotation t) (wordAt first))) ≡ walk (rotation t) (wordAt first)
@@ -70,6 +71,7 @@ pub record Walked (t : List ℕ) (first : Step) (lengths : List ℕ) : Type 0 wh
   pub ends : (n : ℕ) → n < length (walk (rotation t) (wordAt first)) → after t first lengths (suc n) .answer ≡ Done (bit (eqb (suc n) (length (walk (rotation t) (wordAt first)))))
   -- "the step after that begins the walk again"
   pub again : after t first lengths (length (walk (rotation t) (wordAt first))) .at ≡ first
+  -- "A tally begun at zeros .. fit[s] 32 bits over one walk": where the walk ends it holds the ribbon's numbers
   pub tally : after t first lengths (length (walk (rotation t) (wordAt first))) .tally ≡ ribbonTally t lengths (wordAt first)
 
 -- a step has at most 99 letters
@@ -100,13 +102,12 @@ module _ (t : List ℕ) (first : Step) (lengths : List ℕ) (start : Stands t (w
       → stepOf t (stepAt x) first lengths y ≡ moved (f x) first (stepTally t x lengths y)
   unfolding tallyOf
   one-step x y h near fits =
-      let here = live-yes t (x / 2) (h .live) in
       let half : s / 2 ≡ first .dart = omega arith in
-      let begun = live-yes t (first .dart) (rw half at (start .live)) in
-      let there = placed-there t (stepAt x) first (sym (good-yes t (h .good))) (here .low) (omega arith) (begun .low) (omega arith) (here .on) (begun .on) in
+      let begun : live? t (first .dart) ≡ true = rw half at (start .live) in
+      let here = in-range (x / 2) (x % 2) (live-yes t (x / 2) (h .live) .low) (omega arith) in
+      let there = placed-there t (stepAt x) first (sym (good-yes t (h .good))) here (in-range (first .dart) (first .kind) (live-yes t (first .dart) begun .low) (omega arith)) (h .live) begun in
       let word : 2 * (x / 2) + x % 2 ≡ x = omega arith in
-      ap (stepBy t (stepAt x) first lengths y) (sym there ∙ ap There word)
-      ∙ rw (le-leb edges (length lengths) size, near, fits)
+      ap (stepBy t (stepAt x) first lengths y) (sym there ∙ ap There word) ∙ rw (le-leb edges (length lengths) size, near, fits)
 
   -- the tally of the first n steps of the walk
   abbrev tallied : ℕ → Tally

@@ -16,8 +16,7 @@ use Rattle.orbits.specs.Truth.{truth, holds, fails}
 use Rattle.table.specs.Answers.{codeOf, handed-on}
 use Rattle.table.specs.Check.{good?}
 use Rattle.table.specs.Output.{outBy, sets-front}
-use Rattle.table.specs.declared.answer.Answer.{Answer}
-use Rattle.table.specs.declared.answer.Answer.the-variants.{Done, Declined}
+use Rattle.table.specs.declared.answer.Answer.the-variants.{Declined}
 use Rattle.table.specs.declared.answer.Refusal.{Refusal}
 use Rattle.table.specs.declared.answer.Refusal.the-variants.{Torn, ShortSlice}
 use Rattle.reader.specs.declared.place.Step.{Step}

@@ -23,7 +23,7 @@ pub fn begin(t: &[u16], dart: u16, kind: u16) -> Answer
     let n = named_step(t, dart, kind);
     match n {
         Named::Refused(r) => Answer::Declined(r),
-        Named::There(s) => Answer::Done(0),
+        Named::There(_) => Answer::Done(0),
     }
 }
 

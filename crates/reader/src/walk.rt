@@ -10,15 +10,18 @@ use tracing::step::step;
 use weave::call::Named;
 ghost use mathlib.Core.Path.{_≡_};
 ghost use Prim.Native.Nat.{_<_};
+ghost use Rattle.table.specs.Layout.{darts};
 ghost use Rattle.reader.specs.Reading.{moved as movedTo, stays as staysAt, stepOf};
 
-// The answer is 1 where the walk ends at the step handed out, else 0. A declined step leaves the place and the tally as they were.
+// The step handed out is the one that the reader stood at, and the answer is 1 where the walk ends there, else 0. `at` is where
+// the reader then stands. A declined step leaves it and the tally as they were.
 pub struct Stepped {
     pub answer: Answer,
     pub at: Step,
     pub tally: Tally,
 }
 
+// A declined step.
 fn stays(at: Step, y: Tally, r: Refusal) -> Stepped
     ensures { λ q. ⌜ q ≡ staysAt at y r ⌝ }
 {
@@ -30,9 +33,9 @@ fn stays(at: Step, y: Tally, r: Refusal) -> Stepped
 }
 
 // The reader goes on to step `next`; the step handed out was the walk's last one if that is where the walk began.
-fn moved(next: u16, first: Step, y: Tally) -> Stepped
-    requires { ⌜ (first .dart < 2048) × (first .kind < 2) ⌝ }
-    ensures { λ q. ⌜ q ≡ movedTo next first y ⌝ }
+fn moved(next: u16, first: Step, z: Tally) -> Stepped
+    requires { ⌜ (first .dart < darts) × (first .kind < 2) ⌝ }
+    ensures { λ q. ⌜ q ≡ movedTo next first z ⌝ }
 {
     let end = next == 2 * first.dart + first.kind;
     Stepped {
@@ -41,7 +44,7 @@ fn moved(next: u16, first: Step, y: Tally) -> Stepped
             dart: next / 2,
             kind: next % 2,
         },
-        tally: y,
+        tally: z,
     }
 }
 

@@ -12,12 +12,14 @@ ghost use Rattle.reader.specs.Words.{wordsTold, wordsOut, wordsCoded};
 // How many words a reader's state has.
 pub const STATE: usize = 4;
 
+// What a step tells beside the words.
 pub struct Told {
     pub answer: Answer,
     pub tally: Tally,
 }
 
-// One step of the reader in these words. The table is checked once: in the step, or here where the words are too few for one.
+// One step of the reader in these words: the first two name the step handed out at entry, and the next one at exit.
+// The table is checked once: in the step, or here where the words are too few for one.
 pub fn step_words(t: &[u16], words: &mut [u16], lengths: &[u32], y: Tally) -> Told
     ensures { λ r. ⌜ (r ≡ wordsTold (now (t .entry)) (now (words .entry)) (now (lengths .entry)) y) × (now (words .exit) ≡ wordsOut (now (t .entry)) (now (words .entry)) (now (lengths .entry)) y) ⌝ }
 {

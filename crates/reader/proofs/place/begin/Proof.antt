@@ -10,14 +10,14 @@ named-step-requires c κs = search needs
 enum-known-n : tie.Need-enum-known-n
 enum-known-n c = search needs
 
-enum-known-n-2 : tie.Need-enum-known-n-2
-enum-known-n-2 c = search needs
+enum-told : tie.Need-enum-told
+enum-told c = search needs
 
 returns : tie.Need-returns
 returns c = begin-refused _ _ _ (c .before .before .before .named-step .ensures) (c .before .n .given .1)
 
 returns-2 : tie.Need-returns-2
-returns-2 c = begin-there _ _ _ (c .before .before .before .named-step .ensures) (c .before .n2 .given .1)
+returns-2 c = begin-there _ _ _ (c .before .before .named-step .ensures) (c .enum-told .given .1)
 
 pub begin-spec : {M : Type 1} → statement M
-begin-spec = tie.close (tie.spec named-step-requires enum-known-n enum-known-n-2 returns returns-2)
+begin-spec = tie.close (tie.spec named-step-requires enum-known-n enum-told returns returns-2)

@@ -1,5 +1,6 @@
 -- `place::placed` meets its contract, a return for each refusal in its order: torn, no such name, absent.
-use Rattle.reader.specs.Reading.{placed-torn, placed-past, placed-type, placed-first-past, placed-first-type, placed-dead, placed-first-dead, placed-there}
+use Rattle.reader.specs.Reading.{in-range, placed-torn, placed-past, placed-type, first-past, first-type, placed-dead, first-dead, placed-there}
+use Rattle.table.specs.Rotation.{yes-live}
 use Rattle.table.specs.Check.{seen-good, seen-torn}
 use native.Mathlib.Omega.{arith}
 use borrow.Author.Needs.{needs}
@@ -25,10 +26,10 @@ returns-3 : tie.Need-returns-3
 returns-3 c = placed-type _ _ _ (seen-good _ (c .before .before .before .before .before .before .is-good .ensures) (c .before .before .before .before .before .if1 .left) .0) (c .before .before .if2 .left) (c .if3 .taken)
 
 returns-4 : tie.Need-returns-4
-returns-4 c = placed-first-past _ _ _ (seen-good _ (c .before .before .before .before .before .before .before .is-good .ensures) (c .before .before .before .before .before .before .if1 .left) .0) (c .before .before .before .if2 .left) (c .before .if3 .left) (c .if4 .taken)
+returns-4 c = first-past _ _ _ (seen-good _ (c .before .before .before .before .before .before .before .is-good .ensures) (c .before .before .before .before .before .before .if1 .left) .0) (in-range _ _ (c .before .before .before .if2 .left) (c .before .if3 .left)) (c .if4 .taken)
 
 returns-5 : tie.Need-returns-5
-returns-5 c = placed-first-type _ _ _ (seen-good _ (c .before .before .before .before .before .before .before .before .before .is-good .ensures) (c .before .before .before .before .before .before .before .before .if1 .left) .0) (c .before .before .before .before .before .if2 .left) (c .before .before .before .if3 .left) (c .before .before .if4 .left) (c .if5 .taken)
+returns-5 c = first-type _ _ _ (seen-good _ (c .before .before .before .before .before .before .before .before .before .is-good .ensures) (c .before .before .before .before .before .before .before .before .if1 .left) .0) (in-range _ _ (c .before .before .before .before .before .if2 .left) (c .before .before .before .if3 .left)) (c .before .before .if4 .left) (c .if5 .taken)
 
 add-if6 : tie.Need-add-if6
 add-if6 c = search needs
@@ -40,7 +41,7 @@ shared-slice-read-if6 : tie.Need-shared-slice-read-if6
 shared-slice-read-if6 c = let size = seen-good _ (c .before .before .before .before .before .before .before .before .before .before .is-good .ensures) (c .before .before .before .before .before .before .before .before .before .if1 .left) .1 .size in omega arith
 
 returns-6 : tie.Need-returns-6
-returns-6 c = placed-dead _ _ _ (seen-good _ (c .before .before .before .before .before .before .before .before .before .before .before .is-good .ensures) (c .before .before .before .before .before .before .before .before .before .before .if1 .left) .0) (c .before .before .before .before .before .before .before .if2 .left) (c .before .before .before .before .before .if3 .left) (c .before .before .before .before .if4 .left) (c .before .before .if5 .left) (c .if6 .taken)
+returns-6 c = placed-dead _ _ _ (seen-good _ (c .before .before .before .before .before .before .before .before .before .before .before .is-good .ensures) (c .before .before .before .before .before .before .before .before .before .before .if1 .left) .0) (in-range _ _ (c .before .before .before .before .before .before .before .if2 .left) (c .before .before .before .before .before .if3 .left)) (in-range _ _ (c .before .before .before .before .if4 .left) (c .before .before .if5 .left)) (c .if6 .taken)
 
 add-if7 : tie.Need-add-if7
 add-if7 c = search needs
@@ -52,7 +53,7 @@ shared-slice-read-if7 : tie.Need-shared-slice-read-if7
 shared-slice-read-if7 c = let size = seen-good _ (c .before .before .before .before .before .before .before .before .before .before .before .before .is-good .ensures) (c .before .before .before .before .before .before .before .before .before .before .before .if1 .left) .1 .size in omega arith
 
 returns-7 : tie.Need-returns-7
-returns-7 c = placed-first-dead _ _ _ (seen-good _ (c .before .before .before .before .before .before .before .before .before .before .before .before .before .is-good .ensures) (c .before .before .before .before .before .before .before .before .before .before .before .before .if1 .left) .0) (c .before .before .before .before .before .before .before .before .before .if2 .left) (c .before .before .before .before .before .before .before .if3 .left) (c .before .before .before .before .before .before .if4 .left) (c .before .before .before .before .if5 .left) (c .before .before .if6 .left) (c .if7 .taken)
+returns-7 c = first-dead _ _ _ (seen-good _ (c .before .before .before .before .before .before .before .before .before .before .before .before .before .is-good .ensures) (c .before .before .before .before .before .before .before .before .before .before .before .before .if1 .left) .0) (in-range _ _ (c .before .before .before .before .before .before .before .before .before .if2 .left) (c .before .before .before .before .before .before .before .if3 .left)) (in-range _ _ (c .before .before .before .before .before .before .if4 .left) (c .before .before .before .before .if5 .left)) (c .before .before .before .before .before .before .before .before .before .if2 .left) (c .before .before .if6 .left) (c .if7 .taken)
 
 mul-t17 : tie.Need-mul-t17
 mul-t17 c = search needs
@@ -61,7 +62,7 @@ add-t21 : tie.Need-add-t21
 add-t21 c = search needs
 
 returns-8 : tie.Need-returns-8
-returns-8 c = placed-there _ _ _ (seen-good _ (c .before .before .before .before .before .before .before .before .before .before .before .before .before .before .before .is-good .ensures) (c .before .before .before .before .before .before .before .before .before .before .before .before .before .before .if1 .left) .0) (c .before .before .before .before .before .before .before .before .before .before .before .if2 .left) (c .before .before .before .before .before .before .before .before .before .if3 .left) (c .before .before .before .before .before .before .before .before .if4 .left) (c .before .before .before .before .before .before .if5 .left) (c .before .before .before .before .if6 .left) (c .before .before .if7 .left)
+returns-8 c = placed-there _ _ _ (seen-good _ (c .before .before .before .before .before .before .before .before .before .before .before .before .before .before .before .is-good .ensures) (c .before .before .before .before .before .before .before .before .before .before .before .before .before .before .if1 .left) .0) (in-range _ _ (c .before .before .before .before .before .before .before .before .before .before .before .if2 .left) (c .before .before .before .before .before .before .before .before .before .if3 .left)) (in-range _ _ (c .before .before .before .before .before .before .before .before .if4 .left) (c .before .before .before .before .before .before .if5 .left)) (yes-live _ _ (record { low = c .before .before .before .before .before .before .before .before .before .before .before .if2 .left; on = c .before .before .before .before .if6 .left })) (yes-live _ _ (record { low = c .before .before .before .before .before .before .before .before .if4 .left; on = c .before .before .if7 .left }))
 
 pub placed-spec : {M : Type 1} → statement M
 placed-spec =

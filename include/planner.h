@@ -2,8 +2,8 @@
  * planner.h: a mesh as a rotation system with signed twist counts, its edits, its faces and its ribbons.
  *
  * Every function takes numbers and slices. A slice is a pointer and then its number of elements (not bytes);
- * an empty slice may be NULL and 0. Two slices of one call must not overlap. Nothing is kept between calls:
- * the host owns every slice, and no call writes past a slice's length.
+ * an empty slice may be NULL and 0. Two slices of one call must not overlap, nor a slice and a record. Nothing is kept
+ * between calls: the host owns every slice, and no call reads or writes past a slice's length.
  *
  * Every function returns int64_t: the answer, 0 or more, or minus the number of the refusal. A declined call
  * leaves every lent slice as it was.
@@ -172,7 +172,7 @@ int64_t planner_float_path(const uint16_t *table, size_t words, uint16_t dart, u
  * Declines: PLANNER_TORN; PLANNER_SHORT_SLICE if there are fewer than four words; PLANNER_NO_SUCH_NAME and PLANNER_ABSENT (the
  * step or the start); PLANNER_SHORT_SLICE (fewer than PLANNER_EDGES lengths); PLANNER_FAR (the length of the step's own edge is
  * not from 1 to 65535); PLANNER_OVERTURNED (a field of the tally would pass 32 bits). Then neither the reader nor the tally has
- * changed. A tally begun at zeros fits over one walk.
+ * changed. A tally begun at zeros fits over one walk. `tally` must not be NULL.
  */
 struct planner_tally {
     uint32_t steps, overs, unders, length;

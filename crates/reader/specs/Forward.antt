@@ -22,9 +22,13 @@ use Rattle.reader.specs.Counts.{timesIn, unders-left}
 abbrev pub forward : Tally → ℕ → ℕ → ℕ → Tally
 forward y o u l = record { steps = y .steps + 1; overs = y .overs + o; unders = y .unders + u; length = y .length + l }
 
+-- the first number past 32 bits
+abbrev pub past32 : ℕ
+past32 = 4294967296
+
 -- do its fields fit 32 bits
 abbrev pub fits32 : Tally → Bool
-fits32 y = ltb (y .steps) 4294967296 && (ltb (y .overs) 4294967296 && (ltb (y .unders) 4294967296 && ltb (y .length) 4294967296))
+fits32 y = ltb (y .steps) past32 && (ltb (y .overs) past32 && (ltb (y .unders) past32 && ltb (y .length) past32))
 
 -- kept as it was, unless the test holds
 abbrev pub keptUnless : Bool → Refusal → Tallied → Tallied
@@ -52,25 +56,25 @@ tallyOf t s lengths y =
 module _ (y : Tally) (o u l : ℕ) where
   pub past-steps : 4294967295 ≤ y .steps → Kept Overturned ≡ forwardOf y o u l
   unfolding forwardOf
-  past-steps h = rw (le-ltb (y .steps + 1) 4294967296 (omega arith))
+  past-steps h = rw (le-ltb (y .steps + 1) past32 (omega arith))
 
   module _ (fits : y .steps < 4294967295) where
     pub past-overs : 4294967295 - y .overs < o → Kept Overturned ≡ forwardOf y o u l
     unfolding forwardOf
-    past-overs h = rw (lt-ltb (y .steps + 1) 4294967296 (omega arith), le-ltb (y .overs + o) 4294967296 (omega arith))
+    past-overs h = rw (lt-ltb (y .steps + 1) past32 (omega arith), le-ltb (y .overs + o) past32 (omega arith))
 
     pub past-unders : y .overs + o ≤ 4294967295 → 4294967295 - y .unders < u → Kept Overturned ≡ forwardOf y o u l
     unfolding forwardOf
-    past-unders g h = rw (lt-ltb (y .steps + 1) 4294967296 (omega arith), lt-ltb (y .overs + o) 4294967296 (omega arith), le-ltb (y .unders + u) 4294967296 (omega arith))
+    past-unders g h = rw (lt-ltb (y .steps + 1) past32 (omega arith), lt-ltb (y .overs + o) past32 (omega arith), le-ltb (y .unders + u) past32 (omega arith))
 
     module _ (overs : y .overs + o ≤ 4294967295) (unders : y .unders + u ≤ 4294967295) where
       pub past-length : 4294967295 - y .length < l → Kept Overturned ≡ forwardOf y o u l
       unfolding forwardOf
-      past-length h = rw (lt-ltb (y .steps + 1) 4294967296 (omega arith), lt-ltb (y .overs + o) 4294967296 (omega arith), lt-ltb (y .unders + u) 4294967296 (omega arith), le-ltb (y .length + l) 4294967296 (omega arith))
+      past-length h = rw (lt-ltb (y .steps + 1) past32 (omega arith), lt-ltb (y .overs + o) past32 (omega arith), lt-ltb (y .unders + u) past32 (omega arith), le-ltb (y .length + l) past32 (omega arith))
 
       pub brought : y .length + l ≤ 4294967295 → Brought (forward y o u l) ≡ forwardOf y o u l
       unfolding forwardOf
-      brought h = rw (lt-ltb (y .steps + 1) 4294967296 (omega arith), lt-ltb (y .overs + o) 4294967296 (omega arith), lt-ltb (y .unders + u) 4294967296 (omega arith), lt-ltb (y .length + l) 4294967296 (omega arith))
+      brought h = rw (lt-ltb (y .steps + 1) past32 (omega arith), lt-ltb (y .overs + o) past32 (omega arith), lt-ltb (y .unders + u) past32 (omega arith), lt-ltb (y .length + l) past32 (omega arith))
 
 -- the ends of a step's tally
 

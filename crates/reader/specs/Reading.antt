@@ -43,7 +43,7 @@ wordAt s = 2 * s .dart + s .kind
 abbrev pub stepAt : ℕ → Step
 stepAt x = record { dart = x / 2; kind = x % 2 }
 
--- 2, no such name: "dart past its range, type above 1"
+-- 2, no such name: "vertex, edge or dart past its range, type above 1"
 abbrev pub inRange : ℕ → ℕ → Bool
 inRange d k = ltb d darts && ltb k 2
 
@@ -61,16 +61,18 @@ stays at y r = record { answer = Declined r; at = at; tally = y }
 
 -- the reader goes on to step `next`. "With each step it says whether the walk ends there": 1 if the next step is the one that it began at, dart and type, else 0
 abbrev pub moved : ℕ → Step → Tally → Stepped
-moved next first y = record {
+moved next first z = record {
   answer = Done (bit (eqb next (wordAt first)));
   at = stepAt next;
-  tally = y;
+  tally = z;
 }
 
+-- the step s, once its tally is known
 abbrev pub steppedBy : List ℕ → Step → Step → Tally → ℕ → Tallied → Stepped
 steppedBy t at first y s (Brought z) = moved (step (rotation t) s) first z
 steppedBy t at first y s (Kept r) = stays at y r
 
+-- the step, once its place is known
 abbrev pub stepBy : List ℕ → Step → Step → List ℕ → Tally → Named → Stepped
 stepBy t at first lengths y (There s) = steppedBy t at first y s (tallyOf t s lengths y)
 stepBy t at first lengths y (Refused r) = stays at y r

@@ -37,7 +37,7 @@ use Rattle.reader.specs.declared.place.Step.{Step}
 use Rattle.reader.specs.declared.tally.Tally.{Tally}
 use Rattle.reader.specs.declared.walk.Stepped.{Stepped}
 use Rattle.reader.specs.Counts.{timesIn, times-append, unders-left}
-use Rattle.reader.specs.Forward.{fits32, stepTally, tallyOf}
+use Rattle.reader.specs.Forward.{past32, fits32, stepTally, tallyOf}
 use Rattle.reader.specs.Reading.{beginBy, beginOf, wordAt, stepAt, in-range, placed-begun, placed-there, there-placed, moved, stepBy, stepOf}
 
 -- "A tally begun at zeros"
@@ -67,11 +67,11 @@ ribbonTally t lengths s = record {
 pub record Walked (t : List ℕ) (first : Step) (lengths : List ℕ) : Type 0 where
   -- it "hands out one step at a time": those of the walk
   pub steps : handed t first lengths (length (walk (rotation t) (wordAt first))) ≡ walk (rotation t) (wordAt first)
-  -- "With each step it says whether the walk ends there": at its last step, and not before. No step is declined: the tally fits 32 bits.
+  -- "With each step it says whether the walk ends there": at its last step, and not before. No step is declined, so the tally is never past 32 bits
   pub ends : (n : ℕ) → n < length (walk (rotation t) (wordAt first)) → after t first lengths (suc n) .answer ≡ Done (bit (eqb (suc n) (length (walk (rotation t) (wordAt first)))))
   -- "the step after that begins the walk again"
   pub again : after t first lengths (length (walk (rotation t) (wordAt first))) .at ≡ first
-  -- "A tally begun at zeros .. fit[s] 32 bits over one walk": where the walk ends it holds the ribbon's numbers
+  -- "A tally begun at zeros, and any cut length, fit 32 bits over one walk": where the walk ends it holds the ribbon's numbers
   pub tally : after t first lengths (length (walk (rotation t) (wordAt first))) .tally ≡ ribbonTally t lengths (wordAt first)
 
 -- a step has at most 99 letters
@@ -164,10 +164,10 @@ module _ (t : List ℕ) (first : Step) (lengths : List ℕ) (start : Stands t (w
         let unders = k .unders in
         let length = k .length in
         rw (
-          lt-ltb (n + 1) 4294967296 (omega arith),
-          lt-ltb (timesIn over (lettersBefore t s n) + timesIn over (stepLetters t x)) 4294967296 (omega arith),
-          lt-ltb (timesIn under (lettersBefore t s n) + timesIn under (stepLetters t x)) 4294967296 (omega arith),
-          lt-ltb (cutLength lengths (run f s n) + lengthOf lengths x) 4294967296 (omega arith),
+          lt-ltb (n + 1) past32 (omega arith),
+          lt-ltb (timesIn over (lettersBefore t s n) + timesIn over (stepLetters t x)) past32 (omega arith),
+          lt-ltb (timesIn under (lettersBefore t s n) + timesIn under (stepLetters t x)) past32 (omega arith),
+          lt-ltb (cutLength lengths (run f s n) + lengthOf lengths x) past32 (omega arith),
         )
 
     -- one step more is not declined

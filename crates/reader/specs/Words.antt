@@ -26,7 +26,11 @@ use Rattle.reader.specs.declared.words.Coded.{Coded}
 use Rattle.reader.specs.declared.words.Told.{Told}
 use Rattle.reader.specs.Reading.{stepBy, stepOf, placed-torn, Settled, goes, rests, settled}
 
--- "dart, type, start dart, start type"
+-- how many words a reader's state has
+abbrev pub state : ℕ
+state = 4
+
+-- dart and type of the step that it stands at, and those of the step that its walk began at
 abbrev pub atOf : List ℕ → Step
 atOf words = record { dart = getD words 0 0; kind = getD words 1 0 }
 
@@ -48,7 +52,7 @@ told q = record { answer = q .answer; tally = q .tally }
 
 -- 1, then 7 where the words are too few to be read, then the refusals of a step
 unfoldable pub wordsTold : List ℕ → List ℕ → List ℕ → Tally → Told
-wordsTold t words lengths y = toldUnless y (good? t) Torn (toldUnless y (leb 4 (length words)) ShortSlice (told (stepped t words lengths y)))
+wordsTold t words lengths y = toldUnless y (good? t) Torn (toldUnless y (leb state (length words)) ShortSlice (told (stepped t words lengths y)))
 
 -- the answer as C gets it
 abbrev pub coded : Told → Coded
@@ -63,7 +67,7 @@ wordsOut t words lengths y =
     outBy (wordsTold t words lengths y .answer) (stepped t words lengths y .at .dart ∷ stepped t words lengths y .at .kind ∷ []) words
 
 -- the words of a step that goes on, or rests
-stored : (words : List ℕ) (y : Tally) (q : Stepped) → 4 ≤ length words → Settled (atOf words) y q
+stored : (words : List ℕ) (y : Tally) (q : Stepped) → state ≤ length words → Settled (atOf words) y q
     → set (set words 0 (q .at .dart)) 1 (q .at .kind) ≡ outBy (q .answer) (q .at .dart ∷ q .at .kind ∷ []) words
 stored words y q h (goes n e) = rw e (sets-front (q .at .dart ∷ q .at .kind ∷ []) words (omega arith))
 stored words y q h (rests r e) = rw (e, set-getD words 0 0) (set-getD words 1 0)
@@ -73,19 +77,19 @@ module _ (t words lengths : List ℕ) (y : Tally) where
   unfolding wordsTold wordsOut
   words-torn g = rw g (refl, refl)
 
-  pub words-short : good? t ≡ true → length words < 4 → (record { answer = Declined ShortSlice; tally = y } ≡ wordsTold t words lengths y) × (words ≡ wordsOut t words lengths y)
+  pub words-short : good? t ≡ true → length words < state → (record { answer = Declined ShortSlice; tally = y } ≡ wordsTold t words lengths y) × (words ≡ wordsOut t words lengths y)
   unfolding wordsTold wordsOut
-  words-short g h = rw (g, lt-leb 4 (length words) h) (refl, refl)
+  words-short g h = rw (g, lt-leb state (length words) h) (refl, refl)
 
   -- the step tests the table too
-  told-step : 4 ≤ length words → told (stepped t words lengths y) ≡ wordsTold t words lengths y
+  told-step : state ≤ length words → told (stepped t words lengths y) ≡ wordsTold t words lengths y
   unfolding wordsTold
   told-step h = elim (truth (good? t)) [
-    | holds g ↦ rw (g, le-leb 4 (length words) h)
+    | holds g ↦ rw (g, le-leb state (length words) h)
     | fails g ↦ ap (λ n. told (stepBy t (atOf words) (firstOf words) lengths y n)) (sym (placed-torn t (atOf words) (firstOf words) g)) ∙ rw g
   ]
 
-  pub words-stepped : {q : Stepped} → 4 ≤ length words → q ≡ stepped t words lengths y
+  pub words-stepped : {q : Stepped} → state ≤ length words → q ≡ stepped t words lengths y
       → (told q ≡ wordsTold t words lengths y) × (set (set words 0 (q .at .dart)) 1 (q .at .kind) ≡ wordsOut t words lengths y)
   unfolding wordsOut
   words-stepped {q} h e =

@@ -1,5 +1,5 @@
 -- `reader::step` meets its contract: a walk of its MIR, by hand. The reader's borrow and the tally's are opened, the struct is taken apart, and `walk_step` is called on the slice, the steps, the lengths and the tally; what it gives is stored in the reader's dart and type and in the tally, and both borrows are closed. All that the proof knows of `walk_step` is that it meets its contract.
--- The reader's cell stands at the raw form of its type: it is read and written at the type that the MIR derefs, whose lifetimes are erased.
+-- The lengths go to the callee for good (`stay-dropped`), and of what the reader owns, a copy of what the table owns. The reader's cell stands at the raw form of its type: it is read and written at the type that the MIR derefs, whose lifetimes are erased.
 -- Assumes nothing.
 use mathlib.Core.Path.{_≡_, refl, ap}
 use Prim.Native.Nat.{ℕ, _<_, _^_}
@@ -29,7 +29,7 @@ use denote.Laws.{Is, shows}
 use denote.Plain.{uint-makes}
 use denote.Builtin.{u16, u32}
 use denote.Ref.{RefT, NamedLft, MutRef, ptr-vals, mut-tells}
-use denote.Slice.{sliceVal, ShrSlice, slice-vals, shr-slice-tells, shr-slice-lawful, shr-slice-copy}
+use denote.Slice.{sliceVal, ShrSlice, slice-vals, shr-slice-tells, shr-slice-lawful}
 use denote.Steps.{only, opens, closes, owned, peeks, heard, nothing}
 use denote.Struct.Steps.{spelt}
 use denote.Struct.Declared.{Declared}
@@ -43,9 +43,9 @@ use denote.Triple.Statement.{Contract, Triple}
 use denote.Triple.Call.{calls-at}
 use denote.Triple.Clauses.{ensured, lasts}
 use denote.Triple.Table.{entered, cited}
-use denote.Triple.Walked.{says, Stays, stay-ref, stay-none-slice, walkOf, goes-ref, goes-none-slice, Walks, ends-at, walked, walk-meets}
+use denote.Triple.Walked.{says, Stays, stay-ref, stay-dropped, walkOf, goes-ref, goes-dropped, Walks, ends-at, walked, walk-meets}
 use denote.Exit.{yes}
-use denote.Signature.{Slot, plain, namedLft}
+use denote.Signature.{Slot, plain, shrSliceOf, namedLft}
 use Rattle.table.proofs.answer.Answer as E
 use Rattle.table.proofs.answer.Answer.Laws as E′
 use Rattle.reader.specs.declared.place.Step.{Step}
@@ -75,7 +75,7 @@ abbrev ReaderS : Slot 4
 ReaderS = plain (λ κs. T.the-row (namedLft 4 1 tt κs))
 
 abbrev stayed : Stays (step.ended .signature .params) (step.ended .kept)
-stayed = (stay-ref (0 ∷ []) tt ReaderS, (stay-none-slice (2 ∷ []) tt (plain (λ _. u32)) yes, (stay-ref (3 ∷ []) tt (plain (λ _. Y.the-row)), tt)))
+stayed = (stay-ref (0 ∷ []) tt ReaderS, (stay-dropped (shrSliceOf (2 ∷ []) tt (plain (λ _. u32))) yes, (stay-ref (3 ∷ []) tt (plain (λ _. Y.the-row)), tt)))
 
 -- the contract that the proof cites
 abbrev WalkStep : {M : Type 1} (𝓤 : URA M) (H : Heap 𝓤) (A : Atoms 𝓤) (mem : Memory → SProp 𝓤) (run : Routine → Fun 𝓤) → Contract 𝓤
@@ -125,9 +125,6 @@ module _ {M : Type 1} (𝓤 : URA M) (H : Heap 𝓤) (A : Atoms 𝓤) (W : Given
 
   abbrev Post : Val → SProp 𝓤
   Post = walkOf 𝓤 H A step.ended stayed (step.clauses 𝓤 H A at-mem run) .post ((κs, qs, bounds, a, vals), tt)
-
-  abbrev OwnL : Fml
-  OwnL = ShrSlice (named 2) κ₂ u32 .own ls (v ls ∷ [])
 
   abbrev OwnR : Fml
   OwnR = R .own h (T′.lowered h ∷ [])
@@ -197,15 +194,15 @@ module _ {M : Type 1} (𝓤 : URA M) (H : Heap 𝓤) (A : Atoms 𝓤) (W : Given
       by ! (own-put 𝓤 H A W N L 2 (h .table, (p .dart, (h .kind, (h .first, tt)))) (p .kind) (T′.lowered (dart-put (p .dart))))
 
   exits : (r : Stepped) (u : Val) → r ≡ found → Is E.the-row (r .answer) (u ∷ [])
-      → ent 𝓤 (⋆ 𝓤 H A (‵ (fobs γ (R .coded .code (put (r .at)))) ∷ ‵ (fbor κ₀ (Body (mem R) b o γ)) ∷ ‵ (flft κ₀ q₀) ∷ ‵ (fobs γ′ (Y.the-row .coded .code (r .tally))) ∷ ‵ (fbor κ₃ (Body (mem Y.the-row) b′ o′ γ′)) ∷ ‵ (flft κ₃ q₃) ∷ (‵ (flft κ₁ q₁) ⊛ ‵ (flft κ₂ q₂) ⊛ ‵ ftrue) ∷ ‵ OwnL ∷ [])) (Post u)
+      → ent 𝓤 (⋆ 𝓤 H A (‵ (fobs γ (R .coded .code (put (r .at)))) ∷ ‵ (fbor κ₀ (Body (mem R) b o γ)) ∷ ‵ (flft κ₀ q₀) ∷ ‵ (fobs γ′ (Y.the-row .coded .code (r .tally))) ∷ ‵ (fbor κ₃ (Body (mem Y.the-row) b′ o′ γ′)) ∷ ‵ (flft κ₃ q₃) ∷ (‵ (flft κ₁ q₁) ⊛ ‵ (flft κ₂ q₂) ⊛ ‵ ftrue) ∷ [])) (Post u)
   exits r u e is =
-      qed W (‵ (fobs γ (R .coded .code (put (r .at)))) ∷ ‵ (fbor κ₀ (Body (mem R) b o γ)) ∷ ‵ (flft κ₀ q₀) ∷ ‵ (fobs γ′ (Y.the-row .coded .code (r .tally))) ∷ ‵ (fbor κ₃ (Body (mem Y.the-row) b′ o′ γ′)) ∷ ‵ (flft κ₃ q₃) ∷ (‵ (flft κ₁ q₁) ⊛ ‵ (flft κ₂ q₂) ⊛ ‵ ftrue) ∷ ‵ OwnL ∷ []) ∵
+      qed W (‵ (fobs γ (R .coded .code (put (r .at)))) ∷ ‵ (fbor κ₀ (Body (mem R) b o γ)) ∷ ‵ (flft κ₀ q₀) ∷ ‵ (fobs γ′ (Y.the-row .coded .code (r .tally))) ∷ ‵ (fbor κ₃ (Body (mem Y.the-row) b′ o′ γ′)) ∷ ‵ (flft κ₃ q₃) ∷ (‵ (flft κ₁ q₁) ⊛ ‵ (flft κ₂ q₂) ⊛ ‵ ftrue) ∷ []) ∵
       suffices ! _ (ends-at 𝓤 H A step.ended stayed (step.clauses 𝓤 H A at-mem run) W ((κs, qs, bounds, a, vals), tt) u (r .answer) (put (r .at), (tt, (r .tally, tt))) (tt, (tt, (tt, tt)))) $
       says ! (ap (λ (d : Stepped). d .answer) e, ap (λ (d : Stepped). put (d .at)) e, ap (λ (d : Stepped). d .tally) e) $
       -- the tokens
       move ! (6 ∷ []) $ split ! $ move ! (1 ∷ []) $ split ! $ move ! (8 ∷ 1 ∷ []) $ join ! $ move ! (1 ∷ 0 ∷ []) $ join ! $ move ! (1 ∷ 0 ∷ []) $ join ! $ move ! (3 ∷ 0 ∷ []) $ join ! $ frame ! $
-      -- [obs; the reader's borrow; obs; the tally's borrow; what the lengths own]
-      move ! (2 ∷ 3 ∷ []) $ feqI ! (List Val) (vptr b′ o′ ∷ []) (vptr b′ o′ ∷ []) refl $ fjoin3 ! $ nothing ! $ move ! (1 ∷ 0 ∷ []) $ fjoin ! $ move ! (3 ∷ 0 ∷ []) $ fjoin ! $
+      -- [obs; the reader's borrow; obs; the tally's borrow]
+      move ! (2 ∷ 3 ∷ []) $ feqI ! (List Val) (vptr b′ o′ ∷ []) (vptr b′ o′ ∷ []) refl $ fjoin3 ! $ nothing ! $ move ! (1 ∷ 0 ∷ []) $ fjoin ! $ nothing ! $ fjoin ! $
       move ! (1 ∷ 2 ∷ []) $ feqI ! (List Val) (vptr b o ∷ []) (vptr b o ∷ []) refl $ fjoin3 ! $ fjoin ! $
       owned ! E.the-row (Is E.the-row) (EL.makes E.the-type E′.the-plain 𝓤 H A) (r .answer) _ is $ move ! (1 ∷ 0 ∷ []) $ done !
 
@@ -213,18 +210,17 @@ module _ {M : Type 1} (𝓤 : URA M) (H : Heap 𝓤) (A : Atoms 𝓤) (W : Given
     walk : Is (ShrSlice (named 2) κ₂ u32) ls (v ls ∷ []) → ent 𝓤 (onEntry 𝓤 H A step.signature κs qs a vals) (WpFn 𝓤 H C Λ code.function (vptr b o ∷ v ls ∷ vptr b′ o′ ∷ []) Post)
     walk pl =
         qed W ((‵ (flft κ₀ q₀) ⊛ ‵ (flft κ₁ q₁) ⊛ ‵ (flft κ₂ q₂) ⊛ ‵ (flft κ₃ q₃) ⊛ ‵ ftrue) ∷ ‵ (owns (MutRef (named 0) κ₀ R ∷ ShrSlice (named 2) κ₂ u32 ∷ MutRef (named 3) κ₃ Y.the-row ∷ []) a vals) ∷ []) ∵
-        -- the tokens and what the parameters own, apart; the lengths' twice
+        -- the tokens and what the parameters own, apart
         split ! $ move ! (1 ∷ []) $ split ! $ move ! (1 ∷ []) $ split ! $ move ! (1 ∷ []) $ split ! $
-        move ! (5 ∷ []) $ fsplit ! $ fsplit3 ! $ drop ! $ move ! (2 ∷ []) $ fsplit ! $ use1 W (‵ OwnL ⊛ ‵ OwnL) (shr-slice-copy 𝓤 H A W (named 2) κ₂ u32 .twice ls (v ls ∷ [])) $ split ! $
-        move ! (2 ∷ []) $ fsplit ! $ fsplit3 ! $ drop ! $ keep ! (5 ∷ 6 ∷ 11 ∷ 0 ∷ 1 ∷ 7 ∷ 3 ∷ 10 ∷ 9 ∷ 4 ∷ []) $
+        move ! (5 ∷ []) $ fsplit ! $ fsplit3 ! $ drop ! $ move ! (2 ∷ []) $ fsplit ! $ move ! (1 ∷ []) $ fsplit ! $ fsplit3 ! $ drop ! $ keep ! (4 ∷ 5 ∷ 10 ∷ 0 ∷ 1 ∷ 6 ∷ 3 ∷ 9 ∷ 8 ∷ []) $
         enter ! C Λ code.function (vptr b o ∷ v ls ∷ vptr b′ o′ ∷ []) _ $
         alloc1 ! (λ l₀. alloc1 ! (λ l₁. alloc1 ! (λ l₂. alloc1 ! (λ l₃. alloc1 ! (λ l₄. alloc1 ! (λ l₅. alloc1 ! (λ l₆. alloc1 ! (λ l₇. alloc1 ! (λ l₈. alloc1 ! (λ l₉. alloc1 ! (λ l₁₀. alloc0 ! $ params1 ! $
         pass1 ! (init ! 18 refl (tt, tt)) $ pass1 ! (init ! 16 refl (shr-slice-lawful 𝓤 H A W (named 2) κ₂ u32 .typed ls (v ls ∷ []) pl .0)) $ pass1 ! (init ! 14 refl (tt, tt)) $ pass0 ! $
-        -- [_10; …; _9; …; _8; …; _7; …; _6; …; _5; …; _4; …; _3; …; _2; …; _1; …; room for _0; …; obs; the reader's borrow; its token; obs; the tally's borrow; its token; OwnL; the two tokens; OwnL]
+        -- [_10; …; _9; …; _8; …; _7; …; _6; …; _5; …; _4; …; _3; …; _2; …; _1; …; room for _0; …; obs; the reader's borrow; its token; obs; the tally's borrow; its token; what the lengths own; the two tokens]
         move ! (22 ∷ 23 ∷ 24 ∷ []) $ opens ! tt R {h = h} b o (λ vs. spelt ! R (Is R) (shows 𝓤 H A R) (LL.vals N L) (LL.tells N L) fullShare h vs b o $
         use1 W (‵ (fat fullShare (T′.mir erased) b o (T′.lowered h))) (W .laws .raw-at fullShare (T′.mir erased) b o (T′.lowered h)) $
         move ! (1 ∷ []) $ peeks ! R (Is R) (shows 𝓤 H A R) h (T′.lowered h ∷ []) (λ g. move ! (1 ∷ 0 ∷ []) $
-        -- [the reader's cell; what it owns; the open borrow; obs; auth; _10; …; room for _0; …; obs; the tally's borrow; its token; OwnL; the two tokens; OwnL]
+        -- [the reader's cell; what it owns; the open borrow; obs; auth; _10; …; room for _0; …; obs; the tally's borrow; its token; what the lengths own; the two tokens]
         assigns ! (of-opd ! (load ! (from ! (hop ! (look ! 23 refl) (fld ! refl (stop !)))) (look-in ! 0 (sub ! 1 refl (whole !))))) (from ! (stop !)) (init ! 13 refl (tt, record { fits = dart-fits g })) $
         assigns ! (of-opd ! (load ! (from ! (hop ! (look ! 23 refl) (fld ! refl (stop !)))) (look-in ! 0 (sub ! 2 refl (whole !))))) (from ! (stop !)) (init ! 11 refl (tt, record { fits = kind-fits g })) $
         assigns ! (agg ! (and-then ! (load ! (from ! (stop !)) (look ! 13 refl)) (and-then ! (load ! (from ! (stop !)) (look ! 11 refl)) (no-more !)))) (from ! (stop !)) (init ! 17 refl (tt, (record { fits = dart-fits g }, (record { fits = kind-fits g }, tt)))) $
@@ -233,7 +229,7 @@ module _ {M : Type 1} (𝓤 : URA M) (H : Heap 𝓤) (A : Atoms 𝓤) (W : Given
         -- the tally's borrow is opened, and the tally is read
         move ! (27 ∷ 28 ∷ 29 ∷ []) $ opens ! tt Y.the-row {h = y} b′ o′ (λ vs′. spelt ! Y.the-row (Is Y.the-row) (shows 𝓤 H A Y.the-row) (LL.vals Y.the-type Y′.the-laws) (LL.tells Y.the-type Y′.the-laws) fullShare y vs′ b′ o′ $
         move ! (1 ∷ []) $ peeks ! Y.the-row (Is Y.the-row) (shows 𝓤 H A Y.the-row) y (Y′.lowered y ∷ []) (λ g′. move ! (1 ∷ 0 ∷ []) $
-        -- [the tally's cell; what it owns; the open borrow; obs; auth; the reader's cell; what it owns; the open borrow; obs; auth; _10; …; room for _0; …; OwnL; the two tokens; OwnL]
+        -- [the tally's cell; what it owns; the open borrow; obs; auth; the reader's cell; what it owns; the open borrow; obs; auth; _10; …; room for _0; …; what the lengths own; the two tokens]
         assigns ! (of-opd ! (load ! (from ! (hop ! (look ! 24 refl) (stop !))) (look-raw ! 0 refl))) (from ! (stop !)) (init ! 10 refl (LL.lawful Y.the-type Y′.the-laws 𝓤 H A W .typed y _ g′ .0)) $
         -- what the reader owns is had twice, and of one copy what the table owns goes to the callee
         move ! (6 ∷ []) $ use1 W (‵ OwnR ⊛ ‵ OwnR) (LL.copy N (T′.the-copy α) 𝓤 H A W .twice h (T′.lowered h ∷ [])) $ split ! $
@@ -245,7 +241,7 @@ module _ {M : Type 1} (𝓤 : URA M) (H : Heap 𝓤) (A : Atoms 𝓤) (W : Given
         calls-at ! fm (WalkStep 𝓤 H A at-mem run) known to (and-then ! (load ! (from ! (stop !)) (look ! 14 refl)) (and-then ! (load ! (from ! (stop !)) (look ! 22 refl)) (and-then ! (load ! (from ! (stop !)) (look ! 12 refl)) (and-then ! (load ! (from ! (stop !)) (look ! 26 refl)) (and-then ! (load ! (from ! (stop !)) (look ! 10 refl)) (no-more !)))))) (λ u.
         use1 W (later (some (λ (r : Stepped). ((‵ (flft κ₁ q₁) ⊛ ‵ (flft κ₂ q₂) ⊛ ‵ ftrue) ⊛ ‵ (D.the-row .own r (u ∷ []))) ⊛ raw (ensured 𝓤 H A walk-step.ended (walk-step.clauses 𝓤 H A at-mem run) (κ₁, (κ₂, tt)) given-args tt r)))) (id⊢ 𝓤 _) $ await ! tt $ pick ! (λ r.
         split ! $ move ! (1 ∷ []) $ use1 W (raw (fact 𝓤 (r ≡ found))) (said r) $ heard ! (r ≡ found) (λ e. split ! $ move ! (1 ∷ []) $ peeks ! D.the-row (Is D.the-row) (shows 𝓤 H A D.the-row) r (u ∷ []) (λ is.
-        -- [the result; the two tokens; what the reader owns; the tally's cell; its open borrow; obs; auth; the reader's cell; its open borrow; obs; auth; _10; …; room for _0; …; OwnL]
+        -- [the result; the two tokens; what the reader owns; the tally's cell; its open borrow; obs; auth; the reader's cell; its open borrow; obs; auth; _10; …; room for _0; …]
         land ! (from ! (stop !)) (init ! 21 refl (LL.lawful D.the-type D′.the-laws 𝓤 H A W .typed r _ is .0)) $ rewrite ! 21 (λ (x : Val). ‵ (fat fullShare D′.mir l₅ 0 x)) (ap only (LL.tells D.the-type D′.the-laws r _ is)) refl $
         assigns ! (of-opd ! (load ! (from ! (fld ! refl (fld ! refl (stop !)))) (look-in ! 21 (sub ! 0 refl (sub ! 1 refl (whole !)))))) (from ! (hop ! (look ! 29 refl) (fld ! refl (stop !)))) (store-in ! 7 (sub ! 1 refl (whole !)) (tt, record { fits = next-dart-fits r u is })) $
         assigns ! (of-opd ! (load ! (from ! (fld ! refl (fld ! refl (stop !)))) (look-in ! 21 (sub ! 1 refl (sub ! 1 refl (whole !)))))) (from ! (hop ! (look ! 29 refl) (fld ! refl (stop !)))) (store-in ! 7 (sub ! 2 refl (whole !)) (tt, record { fits = next-kind-fits r u is })) $
@@ -270,7 +266,7 @@ module _ {M : Type 1} (𝓤 : URA M) (H : Heap 𝓤) (A : Atoms 𝓤) (W : Given
 step-meets : {M : Type 1} (𝓤 : URA M) (H : Heap 𝓤) (A : Atoms 𝓤) → Given 𝓤 H A → (mem : Memory → SProp 𝓤) (run : Routine → Fun 𝓤) (𝓣 : Tables 𝓤 H) → Triple 𝓤 (𝓣 .C #reader·walk-step) (WalkStep 𝓤 H A mem run)
     → Meets 𝓤 H A step.signature (WpFn 𝓤 H (𝓣 .C) (𝓣 .Λ) code.function) (step.spec 𝓤 H A mem run)
 step-meets 𝓤 H A W mem run 𝓣 known =
-    walk-meets 𝓤 H A step.ended stayed W (goes-ref 𝓤 H A W 4 0 tt ReaderS, (goes-none-slice 𝓤 H A W 4 (2 ∷ []) tt (plain (λ _. u32)) yes, (goes-ref 𝓤 H A W 4 3 tt (plain (λ _. Y.the-row)), tt))) (step.clauses 𝓤 H A mem run)
+    walk-meets 𝓤 H A step.ended stayed W (goes-ref 𝓤 H A W 4 0 tt ReaderS, (goes-dropped 𝓤 H A W 4 (shrSliceOf (2 ∷ []) tt (plain (λ _. u32))) yes (λ κs x f. refl), (goes-ref 𝓤 H A W 4 3 tt (plain (λ _. Y.the-row)), tt))) (step.clauses 𝓤 H A mem run)
     (WpFn 𝓤 H (𝓣 .C) (𝓣 .Λ) code.function) (WpFn-mono 𝓤 H (W .laws) 𝓣 code.function) (step-walks 𝓤 H A W mem run (𝓣 .C) (𝓣 .Λ) (fmOf 𝓤 H (W .laws) 𝓣) known)
 
 pub step-spec : {M : Type 1} → stated.statement M

@@ -284,14 +284,6 @@ module _ (t : List ℕ) where
   written-good (DeleteEdge e) p = delete-good e (may-delete t e p)
   written-good (TurnEdge e a) p = turn-good e a (may-turn t e a p)
 
-  -- an edit goes through only on a good table
-  pub passes-good : (E : Edit) → verdict t E ≡ Passes → Good t
-  passes-good (AddVertex v) p = may-add t v p .good
-  passes-good (RemoveVertex v) p = may-remove t v p .good
-  passes-good (InsertEdge e c₁ c₂ k) p = may-insert t e c₁ c₂ k p .good
-  passes-good (DeleteEdge e) p = may-delete t e p .good
-  passes-good (TurnEdge e a) p = may-turn t e a p .good
-
   -- the words that the writes follow
   pub may-insert-ready : (e c₁ c₂ : ℕ) (k : ℤ) → MayInsert t e c₁ c₂ k → InsertReady t e c₁ c₂
   may-insert-ready e c₁ c₂ k m =

@@ -6,7 +6,7 @@
 --     orient-fits, fits-orient     the same with sums: the turns and the marks of the two ends add to an even number
 use Prim.Native.Nat.{ℕ, _+_, _%_, _<_}
 use native.Mathlib.Omega.{arith}
-use mathlib.Core.Path.{_≡_, refl, _∙_}
+use mathlib.Core.Path.{_≡_, _∙_}
 use mathlib.Core.Bool.{Bool, true}
 use mathlib.Core.Logic.{_↔_, _≢_}
 use Rattle.table.specs.Layout.{rev}
@@ -39,10 +39,6 @@ chain-back {R} L d l = rw (rev-rev d) at (chain-edge R (rev d) (L .live-rev d �
 
 pub chain-sym : {R : Rotation} {u v : ℕ} → Lawful R → Chain R u v → Chain R v u
 chain-sym {R} {u} {v} L c = chain-ind R u (λ w. Chain R w u) here (λ d l m t. chain-trans (chain-back L d l) t) v c
-
--- a test that the ends of each live edge pass alike is the same on a whole part
-pub chain-kept : {R : Rotation} {Q : ℕ → Bool} {u v : ℕ} → Kept R Q → Chain R u v → Q v ≡ Q u
-chain-kept {R} {Q} {u} {v} K c = chain-ind R u (λ w. Q w ≡ Q u) refl (λ d l m t. K .edge d l ∙ t) v c
 
 -- Q is the part of r
 pub record PartOf (R : Rotation) (r : ℕ) (Q : ℕ → Bool) : Type 0 where

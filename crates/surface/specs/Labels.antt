@@ -73,10 +73,7 @@ module _ {R : Rotation} (L : Lawful R) {s : ℕ → Spot} (G : Labelling R s) wh
     | no n ↦ no (λ c. n (sym (chain-label c)))
   ]
 
-  -- a label is labelled by itself, and is the smallest vertex of its part
-  pub label-own : (w : ℕ) → s (s w .label) .label ≡ s w .label
-  label-own w = sym (chain-label (G .sound .joined w))
-
+  -- a label is the smallest vertex of its part
   pub label-least : (w v : ℕ) → Chain R w v → s w .label ≤ v
   label-least w v c = rw (chain-label c) at (G .sound .low v)
 

@@ -1,7 +1,6 @@
 // The listing, written to a lent slice that is long enough.
 use crate::corner::LONE;
 use crate::count::look;
-use crate::count::measure;
 use crate::step::step;
 use table::layout::DARTS;
 use table::layout::ISOLATED;
@@ -18,14 +17,6 @@ ghost use Rattle.tracing.specs.Walk.{walk};
 ghost use Rattle.tracing.specs.Listing.{listing};
 ghost use Rattle.tracing.specs.Stands.{Stands};
 ghost use Rattle.tracing.specs.Writing.{RoomAt, Entered, RoomLone, EnteredLone, walksText, lonesText, WroteWalks};
-
-// The number of words of the listing.
-pub fn listing_words(t: &[u16]) -> usize
-    requires { ⌜ Good (now t) ⌝ }
-    ensures { λ n. ⌜ n ≡ length (listing (rotation (now (t .entry)))) ⌝ }
-{
-    measure(t).words
-}
 
 // The steps of the walk from s, from index `start` on.
 fn write_walk(t: &[u16], out: &mut [u16], start: usize, s: u16)

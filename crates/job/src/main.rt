@@ -9,7 +9,11 @@ use runs::lines::stop_line;
 use table::empty::empty;
 ghost use Prim.Native.Nat.{_+_, _≤_, _<_, _^_};
 ghost use mathlib.Core.Path.{_≡_};
-ghost use lib.ListN.{length};
+ghost use lib.ListN.{length, take};
+ghost use lib.Seq.{sets};
+ghost use Rattle.runs.specs.Run.{run};
+ghost use Rattle.runs.specs.Reading.{reading};
+ghost use Rattle.runs.specs.Blocks.{left};
 ghost use Rattle.table.specs.Good.{Good};
 
 // How far the reading has come.
@@ -29,7 +33,12 @@ struct Progress {
 // Runs the records of the first n bytes of the buffer, and prints the lines of those that are declined.
 fn run_and_print(t: &mut [u16], buf: &mut [u8], n: usize, next: u64) -> Progress
     requires { ⌜ Good (now t) × (length (now buf) ≡ 4096) × (n ≤ 4096) × (next ≤ 2 ^ 63) ⌝ }
-    ensures { λ r. ⌜ Good (now (t .exit)) × (r .left < 10) × (r .next ≤ next + 4096) ⌝ }
+    ensures { λ r. ⌜ Good (now (t .exit)) × (r .left < 10) × (r .next ≤ next + 4096)
+        × (now (t .exit) ≡ run (now (t .entry)) (reading (take n (now (buf .entry))) .edits))
+        × (now (buf .exit) ≡ sets (now (buf .entry)) 0 (left (take n (now (buf .entry)))))
+        × (r .left ≡ length (left (take n (now (buf .entry)))))
+        × (r .next ≡ next + length (reading (take n (now (buf .entry))) .edits))
+        × (r .stop ≡ reading (take n (now (buf .entry))) .stop) ⌝ }
 {
     let mut out = io::large_buffer();
     let block = run_block(t, buf, n, next, &mut out);

@@ -10,13 +10,14 @@ use borrow.Author.Tests.{lt-ltb, le-ltb, le-leb, lt-leb}
 use Rattle.table.specs.Layout.{edges}
 use Rattle.table.specs.declared.answer.Refusal.{Refusal}
 use Rattle.table.specs.declared.answer.Refusal.the-variants.{Overturned, ShortSlice, Far}
+use Rattle.tracing.specs.Has.{times}
 use Rattle.weave.specs.Letters.{over, under, crossings, lettersOn, stepLetters}
 use Rattle.weave.specs.Crossing.{EdgeWord}
 use Rattle.ribbons.specs.CutLength.{lengthOf, farLength}
 use Rattle.reader.specs.declared.tally.Tally.{Tally}
 use Rattle.reader.specs.declared.tally.Tallied.{Tallied}
 use Rattle.reader.specs.declared.tally.Tallied.the-variants.{Brought, Kept}
-use Rattle.reader.specs.Counts.{timesIn, unders-left}
+use Rattle.reader.specs.Counts.{unders-left}
 
 -- "A tally record .. is brought forward by each step: steps, overs, unders, length."
 abbrev pub forward : Tally → ℕ → ℕ → ℕ → Tally
@@ -41,15 +42,14 @@ forwardOf y o u l = keptUnless (fits32 (forward y o u l)) Overturned (Brought (f
 
 -- the tally with step s more: its letters, and its edge's length
 abbrev pub stepTally : List ℕ → ℕ → List ℕ → Tally → Tally
-stepTally t s lengths y = forward y (timesIn over (stepLetters t s)) (timesIn under (stepLetters t s)) (lengthOf lengths s)
+stepTally t s lengths y = forward y (times over (stepLetters t s)) (times under (stepLetters t s)) (lengthOf lengths s)
 
 -- "7 if they are short, and 9 for its own edge's length alone, which a step tests before 6"
 unfoldable pub tallyOf : List ℕ → ℕ → List ℕ → Tally → Tallied
 tallyOf t s lengths y =
     keptUnless (leb edges (length lengths)) ShortSlice
     (keptUnless (not (farLength lengths s)) Far
-    (keptUnless (fits32 (stepTally t s lengths y)) Overturned
-    (Brought (stepTally t s lengths y))))
+    (forwardOf y (times over (stepLetters t s)) (times under (stepLetters t s)) (lengthOf lengths s)))
 
 -- the ends of the bringing forward
 
@@ -93,7 +93,7 @@ module _ (t : List ℕ) (s : ℕ) (lengths : List ℕ) (y : Tally) where
     tally-high l h = rw (le-leb edges (length lengths) size, le-ltb (lengthOf lengths s) 1 l, lt-ltb 65535 (lengthOf lengths s) h)
 
     pub tally-forward : {w n o : ℕ} {r : Tallied} → 1 ≤ lengthOf lengths s → lengthOf lengths s ≤ 65535 → EdgeWord t s w → n ≡ crossings w
-        → o ≡ timesIn over (lettersOn w (s % 2)) → r ≡ forwardOf y o (n - o) (lengthOf lengths s) → r ≡ tallyOf t s lengths y
+        → o ≡ times over (lettersOn w (s % 2)) → r ≡ forwardOf y o (n - o) (lengthOf lengths s) → r ≡ tallyOf t s lengths y
     unfolding tallyOf forwardOf stepLetters
     tally-forward {w} {n} {o} l h e c f g =
         let u = unders-left w (s % 2) c f (omega arith) .1 in

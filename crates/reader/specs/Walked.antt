@@ -36,8 +36,9 @@ use Rattle.ribbons.specs.Summing.{cut-append}
 use Rattle.reader.specs.declared.place.Step.{Step}
 use Rattle.reader.specs.declared.tally.Tally.{Tally}
 use Rattle.reader.specs.declared.walk.Stepped.{Stepped}
-use Rattle.reader.specs.Counts.{timesIn, times-append, unders-left}
-use Rattle.reader.specs.Forward.{past32, fits32, stepTally, tallyOf}
+use Rattle.tracing.specs.Has.{times, countIn, countIn-append}
+use Rattle.reader.specs.Counts.{unders-left}
+use Rattle.reader.specs.Forward.{past32, fits32, forwardOf, stepTally, tallyOf}
 use Rattle.reader.specs.Reading.{beginBy, beginOf, wordAt, stepAt, in-range, placed-begun, placed-there, there-placed, moved, stepBy, stepOf}
 
 -- "A tally begun at zeros"
@@ -58,8 +59,8 @@ handed t first lengths (suc n) = handed t first lengths n ++ (wordAt (after t fi
 abbrev pub ribbonTally : List ℕ → List ℕ → ℕ → Tally
 ribbonTally t lengths s = record {
   steps = length (walk (rotation t) s);
-  overs = timesIn over (letters t s);
-  unders = timesIn under (letters t s);
+  overs = times over (letters t s);
+  unders = times under (letters t s);
   length = cutLength lengths (walk (rotation t) s);
 }
 
@@ -75,7 +76,7 @@ pub record Walked (t : List ℕ) (first : Step) (lengths : List ℕ) : Type 0 wh
   pub tally : after t first lengths (length (walk (rotation t) (wordAt first))) .tally ≡ ribbonTally t lengths (wordAt first)
 
 -- a step has at most 99 letters
-letters-few : {t : List ℕ} {s : ℕ} → Stands t s → (timesIn over (stepLetters t s) ≤ 99) × (timesIn under (stepLetters t s) ≤ 99)
+letters-few : {t : List ℕ} {s : ℕ} → Stands t s → (times over (stepLetters t s) ≤ 99) × (times under (stepLetters t s) ≤ 99)
 unfolding stepLetters
 letters-few {t} {s} h =
     let e = edge-read h in
@@ -100,7 +101,7 @@ module _ (t : List ℕ) (first : Step) (lengths : List ℕ) (start : Stands t (w
   -- one step that is not declined
   one-step : (x : ℕ) (y : Tally) → Stands t x → farLength lengths x ≡ false → fits32 (stepTally t x lengths y) ≡ true
       → stepOf t (stepAt x) first lengths y ≡ moved (f x) first (stepTally t x lengths y)
-  unfolding tallyOf
+  unfolding tallyOf forwardOf
   one-step x y h near fits =
       let half : s / 2 ≡ first .dart = omega arith in
       let begun : live? t (first .dart) ≡ true = rw half at (start .live) in
@@ -113,8 +114,8 @@ module _ (t : List ℕ) (first : Step) (lengths : List ℕ) (start : Stands t (w
   abbrev tallied : ℕ → Tally
   tallied n = record {
     steps = n;
-    overs = timesIn over (lettersBefore t s n);
-    unders = timesIn under (lettersBefore t s n);
+    overs = times over (lettersBefore t s n);
+    unders = times under (lettersBefore t s n);
     length = cutLength lengths (run f s n);
   }
 
@@ -123,8 +124,8 @@ module _ (t : List ℕ) (first : Step) (lengths : List ℕ) (start : Stands t (w
     at : after t first lengths n .at ≡ stepAt (iter f n s)
     tally : after t first lengths n .tally ≡ tallied n
     steps : handed t first lengths n ≡ run f s n
-    overs : timesIn over (lettersBefore t s n) ≤ 99 * n
-    unders : timesIn under (lettersBefore t s n) ≤ 99 * n
+    overs : times over (lettersBefore t s n) ≤ 99 * n
+    unders : times under (lettersBefore t s n) ≤ 99 * n
     length : cutLength lengths (run f s n) ≤ 65535 * n
 
   first-at : first ≡ stepAt s
@@ -134,7 +135,7 @@ module _ (t : List ℕ) (first : Step) (lengths : List ℕ) (start : Stands t (w
       pair d k = record { dart = d; kind = k }
 
   reads-none : Reads zero
-  unfolding after handed run gather timesIn cutLength iter
+  unfolding after handed run gather countIn cutLength iter
   reads-none = record { at = first-at; tally = refl; steps = refl; overs = omega arith; unders = omega arith; length = omega arith }
 
   module _ (n : ℕ) (k : Reads n) (low : n < 4096) (near : farLength lengths (iter f n s) ≡ false) where
@@ -144,8 +145,8 @@ module _ (t : List ℕ) (first : Step) (lengths : List ℕ) (start : Stands t (w
     there : Stands t x
     there = iter-keeps (Stands t) f (λ i h. stands-step h) n s start
 
-    times-suc : (l : ℕ) → timesIn l (lettersBefore t s (suc n)) ≡ timesIn l (lettersBefore t s n) + timesIn l (stepLetters t x)
-    times-suc l = ap (timesIn l) (before-suc t s n) ∙ times-append l (lettersBefore t s n) (stepLetters t x)
+    times-suc : (l : ℕ) → times l (lettersBefore t s (suc n)) ≡ times l (lettersBefore t s n) + times l (stepLetters t x)
+    times-suc l = ap (times l) (before-suc t s n) ∙ countIn-append (λ y. eqb l y) (lettersBefore t s n) (stepLetters t x)
 
     cut-suc : cutLength lengths (run f s (suc n)) ≡ cutLength lengths (run f s n) + lengthOf lengths x
     unfolding cutLength
@@ -165,8 +166,8 @@ module _ (t : List ℕ) (first : Step) (lengths : List ℕ) (start : Stands t (w
         let length = k .length in
         rw (
           lt-ltb (n + 1) past32 (omega arith),
-          lt-ltb (timesIn over (lettersBefore t s n) + timesIn over (stepLetters t x)) past32 (omega arith),
-          lt-ltb (timesIn under (lettersBefore t s n) + timesIn under (stepLetters t x)) past32 (omega arith),
+          lt-ltb (times over (lettersBefore t s n) + times over (stepLetters t x)) past32 (omega arith),
+          lt-ltb (times under (lettersBefore t s n) + times under (stepLetters t x)) past32 (omega arith),
           lt-ltb (cutLength lengths (run f s n) + lengthOf lengths x) past32 (omega arith),
         )
 

@@ -8,9 +8,9 @@ use weave::letter::crossings;
 use weave::letter::edge_word;
 ghost use Prim.Native.Nat.{_<_};
 ghost use mathlib.Core.Path.{_≡_};
+ghost use Rattle.tracing.specs.Has.{times};
 ghost use Rattle.tracing.specs.Stands.{Stands};
 ghost use Rattle.weave.specs.Letters.{over, lettersOn};
-ghost use Rattle.reader.specs.Counts.{timesIn};
 ghost use Rattle.reader.specs.Forward.{forwardOf, tallyOf};
 
 // "steps, overs, unders, length"
@@ -34,7 +34,7 @@ pub const MOST: u32 = 4294967295;
 // The number of O's among the letters of a step: every other one, from the first on if it is O.
 fn overs(w: u16, kind: u16) -> u16
     requires { ⌜ kind < 2 ⌝ }
-    ensures { λ r. ⌜ r ≡ timesIn over (lettersOn w kind) ⌝ }
+    ensures { λ r. ⌜ r ≡ times over (lettersOn w kind) ⌝ }
 {
     let n = crossings(w);
     if UNTURNED < w {

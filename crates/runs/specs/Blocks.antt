@@ -5,11 +5,12 @@ use native.Mathlib.Omega.{arith}
 use native.Mathlib.Nat.{add-assoc}
 use mathlib.Core.Path.{_≡_, sym, _∙_, ap, ap₂}
 use mathlib.Core.Logic.{_≢_}
+use mathlib.Core.Bool.{cond}
 use mathlib.Core.List.{List, [], _++_, append-assoc}
 use lib.Dec.{eqb}
 use borrow.Author.Tests.{eqb-true, eqb-false, eq-eqb, ne-eqb}
 use Rattle.orbits.specs.Truth.{truth, holds, fails}
-use Rattle.runs.specs.Records.{pick}
+use Rattle.runs.specs.Records.{}
 use lib.ListN.{length, drop, length-append, length-drop}
 use Rattle.table.specs.Answers.{numberOf}
 use Rattle.table.specs.declared.answer.Refusal.the-variants.{BadMark}
@@ -31,7 +32,7 @@ printed-joined t n r q =
 
 -- the bytes that are read again, before those that come: none after a bad mark
 unfoldable pub left : List ℕ → List ℕ
-left s = pick (eqb (reading s .stop) (numberOf BadMark)) [] (drop (reading s .taken) s)
+left s = cond (eqb (reading s .stop) (numberOf BadMark)) [] (drop (reading s .taken) s)
 
 pub left-none : (s : List ℕ) → reading s .stop ≡ numberOf BadMark → left s ≡ []
 unfolding left

@@ -1,7 +1,7 @@
 -- Job records, document 01, "The job program": the first record of some bytes.
 -- Assumes nothing.
 use Prim.Native.Nat.{ℕ, _+_, _-_, _*_}
-use mathlib.Core.Bool.{Bool, true, false}
+use mathlib.Core.Bool.{cond}
 use mathlib.Core.List.{List}
 use lib.IntN.{ℤ, pos, negsuc}
 use lib.Dec.{ltb, eqb}
@@ -16,26 +16,22 @@ use Rattle.runs.specs.declared.records.Marked.the-variants.{Known, Unkno
 use Rattle.runs.specs.declared.records.Found.{Found}
 use Rattle.runs.specs.declared.records.Found.the-variants.{Record, Refused, Nothing}
 
-abbrev pub pick : {A : Type 0} → Bool → A → A → A
-pick true a b = a
-pick false a b = b
-
 -- "16-bit words, high byte first": the one at byte i
 abbrev pub word : List ℕ → ℕ → ℕ
 word s i = getD s i 0 * 256 + getD s (i + 1) 0
 
 -- "k and amount in two's complement"
 abbrev pub signedWord : ℕ → ℤ
-signedWord w = pick (ltb w 32768) (pos w) (negsuc (65535 - w))
+signedWord w = cond (ltb w 32768) (pos w) (negsuc (65535 - w))
 
 -- "a two-byte mark": the letters' codes
 abbrev pub markOf : ℕ → Marked
 markOf w =
-    pick (eqb w (65 * 256 + 86)) (Known AV)
-    (pick (eqb w (82 * 256 + 86)) (Known RV)
-    (pick (eqb w (73 * 256 + 69)) (Known IE)
-    (pick (eqb w (68 * 256 + 69)) (Known DE)
-    (pick (eqb w (84 * 256 + 87)) (Known TW)
+    cond (eqb w (65 * 256 + 86)) (Known AV)
+    (cond (eqb w (82 * 256 + 86)) (Known RV)
+    (cond (eqb w (73 * 256 + 69)) (Known IE)
+    (cond (eqb w (68 * 256 + 69)) (Known DE)
+    (cond (eqb w (84 * 256 + 87)) (Known TW)
     Unknown))))
 
 -- "AV v; RV v; IE e c1 c2 k; DE e; TW e amount": the bytes of a record, its mark included
@@ -55,7 +51,7 @@ editOf TW s = TurnEdge (word s 2) (signedWord (word s 4))
 
 -- "cut record: fewer bytes than the record needs"
 unfoldable pub knownRecord : Mark → List ℕ → Found
-knownRecord m s = pick (ltb (length s) (sizeOf m)) (Refused CutRecord) (Record (editOf m s) (sizeOf m))
+knownRecord m s = cond (ltb (length s) (sizeOf m)) (Refused CutRecord) (Record (editOf m s) (sizeOf m))
 
 -- "bad mark: job record with an unknown mark"
 abbrev pub markedRecord : Marked → List ℕ → Found
@@ -65,6 +61,6 @@ markedRecord Unknown s = Refused BadMark
 -- the first record; "one lone byte included" among the cut ones
 unfoldable pub firstRecord : List ℕ → Found
 firstRecord s =
-    pick (eqb (length s) 0) Nothing
-    (pick (eqb (length s) 1) (Refused CutRecord)
+    cond (eqb (length s) 0) Nothing
+    (cond (eqb (length s) 1) (Refused CutRecord)
     (markedRecord (markOf (word s 0)) s))

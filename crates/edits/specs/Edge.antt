@@ -1,25 +1,25 @@
 -- The tables that the insertion and the deletion of an edge leave, document 01, "Edits". Both are good; deleting what was inserted gives the first table back.
--- Assumes nothing.
-use Prim.Native.Nat.{ℕ, _+_, _-_, _*_, _≤_, _<_}
-use native.Mathlib.Omega.{arith}
-use native.Mathlib.Decide.{ℕ-discrete}
-use mathlib.Core.Path.{_≡_, refl, sym, _∙_, ap, subst}
-use mathlib.Core.Bool.{Bool, true, false}
+use Prim.Native.Nat.{ℕ, _+_, _-_, _*_, zero, suc}
+use mathlib.Core.Bool.{true, false}
 use mathlib.Core.List.{List}
-use mathlib.Core.Logic.{_≢_}
 use lib.Dec.{eqb, ltb}
-use lib.ListN.{length-set}
-use borrow.Author.Tests.{eq-eqb, ne-eqb, lt-ltb, le-ltb}
-use Rattle.orbits.specs.Truth.{truth, holds, fails}
-use Rattle.table.specs.Layout.{vertices, edges, darts, words, nothing, isolated, nextWord, prevWord, leaves, edgeWord, vertexWord}
-use Rattle.table.specs.Rotation.{choose, live?, nextDart}
+use Rattle.table.specs.Layout.{darts, nothing, isolated, nextWord, prevWord, leaves, vertexWord}
+use Rattle.table.specs.Rotation.{choose}
 use Rattle.table.specs.Empty.{orElse}
-use Rattle.table.specs.Writes.{setEdge, upd, next-edge, prev-edge, leaves-edge, vertex-edge, leaves-vertex}
+use Rattle.table.specs.Writes.{setEdge, setNext, setPrev, setLeaves, setVertex}
 use Rattle.tracing.specs.Listing.{loneAt}
-use Rattle.edits.specs.Held.{Held, nextIn, next-in, next-out, held-kept}
-use Rattle.edits.specs.Splice.{splice, Reads, reads-splice, reads-cut, reads-vertex}
-use Rattle.edits.specs.Link.{new, old, plus-case, lesser, Grown, before-grown, before-seat, alone-grown, alone-seat}
-use Rattle.edits.specs.Unlink.{Sought, found, none, sought, seek, successor, taken, unlink, Shrunk, out-shrunk}
+
+-- b comes next after a
+abbrev pub tie : List ℕ → ℕ → ℕ → List ℕ
+tie t a b = setPrev (setNext t a b) b a
+
+-- x comes between p and d at vertex v, whose word becomes w
+abbrev pub splice : List ℕ → ℕ → ℕ → ℕ → ℕ → ℕ → List ℕ
+splice t x d p v w = setVertex (setLeaves (tie (tie t x d) p x) x v) v w
+
+-- the smaller of a vertex's word and a dart
+abbrev pub lesser : ℕ → ℕ → ℕ
+lesser w x = choose (ltb x w) x w
 
 -- dart x goes into corner c: just before the dart that names it, or alone at the isolated vertex
 unfoldable pub link : List ℕ → ℕ → ℕ → List ℕ
@@ -33,108 +33,25 @@ firstCorner e c₁ c₂ = choose (eqb c₁ c₂) (2 * e + 1) c₁
 abbrev pub inserted : List ℕ → ℕ → ℕ → ℕ → ℕ → List ℕ
 inserted t e c₁ c₂ w = setEdge (link (link t (2 * e + 1) c₂) (2 * e) (firstCorner e c₁ c₂)) e w
 
+-- n comes next after p, and x is no dart of a vertex any more
+abbrev pub cut : List ℕ → ℕ → ℕ → ℕ → List ℕ
+cut t x n p = setLeaves (setPrev (setNext (tie t p n) x nothing) x nothing) x nothing
+
+-- the first of k darts from d on that leaves v, or the word of an isolated vertex
+unfoldable pub seek : List ℕ → ℕ → ℕ → ℕ → ℕ
+seek t v d zero = isolated
+seek t v d (suc k) = elim (eqb (leaves t d) v) [ true ↦ d | false ↦ seek t v (suc d) k ]
+
+-- v's word once x is out: if it was x, the next larger dart that leaves v
+abbrev pub successor : List ℕ → ℕ → ℕ → ℕ → ℕ
+successor c v x w = choose (eqb w x) (seek c v x (darts - x)) w
+
+abbrev pub taken : List ℕ → ℕ → List ℕ
+taken t x = cut t x (nextWord t x) (prevWord t x)
+
+abbrev pub unlink : List ℕ → ℕ → List ℕ
+unlink t x = setVertex (taken t x) (leaves t x) (successor (taken t x) (leaves t x) x (vertexWord t (leaves t x)))
+
 -- edge e taken out
 abbrev pub deleted : List ℕ → ℕ → List ℕ
 deleted t e = setEdge (unlink (unlink t (2 * e)) (2 * e + 1)) e 0
-
--- a corner that is there, where L are the live darts
-pub data Corner (t : List ℕ) (L : ℕ → Bool) (c : ℕ) : Type 0 where
-  at-dart : L c ≡ true → Corner t L c
-  at-lone : (v : ℕ) → c ≡ loneAt + v → v < vertices → vertexWord t v ≡ isolated → Corner t L c
-
-module _ (t : List ℕ) where
-  link-dart : (x c : ℕ) → c < darts → link t x c ≡ splice t x c (prevWord t c) (leaves t c) (lesser (vertexWord t (leaves t c)) x)
-  unfolding link
-  link-dart x c h = rw (lt-ltb c darts h)
-
-  pub dart-link : (x c w : ℕ) → c < darts → w ≡ lesser (vertexWord t (leaves t c)) x → splice t x c (prevWord t c) (leaves t c) w ≡ link t x c
-  dart-link x c w h e = ap (splice t x c (prevWord t c) (leaves t c)) e ∙ sym (link-dart x c h)
-
-  pub link-past : (x c : ℕ) → darts ≤ c → link t x c ≡ splice t x x x (c - loneAt) x
-  unfolding link
-  link-past x c h = rw (le-ltb c darts h)
-
-  link-lone : (x v : ℕ) → link t x (loneAt + v) ≡ splice t x x x v x
-  link-lone x v = let s : loneAt + v - loneAt ≡ v = omega arith in link-past x (loneAt + v) (omega arith) ∙ ap (λ u. splice t x x x u x) s
-
-module _ (t : List ℕ) (L : ℕ → Bool) (H : Held t L) (x : ℕ) where
-  pub link-grown : (c : ℕ) → L x ≡ false → x < darts → Corner t L c → Grown t (link t x c) L x
-  link-grown c free low (at-dart on) =
-      rw (link-dart t x c (H .low c on))
-      (before-grown t _ L H x c (prevWord t c) (leaves t c) (lesser (vertexWord t (leaves t c)) x) free low on refl refl refl
-      (reads-splice t (H .size) x c (prevWord t c) (leaves t c) _ low (H .low c on) (H .low _ (H .prev-live c on)) (H .leaves-low c on)))
-  link-grown c free low (at-lone v e h bare) =
-      rw (e, link-lone t x v) (alone-grown t _ L H x v free low h bare (reads-splice t (H .size) x x x v x low low low h))
-
-  -- where the dart that was put in stands
-  pub link-before : (c : ℕ) → L x ≡ false → x < darts → L c ≡ true → (leaves (link t x c) x ≡ leaves t c) × (nextWord (link t x c) x ≡ c)
-  link-before c free low on =
-      rw (link-dart t x c (H .low c on))
-      (before-seat t _ L H x c (prevWord t c) (leaves t c) (lesser (vertexWord t (leaves t c)) x) free low on refl refl refl
-      (reads-splice t (H .size) x c (prevWord t c) (leaves t c) _ low (H .low c on) (H .low _ (H .prev-live c on)) (H .leaves-low c on)))
-
-  pub link-alone : (v : ℕ) → L x ≡ false → x < darts → v < vertices → vertexWord t v ≡ isolated → (leaves (link t x (loneAt + v)) x ≡ v) × (nextWord (link t x (loneAt + v)) x ≡ x)
-  link-alone v free low h bare = rw (link-lone t x v) (alone-seat t _ L H x v free low h bare (reads-splice t (H .size) x x x v x low low low h))
-
-  -- an isolated vertex stays so, unless the dart was put there
-  pub still-isolated : (u : List ℕ) → Grown t u L x → (v : ℕ) → v < vertices → vertexWord t v ≡ isolated → leaves u x ≢ v → vertexWord u v ≡ isolated
-  still-isolated u G v h i n = elim (ℕ-discrete (vertexWord u v) isolated) [
-    | yes j ↦ j
-    | no j ↦
-        let s = G .held .smallest v h (λ z. let y : isolated ≡ nothing = sym i ∙ G .there v h .0 z in omega arith) j in
-        absurd (elim (plus-case L x (vertexWord u v) (s .live)) [
-          | new q ↦ n (ap (leaves u) (sym q) ∙ s .here)
-          | old m l ↦ H .alone v h i _ l (sym (G .from _ (H .low _ l) m) ∙ s .here)
-        ])
-  ]
-
-  taken-reads : L x ≡ true → Reads (taken t x) (upd (upd (nextWord t) (prevWord t x) (nextWord t x)) x nothing) (upd (upd (prevWord t) (nextWord t x) (prevWord t x)) x nothing) (upd (leaves t) x nothing) (edgeWord t) (vertexWord t)
-  taken-reads on = reads-cut t (H .size) x (nextWord t x) (prevWord t x) (H .low x on) (H .low _ (H .next-live x on)) (H .low _ (H .prev-live x on))
-
-  -- the words after a dart is taken out
-  pub unlink-reads : L x ≡ true → Reads (unlink t x) (upd (upd (nextWord t) (prevWord t x) (nextWord t x)) x nothing) (upd (upd (prevWord t) (nextWord t x) (prevWord t x)) x nothing) (upd (leaves t) x nothing) (edgeWord t)
-      (upd (vertexWord t) (leaves t x) (successor (taken t x) (leaves t x) x (vertexWord t (leaves t x))))
-  unlink-reads on = reads-vertex (taken-reads on) (leaves t x) _ (H .leaves-low x on)
-
-  pub unlink-shrunk : L x ≡ true → Shrunk t (unlink t x) L x
-  unlink-shrunk on =
-      out-shrunk t (unlink t x) L H x (nextWord t x) (prevWord t x) (leaves t x) (successor (taken t x) (leaves t x) x (vertexWord t (leaves t x))) on refl refl refl
-      (unlink-reads on)
-      (λ n. rw (ne-eqb _ _ n))
-      (λ e. subst (λ w. Sought (unlink t x) (leaves t x) x (darts - x) w) (sym (to-seek e)) (over (sought (taken t x) (leaves t x) x (darts - x))))
-    where
-      to-seek : vertexWord t (leaves t x) ≡ x → successor (taken t x) (leaves t x) x (vertexWord t (leaves t x)) ≡ seek (taken t x) (leaves t x) x (darts - x)
-      to-seek e = ap (λ b. choose b (seek (taken t x) (leaves t x) x (darts - x)) (vertexWord t (leaves t x))) (eq-eqb (vertexWord t (leaves t x)) x e)
-
-      same : (j : ℕ) → j < darts → leaves (unlink t x) j ≡ leaves (taken t x) j
-      same j h = leaves-vertex (taken t x) (leaves t x) _ j h
-
-      over : {w : ℕ} → Sought (taken t x) (leaves t x) x (darts - x) w → Sought (unlink t x) (leaves t x) x (darts - x) w
-      over {w} (found h b q least) =
-          let low = H .low x on in
-          found h b (same w (omega arith) ∙ q) (λ j a l. rw (same j (omega arith)) (least j a l))
-      over (none e out) = let low = H .low x on in none e (λ j a l. rw (same j (omega arith)) (out j a l))
-
--- the rotation reads the next words of live darts
-pub next-of : (t : List ℕ) (d : ℕ) → nextDart t d ≡ nextIn t (live? t) d
-unfolding nextDart nextIn
-next-of t d = refl
-
--- An edge word written changes no word of a dart or a vertex.
-module _ (t : List ℕ) (L : ℕ → Bool) (H : Held t L) (e w : ℕ) (h : e < edges) where
-  pub edge-held : Held (setEdge t e w) L
-  edge-held = held-kept t (setEdge t e w) L H (length-set t _ w ∙ H .size)
-      (λ d l. next-edge t e w d l) (λ d l. prev-edge t e w d l) (λ d l. leaves-edge t e w d l) (λ v l. vertex-edge t e w v h)
-
-  pub edge-next : (d : ℕ) → nextIn (setEdge t e w) L d ≡ nextIn t L d
-  edge-next d = elim (truth (L d)) [
-    | holds l ↦ next-in (setEdge t e w) L d l ∙ next-edge t e w d (H .low d l) ∙ sym (next-in t L d l)
-    | fails f ↦ next-out (setEdge t e w) L d f ∙ sym (next-out t L d f)
-  ]
-
--- the last of the writes
-pub insert-last : (t u v : List ℕ) (e c₁ c₂ c w : ℕ) → u ≡ link t (2 * e + 1) c₂ → c ≡ firstCorner e c₁ c₂ → v ≡ link u (2 * e) c → setEdge v e w ≡ inserted t e c₁ c₂ w
-insert-last t u v e c₁ c₂ c w p q r = ap (λ x. setEdge x e w) (r ∙ ap (λ x. link x (2 * e) c) p ∙ ap (link (link t (2 * e + 1) c₂) (2 * e)) q)
-
-pub delete-last : (t u v : List ℕ) (e : ℕ) → u ≡ unlink t (2 * e) → v ≡ unlink u (2 * e + 1) → setEdge v e 0 ≡ deleted t e
-delete-last t u v e p q = ap (λ x. setEdge x e 0) (q ∙ ap (λ x. unlink x (2 * e + 1)) p)

@@ -1,14 +1,6 @@
+pub mod Changes
+pub mod Edge
 pub mod Turns
 pub mod Verdicts
-pub mod Held
-pub mod Splice
-pub mod Link
-pub mod Unlink
-pub mod Edge
-pub mod Ready
-pub mod Deleted
-pub mod Inserted
-pub mod RoundTrip
 pub mod Edits
-pub mod Passed
-pub mod Changes
+pub mod laws

@@ -14,7 +14,7 @@ ghost use Prim.Native.Nat.{_*_, _+_, _<_};
 ghost use Rattle.edits.specs.Edge.{firstCorner, inserted, deleted};
 ghost use Rattle.edits.specs.Edits.{answer, edited};
 ghost use Rattle.edits.specs.declared.edit.Edit.the-variants.{InsertEdge, DeleteEdge, TurnEdge};
-ghost use Rattle.edits.specs.Ready.{InsertReady, DeleteReady};
+ghost use Rattle.edits.specs.laws.Ready.{InsertReady, DeleteReady};
 
 // Puts edge e, of word w, between corners c1 and c2. The second dart goes first, so that with one corner for both the first stands before it.
 fn insert(t: &mut [u16], e: usize, c1: usize, c2: usize, w: u16)

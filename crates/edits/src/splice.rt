@@ -9,11 +9,11 @@ ghost use mathlib.Core.Path.{_≡_};
 ghost use Prim.Native.Nat.{_≤_, _<_};
 ghost use lib.ListN.{length};
 ghost use Rattle.table.specs.Layout.{words, darts, vertices};
-ghost use Rattle.edits.specs.Splice.{splice, cut};
-ghost use Rattle.edits.specs.Link.{lesser};
-ghost use Rattle.edits.specs.Unlink.{successor, unlink};
+ghost use Rattle.edits.specs.Edge.{splice, cut};
+ghost use Rattle.edits.specs.Edge.{lesser};
+ghost use Rattle.edits.specs.Edge.{successor, unlink};
 ghost use Rattle.edits.specs.Edge.{link};
-ghost use Rattle.edits.specs.Ready.{SpliceReady, CutReady, LinkReady, UnlinkReady};
+ghost use Rattle.edits.specs.laws.Ready.{SpliceReady, CutReady, LinkReady, UnlinkReady};
 
 // The word by which an isolated vertex's corner is named, less the vertex.
 pub const LONE: usize = 32768;

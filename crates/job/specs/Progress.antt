@@ -8,18 +8,21 @@ use lib.ListN.{length, take}
 use lib.Seq.{sets, length-sets, length-take-le}
 use Rattle.table.specs.Layout.{words}
 use Rattle.table.specs.Good.{Good}
-use Rattle.table.specs.Empty.{emptied, empty-good}
+use Rattle.table.specs.Empty.{emptied}
+use Rattle.table.specs.laws.Empty.{empty-good}
 use borrow.Author.Tests.{eq-eqb}
-use Rattle.text.specs.Paste.{Pasted, pasted-length, paste, paste-length}
+use Rattle.text.specs.laws.Paste.{Pasted, pasted-length, paste-length}
+use Rattle.text.specs.Paste.{paste}
 use Rattle.report.specs.Lines.{report}
 use Rattle.runs.specs.declared.block.Block.{Block}
 use Rattle.runs.specs.Run.{run}
-use Rattle.runs.specs.Theorem.{run-good}
+use Rattle.runs.specs.laws.Theorem.{run-good}
 use Rattle.runs.specs.Reading.{reading}
-use Rattle.runs.specs.Lines.{lines, stopLine, stop-few}
+use Rattle.runs.specs.Lines.{lines, stopLine}
+use Rattle.runs.specs.laws.Lines.{stop-few}
 use Rattle.runs.specs.Blocks.{left}
-use Rattle.runs.specs.Running.{Ready}
-use Rattle.runs.specs.Moving.{blockOf, block-fits}
+use Rattle.runs.specs.laws.Running.{Ready}
+use Rattle.runs.specs.laws.Moving.{blockOf, block-fits}
 
 -- what a block leaves, in the table and in the buffer for the lines
 pub record Leaves (number : ℕ) (t out : List ℕ) (b : Block) : Type 0 where

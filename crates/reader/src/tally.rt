@@ -8,8 +8,8 @@ use weave::letter::crossings;
 use weave::letter::edge_word;
 ghost use Prim.Native.Nat.{_<_};
 ghost use mathlib.Core.Path.{_≡_};
-ghost use Rattle.tracing.specs.Has.{times};
-ghost use Rattle.tracing.specs.Stands.{Stands};
+ghost use Rattle.tracing.specs.Met.{times};
+ghost use Rattle.tracing.specs.laws.Stands.{Stands};
 ghost use Rattle.weave.specs.Letters.{over, lettersOn};
 ghost use Rattle.reader.specs.Forward.{forwardOf, tallyOf};
 

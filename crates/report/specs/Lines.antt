@@ -1,6 +1,6 @@
 -- The lines that the job program prints after reading, document 01, "The job program", as bytes.
 --     meshLine, partLine, walkLine, weaveLine     the lines;     report     all of them, in their order
-use Prim.Native.Nat.{ℕ, suc, _+_, _-_, _*_, _/_, _%_}
+use Prim.Native.Nat.{ℕ, suc, _-_, _*_, _/_, _%_}
 use mathlib.Core.Bool.{Bool, true, false}
 use mathlib.Core.List.{List, [], _∷_, _++_}
 use lib.Dec.{ltb}
@@ -11,7 +11,7 @@ use Rattle.tracing.specs.Walk.{walk}
 use Rattle.tracing.specs.Listing.{gather, loneAt, faces, faceCount}
 use Rattle.surface.specs.Labels.{orientable}
 use Rattle.surface.specs.Counts.{vertexCount, edgeCount}
-use Rattle.surface.specs.Sums.{parts}
+use Rattle.surface.specs.Parts.{parts}
 use Rattle.surface.specs.Signed.{partEuler, meshEuler}
 use Rattle.weave.specs.Letters.{stepLetters, plain}
 use Rattle.text.specs.Decimal.{decimal, integer}

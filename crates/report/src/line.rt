@@ -11,7 +11,7 @@ ghost use Rattle.table.specs.Good.{Good};
 ghost use Rattle.table.specs.Rotation.{rotation};
 ghost use Rattle.text.specs.Decimal.{decimal, integer as integerText};
 ghost use Rattle.report.specs.Lines.{space, meshText, meshLine, weaveLine};
-ghost use Rattle.report.specs.Wrote.{Wrote};
+ghost use Rattle.report.specs.laws.Wrote.{Wrote};
 
 // A space and n.
 pub fn field(out: &mut [u8], from: usize, at: usize, n: u64) -> usize

@@ -16,10 +16,10 @@ ghost use Rattle.table.specs.Good.{Good};
 ghost use Rattle.table.specs.Rotation.{rotation};
 ghost use Rattle.tracing.specs.Listing.{gather, only};
 ghost use Rattle.surface.specs.Signed.{eulerOf};
-ghost use Rattle.surface.specs.Sums.{root?, parts};
+ghost use Rattle.surface.specs.Parts.{root?, parts};
 ghost use Rattle.report.specs.Lines.{side as sideOf, partText, partLine};
-ghost use Rattle.report.specs.Wrote.{Wrote, parts-most};
-ghost use Rattle.report.specs.Parts.{Tallied, TalliedAt};
+ghost use Rattle.report.specs.laws.Wrote.{Wrote, parts-most};
+ghost use Rattle.report.specs.laws.Parts.{Tallied, TalliedAt};
 
 // o where no edge is twisted, else n.
 fn side(twisted: u16) -> u8

@@ -10,11 +10,11 @@ ghost use Prim.Native.Nat.{_<_, _^_};
 ghost use Rattle.table.specs.Rotation.{rotation};
 ghost use Rattle.tracing.specs.Walk.{walk};
 ghost use Rattle.tracing.specs.Listing.{gather};
-ghost use Rattle.tracing.specs.Stands.{Stands};
+ghost use Rattle.tracing.specs.laws.Stands.{Stands};
 ghost use Rattle.weave.specs.Letters.{lettersOn};
 ghost use Rattle.report.specs.Lines.{stepText};
-ghost use Rattle.report.specs.Wrote.{Wrote, steps-most};
-ghost use Rattle.report.specs.Steps.{Crossed};
+ghost use Rattle.report.specs.laws.Wrote.{Wrote, steps-most};
+ghost use Rattle.report.specs.laws.Steps.{Crossed};
 
 // The letters of a step of type `kind` on an edge of word w.
 fn write_letters(out: &mut [u8], from: usize, at: usize, w: u16, kind: u16) -> usize

@@ -12,8 +12,8 @@ use tracing::count::look;
 ghost use Prim.Native.Nat.{_<_, _≤_, _^_};
 ghost use Rattle.table.specs.Good.{Good};
 ghost use Rattle.report.specs.Lines.{walkLine};
-ghost use Rattle.report.specs.Wrote.{Wrote, lones-most, walk-most};
-ghost use Rattle.report.specs.Walks.{WalkAt, DartAt, Placed, PlacedAll, LoneAt, PlacedLone, loneText, lonesText};
+ghost use Rattle.report.specs.laws.Wrote.{Wrote, lones-most, walk-most};
+ghost use Rattle.report.specs.laws.Walks.{WalkAt, DartAt, Placed, PlacedAll, LoneAt, PlacedLone, loneText, lonesText};
 
 // Where the text stands, and the index of the next walk.
 pub struct Place {

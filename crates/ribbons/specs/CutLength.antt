@@ -1,11 +1,9 @@
 -- The cut length of a ribbon, document 01, "Over and under", and what the call for it answers.
-use Prim.Native.Nat.{ℕ, _+_, _/_, _<_, _≤_}
-use mathlib.Core.Path.{_≡_, sym, _∙_, ap}
+use Prim.Native.Nat.{ℕ, _+_, _/_}
 use mathlib.Core.Bool.{Bool, true, false, _||_}
 use mathlib.Core.List.{List, [], _∷_}
 use lib.Dec.{ltb}
 use lib.ListN.{length, getD}
-use borrow.Author.Tests.{lt-ltb, le-ltb}
 use Rattle.table.specs.Layout.{edges, edgeOf}
 use Rattle.table.specs.Rotation.{rotation}
 use Rattle.table.specs.declared.answer.Answer.{Answer}
@@ -48,15 +46,3 @@ cutLengthBy t lengths (Refused r) = Declined r
 -- "Cut length of a ribbon, named by any step on it"
 abbrev pub cutLengthOf : List ℕ → ℕ → ℕ → List ℕ → Answer
 cutLengthOf t d k lengths = cutLengthBy t lengths (namedStep t d k)
-
--- the ends of the call
-
-module _ (t : List ℕ) (d k : ℕ) (lengths : List ℕ) {n : Named} (e : n ≡ namedStep t d k) where
-  pub cut-refused : {r : Refusal} → n ≡ Refused r → Declined r ≡ cutLengthOf t d k lengths
-  cut-refused f = sym (ap (cutLengthBy t lengths) (sym e ∙ f))
-
-  pub cut-short : {s : ℕ} → n ≡ There s → length lengths < edges → Declined ShortSlice ≡ cutLengthOf t d k lengths
-  cut-short {s} f h = sym (ap (cutLengthBy t lengths) (sym e ∙ f) ∙ rw (lt-ltb (length lengths) edges h))
-
-  pub cut-along : {s : ℕ} {a : Answer} → n ≡ There s → edges ≤ length lengths → a ≡ lengthAlong lengths (walk (rotation t) s) → a ≡ cutLengthOf t d k lengths
-  cut-along {s} f h g = g ∙ sym (ap (cutLengthBy t lengths) (sym e ∙ f) ∙ rw (le-ltb (length lengths) edges h))

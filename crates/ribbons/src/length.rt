@@ -9,7 +9,7 @@ ghost use Prim.Native.Nat.{_≤_};
 ghost use mathlib.Core.Path.{_≡_};
 ghost use lib.ListN.{length};
 ghost use Rattle.table.specs.Rotation.{rotation};
-ghost use Rattle.tracing.specs.Stands.{Stands};
+ghost use Rattle.tracing.specs.laws.Stands.{Stands};
 ghost use Rattle.tracing.specs.Walk.{walk};
 ghost use Rattle.ribbons.specs.CutLength.{lengthAlong, cutLengthOf};
 

@@ -4,7 +4,7 @@ ghost use Prim.Native.Nat.{_+_, _≤_, _<_};
 ghost use mathlib.Core.Path.{_≡_};
 ghost use lib.ListN.{length};
 ghost use Rattle.ribbons.specs.Path.{farthestPoint, past, farThree, farStep};
-ghost use Rattle.ribbons.specs.Places.{Lent};
+ghost use Rattle.ribbons.specs.laws.Places.{Lent};
 
 // In sixteenths of a millimetre.
 pub const FARTHEST_POINT: u32 = 65536;

@@ -7,11 +7,11 @@ ghost use Prim.Native.Nat.{_<_};
 ghost use mathlib.Core.Path.{_≡_};
 ghost use mathlib.Core.Bool.{_||_};
 ghost use Rattle.table.specs.Rotation.{rotation};
-ghost use Rattle.tracing.specs.Stands.{Stands};
+ghost use Rattle.tracing.specs.laws.Stands.{Stands};
 ghost use Rattle.tracing.specs.Walk.{walk};
 ghost use Rattle.ribbons.specs.Path.{manyTurns};
-ghost use Rattle.ribbons.specs.Places.{Lent};
-ghost use Rattle.ribbons.specs.Survey.{surveyOf, surveyWith};
+ghost use Rattle.ribbons.specs.laws.Places.{Lent};
+ghost use Rattle.ribbons.specs.laws.Survey.{surveyOf, surveyWith};
 
 // The number of steps; has an edge more than one turn; is a point or a lift out of range.
 pub struct Survey {

@@ -9,7 +9,7 @@ ghost use mathlib.Core.Path.{_≡_};
 ghost use lib.ListN.{length};
 ghost use Rattle.table.specs.Output.{front};
 ghost use Rattle.ribbons.specs.Path.{kindsOf, floatsOf, text, pathFrom};
-ghost use Rattle.ribbons.specs.Laying.{Wrote, Room, Laid};
+ghost use Rattle.ribbons.specs.laws.Laying.{Wrote, Room, Laid};
 
 // Piece n of a path.
 fn write_piece(kinds: &mut [u16], coords: &mut [f32], n: usize, p: Piece)

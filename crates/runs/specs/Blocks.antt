@@ -1,22 +1,13 @@
 -- Why the job program may read its input in blocks: what it prints for a block and then for the bytes that are left is what it prints for all.
--- Assumes nothing.
-use Prim.Native.Nat.{ℕ, _+_, _<_}
-use native.Mathlib.Omega.{arith}
-use native.Mathlib.Nat.{add-assoc}
-use mathlib.Core.Path.{_≡_, sym, _∙_, ap, ap₂}
-use mathlib.Core.Logic.{_≢_}
+use Prim.Native.Nat.{ℕ, _+_}
 use mathlib.Core.Bool.{cond}
-use mathlib.Core.List.{List, [], _++_, append-assoc}
+use mathlib.Core.List.{List, [], _++_}
 use lib.Dec.{eqb}
-use borrow.Author.Tests.{eqb-true, eqb-false, eq-eqb, ne-eqb}
-use Rattle.orbits.specs.Truth.{truth, holds, fails}
-use Rattle.runs.specs.Records.{}
-use lib.ListN.{length, drop, length-append, length-drop}
+use lib.ListN.{length, drop}
 use Rattle.table.specs.Answers.{numberOf}
 use Rattle.table.specs.declared.answer.Refusal.the-variants.{BadMark}
-use Rattle.runs.specs.Run.{run, run-append}
-use Rattle.runs.specs.Reading.{Reading, reading, joined, reading-blocks, reading-bad, reading-bounds}
-use Rattle.runs.specs.Lines.{stopLine, lines, lines-append}
+use Rattle.runs.specs.Reading.{Reading, reading}
+use Rattle.runs.specs.Lines.{stopLine, lines}
 
 -- the "no" lines of a reading from record n on, over table t
 abbrev pub printedBy : List ℕ → ℕ → Reading → List ℕ
@@ -25,53 +16,6 @@ printedBy t n r = lines t n (r .edits) ++ stopLine (n + length (r .edits)) (r .s
 unfoldable pub printed : List ℕ → ℕ → List ℕ → List ℕ
 printed t n s = printedBy t n (reading s)
 
-printed-joined : (t : List ℕ) (n : ℕ) (r q : Reading) → printedBy t n (joined r q) ≡ lines t n (r .edits) ++ printedBy (run t (r .edits)) (n + length (r .edits)) q
-printed-joined t n r q =
-    ap₂ _++_ (lines-append t n (r .edits) (q .edits)) (ap (λ k. stopLine k (q .stop)) (ap (λ k. n + k) (length-append (r .edits) (q .edits)) ∙ sym (add-assoc n (length (r .edits)) (length (q .edits)))))
-    ∙ append-assoc (lines t n (r .edits)) (lines (run t (r .edits)) (n + length (r .edits)) (q .edits)) (stopLine (n + length (r .edits) + length (q .edits)) (q .stop))
-
 -- the bytes that are read again, before those that come: none after a bad mark
 unfoldable pub left : List ℕ → List ℕ
 left s = cond (eqb (reading s .stop) (numberOf BadMark)) [] (drop (reading s .taken) s)
-
-pub left-none : (s : List ℕ) → reading s .stop ≡ numberOf BadMark → left s ≡ []
-unfolding left
-left-none s e = rw (eq-eqb (reading s .stop) (numberOf BadMark) e)
-
-pub left-some : (s : List ℕ) → reading s .stop ≢ numberOf BadMark → left s ≡ drop (reading s .taken) s
-unfolding left
-left-some s e = rw (ne-eqb (reading s .stop) (numberOf BadMark) e)
-
--- fewer bytes than the longest record has
-pub left-few : (s : List ℕ) → length (left s) < 10
-left-few s = elim (truth (eqb (reading s .stop) (numberOf BadMark))) [
-  | holds e ↦ rw (left-none s (eqb-true (reading s .stop) (numberOf BadMark) e)) (omega arith)
-  | fails e ↦
-      let q = eqb-false (reading s .stop) (numberOf BadMark) e in
-      let rest = reading-bounds s .rest q in
-      rw (left-some s q, length-drop (reading s .taken) s) rest
-]
-
-reading-left : (a b : List ℕ) → reading a .stop ≢ numberOf BadMark → reading (a ++ b) ≡ joined (reading a) (reading (left a ++ b))
-reading-left a b h = reading-blocks a b h ∙ ap (λ l. joined (reading a) (reading (l ++ b))) (sym (left-some a h))
-
--- a block `a`, and what comes after it
-module _ (t : List ℕ) (n : ℕ) (a b : List ℕ) where
-  -- the bytes of the block that are left are read again, before those that come
-  module _ (h : reading a .stop ≢ numberOf BadMark) where
-    pub printed-blocks : printed t n (a ++ b)
-        ≡ lines t n (reading a .edits) ++ printed (run t (reading a .edits)) (n + length (reading a .edits)) (left a ++ b)
-    unfolding printed
-    printed-blocks = ap (printedBy t n) (reading-left a b h) ∙ printed-joined t n (reading a) (reading (left a ++ b))
-
-    pub run-blocks : run t (reading (a ++ b) .edits) ≡ run (run t (reading a .edits)) (reading (left a ++ b) .edits)
-    run-blocks = ap (λ r. run t (r .edits)) (reading-left a b h) ∙ run-append t (reading a .edits) (reading (left a ++ b) .edits)
-
-  -- after a bad mark nothing is read
-  module _ (h : reading a .stop ≡ numberOf BadMark) where
-    pub printed-bad : printed t n (a ++ b) ≡ printed t n a
-    unfolding printed
-    printed-bad = ap (printedBy t n) (reading-bad a b h)
-
-    pub run-bad : run t (reading (a ++ b) .edits) ≡ run t (reading a .edits)
-    run-bad = ap (λ r. run t (r .edits)) (reading-bad a b h)

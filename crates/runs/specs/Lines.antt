@@ -1,21 +1,12 @@
 -- The lines for records that are declined, document 01, "The job program".
--- Assumes nothing.
-use Prim.Native.Nat.{ℕ, zero, suc, _+_, _*_, _≤_, _<_, _^_}
-use native.Mathlib.Omega.{arith}
-use native.Mathlib.Nat.{add-zero}
-use mathlib.Core.Path.{_≡_, refl, sym, _∙_, ap}
-use mathlib.Core.Logic.{_≢_}
-use mathlib.Core.List.{List, [], _∷_, _++_, append-assoc, append-nil}
-use lib.ListN.{length, length-append}
-use Rattle.text.specs.Decimal.{decimal, decimal-short, decimal-few}
+use Prim.Native.Nat.{ℕ, zero, suc}
+use mathlib.Core.List.{List, [], _∷_, _++_}
+use Rattle.text.specs.Decimal.{decimal}
 use Rattle.table.specs.Answers.{numberOf}
 use Rattle.table.specs.declared.answer.Answer.{Answer}
 use Rattle.table.specs.declared.answer.Answer.the-variants.{Done, Declined}
-use Rattle.table.specs.declared.answer.Refusal.{Refusal}
-use Rattle.table.specs.declared.answer.Refusal.the-variants.{Torn, NoSuchName, Taken, Absent, Joined, Overturned, ShortSlice, ManyTurns, Far, BadMark, CutRecord}
 use Rattle.edits.specs.Edits.{answer, edited}
 use Rattle.edits.specs.declared.edit.Edit.{Edit}
-use Rattle.runs.specs.Run.{run}
 
 -- "no", record, number. "One space between fields, a newline after each line."
 abbrev pub noLine : ℕ → ℕ → List ℕ
@@ -38,61 +29,3 @@ lines t n (E ∷ Es) = editLine t n E ++ lines (edited t E) (suc n) Es
 unfoldable pub stopLine : ℕ → ℕ → List ℕ
 stopLine n zero = []
 stopLine n (suc r) = noLine n (suc r)
-
-pub stop-some : (n r : ℕ) → r ≢ 0 → noLine n r ≡ stopLine n r
-unfolding stopLine
-stop-some n zero h = absurd (h refl)
-stop-some n (suc r) h = refl
-
--- a run that goes on
-pub lines-append : (t : List ℕ) (n : ℕ) (Es Fs : List Edit) → lines t n (Es ++ Fs) ≡ lines t n Es ++ lines (run t Es) (n + length Es) Fs
-unfolding lines run
-lines-append t n [] Fs = rw add-zero
-lines-append t n (E ∷ Es) Fs =
-    let e : suc n + length Es ≡ n + suc (length Es) = omega arith in
-    ap (λ l. editLine t n E ++ l) (lines-append (edited t E) (suc n) Es Fs ∙ ap (λ k. lines (edited t E) (suc n) Es ++ lines (run (edited t E) Es) k Fs) e)
-    ∙ sym (append-assoc (editLine t n E) (lines (edited t E) (suc n) Es) (lines (run (edited t E) Es) (n + suc (length Es)) Fs))
-
-pub lines-one : (t : List ℕ) (n : ℕ) (E : Edit) → lines t n (E ∷ []) ≡ editLine t n E
-unfolding lines
-lines-one t n E = append-nil (editLine t n E)
-
--- a line has at most 27 bytes
-
-number-low : (r : Refusal) → numberOf r ≤ 11
-number-low Torn = omega arith
-number-low NoSuchName = omega arith
-number-low Taken = omega arith
-number-low Absent = omega arith
-number-low Joined = omega arith
-number-low Overturned = omega arith
-number-low ShortSlice = omega arith
-number-low ManyTurns = omega arith
-number-low Far = omega arith
-number-low BadMark = omega arith
-number-low CutRecord = omega arith
-
-number-few : (r : Refusal) → length (decimal (numberOf r)) ≤ 2
-number-few r = let low = number-low r in decimal-short 1 (numberOf r) (omega arith)
-
-answer-few : (n : ℕ) (a : Answer) → n < 2 ^ 64 → length (lineBy n a) ≤ 27
-answer-few n (Done f) h = omega arith
-answer-few n (Declined r) h = let few = decimal-few n h in let two = number-few r in simp length-append (omega arith)
-
-line-few : (t : List ℕ) (n : ℕ) (E : Edit) → n < 2 ^ 64 → length (editLine t n E) ≤ 27
-unfolding editLine
-line-few t n E h = answer-few n (answer t E) h
-
-pub lines-few : (t : List ℕ) (n : ℕ) (Es : List Edit) → n + length Es ≤ 2 ^ 64 → length (lines t n Es) ≤ 27 * length Es
-unfolding lines
-lines-few t n [] h = omega arith
-lines-few t n (E ∷ Es) h =
-    let one = line-few t n E (omega arith) in
-    let rest = lines-few (edited t E) (suc n) Es (omega arith) in
-    rw length-append (omega arith)
-
--- the last line, whatever its number
-pub stop-few : (n r : ℕ) → n < 2 ^ 64 → r < 2 ^ 64 → length (stopLine n r) ≤ 45
-unfolding stopLine
-stop-few n zero h l = omega arith
-stop-few n (suc r) h l = let first = decimal-few n h in let second = decimal-few (suc r) l in simp length-append (omega arith)

@@ -1,5 +1,4 @@
 -- Job records, document 01, "The job program": the first record of some bytes.
--- Assumes nothing.
 use Prim.Native.Nat.{ℕ, _+_, _-_, _*_}
 use mathlib.Core.Bool.{cond}
 use mathlib.Core.List.{List}

@@ -1,8 +1,6 @@
 -- A run of edits, document 01, "Runs of edits": any list of the five edits with any arguments, over one table.
--- Assumes nothing.
 use Prim.Native.Nat.{ℕ}
-use mathlib.Core.Path.{_≡_, refl}
-use mathlib.Core.List.{List, [], _∷_, _++_}
+use mathlib.Core.List.{List, [], _∷_}
 use lib.IntN.{ℤ, pos, negsuc, _+ℤ_}
 use Rattle.table.specs.Rotation.{rotation}
 use Rattle.tracing.specs.Listing.{faceCount}
@@ -41,12 +39,3 @@ called t (E ∷ Es) = calls t E +ℤ called (edited t E) Es
 -- "Its start count is the number of listed walks before the run."
 abbrev pub faceNumber : List ℕ → ℤ
 faceNumber t = pos (faceCount (rotation t))
-
-pub run-append : (t : List ℕ) (Es Fs : List Edit) → run t (Es ++ Fs) ≡ run (run t Es) Fs
-unfolding run
-run-append t [] Fs = refl
-run-append t (E ∷ Es) Fs = run-append (edited t E) Es Fs
-
-pub run-one : (t : List ℕ) (E : Edit) → run t (E ∷ []) ≡ edited t E
-unfolding run
-run-one t E = refl

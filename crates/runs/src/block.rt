@@ -8,8 +8,8 @@ ghost use Rattle.runs.specs.Run.{run};
 ghost use Rattle.runs.specs.Reading.{reading};
 ghost use Rattle.runs.specs.Lines.{lines};
 ghost use Rattle.runs.specs.Blocks.{left};
-ghost use Rattle.runs.specs.Running.{Ready};
-ghost use Rattle.runs.specs.Moving.{blockOf};
+ghost use Rattle.runs.specs.laws.Running.{Ready};
+ghost use Rattle.runs.specs.laws.Moving.{blockOf};
 
 // What became of a block.
 pub struct Block {

@@ -6,7 +6,7 @@ use text::window::bytes;
 ghost use Prim.Native.Nat.{_≤_, _^_};
 ghost use mathlib.Core.Path.{_≡_};
 ghost use Rattle.table.specs.Answers.{numberOf};
-ghost use Rattle.text.specs.Paste.{Pasted};
+ghost use Rattle.text.specs.laws.Paste.{Pasted};
 ghost use Rattle.runs.specs.Lines.{noLine, stopLine};
 
 // A refusal's number in document 01.

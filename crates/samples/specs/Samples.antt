@@ -1,6 +1,5 @@
 -- Document 01, "Samples (P: to be proved)", 1 to 6: for each the edits from the empty mesh, what they answer, and what is said of the
 -- table that they leave. Nothing else has to be believed: every fact is an equation with a definition of the crates below.
--- Assumes nothing.
 use Prim.Native.Nat.{ℕ, _*_}
 use mathlib.Core.Path.{_≡_}
 use mathlib.Core.Bool.{Bool, true, false}
@@ -18,7 +17,7 @@ use Rattle.edits.specs.Edits.{edited, answer}
 use Rattle.edits.specs.declared.edit.Edit.{Edit}
 use Rattle.edits.specs.declared.edit.Edit.the-variants.{AddVertex, InsertEdge, TurnEdge}
 use Rattle.surface.specs.Labels.{orientable}
-use Rattle.surface.specs.Sums.{parts}
+use Rattle.surface.specs.Parts.{parts}
 use Rattle.surface.specs.Signed.{meshEuler}
 use Rattle.weave.specs.Letters.{plain}
 use Rattle.runs.specs.Run.{run}

@@ -4,85 +4,25 @@
 --     Fits, MarksOn        the marks agree with an edge; with each edge of a part
 --     Orientable           such marks exist
 --     orient-fits, fits-orient     the same with sums: the turns and the marks of the two ends add to an even number
-use Prim.Native.Nat.{ℕ, _+_, _%_, _<_}
-use native.Mathlib.Omega.{arith}
-use mathlib.Core.Path.{_≡_, _∙_}
+use Prim.Native.Nat.{ℕ, _%_, _<_}
+use mathlib.Core.Path.{_≡_}
 use mathlib.Core.Bool.{Bool, true}
-use mathlib.Core.Logic.{_↔_, _≢_}
+use mathlib.Core.Logic.{_↔_}
 use Rattle.table.specs.Layout.{rev}
-use Rattle.table.specs.Rotation.{Rotation, Lawful}
-use Rattle.table.specs.Lawful.{rev-rev}
-use Rattle.orbits.specs.Truth.{same-truth}
-use Rattle.surgery.specs.PlacesIn.{Kept}
-use Rattle.tracing.specs.Step.{type?, is-zero, is-one}
+use Rattle.table.specs.Rotation.{Rotation}
 
 -- "a chain of live edges joins them"; with no edge in it, a chain joins a vertex with itself: "an isolated vertex is a part alone"
 pub data Chain (R : Rotation) (u : ℕ) : ℕ → Type 0 where
   here : Chain R u u
   along : (d : ℕ) → R .live d ≡ true → Chain R u (R .from d) → Chain R u (R .from (rev d))
 
-pub chain-ind : (R : Rotation) (u : ℕ) (P : ℕ → Type 0) → P u
-    → ((d : ℕ) → R .live d ≡ true → Chain R u (R .from d) → P (R .from d) → P (R .from (rev d)))
-    → (w : ℕ) → Chain R u w → P w
-chain-ind R u P base step w here = base
-chain-ind R u P base step w (along d l c) = step d l c (chain-ind R u P base step (R .from d) c)
-
-pub chain-trans : {R : Rotation} {u v w : ℕ} → Chain R u v → Chain R v w → Chain R u w
-chain-trans {R} {u} {v} {w} c k = chain-ind R v (Chain R u) c (λ d l m t. along d l t) w k
-
--- one live edge
-pub chain-edge : (R : Rotation) (d : ℕ) → R .live d ≡ true → Chain R (R .from d) (R .from (rev d))
-chain-edge R d l = along d l here
-
-pub chain-back : {R : Rotation} → Lawful R → (d : ℕ) → R .live d ≡ true → Chain R (R .from (rev d)) (R .from d)
-chain-back {R} L d l = rw (rev-rev d) at (chain-edge R (rev d) (L .live-rev d ∙ l))
-
-pub chain-sym : {R : Rotation} {u v : ℕ} → Lawful R → Chain R u v → Chain R v u
-chain-sym {R} {u} {v} L c = chain-ind R u (λ w. Chain R w u) here (λ d l m t. chain-trans (chain-back L d l) t) v c
-
 -- Q is the part of r
 pub record PartOf (R : Rotation) (r : ℕ) (Q : ℕ → Bool) : Type 0 where
   pub joins : (w : ℕ) → Q w ≡ true → Chain R r w
   pub all : (w : ℕ) → Chain R r w → Q w ≡ true
-
--- the ends of an edge of a part are both in it
-pub part-kept : {R : Rotation} {r : ℕ} {Q : ℕ → Bool} → Lawful R → PartOf R r Q → Kept R Q
-part-kept {R} {r} {Q} L P = record {
-  edge = λ d l. same-truth (Q (R .from (rev d))) (Q (R .from d))
-      (λ t. P .all (R .from d) (chain-trans (P .joins (R .from (rev d)) t) (chain-back L d l)))
-      (λ t. P .all (R .from (rev d)) (along d l (P .joins (R .from d) t)));
-}
 
 -- "A part is orientable if its vertices can be marked 0 or 1 so that each edge's turns are even exactly when its ends' marks agree."
 pub record Orientable (R : Rotation) (Q : ℕ → Bool) : Type 0 where
   pub mark : ℕ → ℕ
   pub bit : (w : ℕ) → mark w < 2
   pub agree : (d : ℕ) → R .live d ≡ true → Q (R .from d) ≡ true → (R .turns d % 2 ≡ 0) ↔ (mark (R .from d) ≡ mark (R .from (rev d)))
-
--- the same with a sum: the turns and the marks add to an even number
-abbrev pub Fits : Rotation → (ℕ → ℕ) → ℕ → Type 0
-Fits R m d = (R .turns d + m (R .from d) + m (R .from (rev d))) % 2 ≡ 0
-
-pub record MarksOn (R : Rotation) (Q : ℕ → Bool) (m : ℕ → ℕ) : Type 0 where
-  pub fits : (d : ℕ) → R .live d ≡ true → Q (R .from d) ≡ true → Fits R m d
-
-pub orient-fits : {R : Rotation} {Q : ℕ → Bool} (o : Orientable R Q) → MarksOn R Q (o .mark)
-orient-fits {R} o = record {
-  fits = λ d l q.
-      let a = o .bit (R .from d) in
-      let b = o .bit (R .from (rev d)) in
-      let i = o .agree d l q in
-      elim (type? (R .turns d)) [
-        | is-zero e ↦ let same = i .0 e in omega arith
-        | is-one e ↦
-            let other : o .mark (R .from d) ≢ o .mark (R .from (rev d)) = λ s. let z = i .1 s in omega arith in
-            omega arith
-      ];
-}
-
-pub fits-orient : {R : Rotation} {Q : ℕ → Bool} {m : ℕ → ℕ} → MarksOn R Q m → Orientable R Q
-fits-orient {R} {Q} {m} M = record {
-  mark = λ w. m w % 2;
-  bit = λ w. omega arith;
-  agree = λ d l q. let f = M .fits d l q in (λ e. omega arith, λ e. omega arith);
-}

@@ -2,18 +2,13 @@
 --     verticesIn, edgesIn, walksIn     those at the vertices that pass a test
 --     walks-faces                      the listed walks in a part are its faces: what the counts of crate `orbits` speak of
 --     EulerLaws                        what holds of a part's V-E+F
-use Prim.Native.Nat.{ℕ, _+_, _*_, _%_, _≤_}
-use mathlib.Core.Path.{_≡_}
+use Prim.Native.Nat.{ℕ, _*_}
 use mathlib.Core.Bool.{Bool, _&&_}
 use Rattle.table.specs.Layout.{vertices, edges}
-use Rattle.table.specs.Rotation.{Rotation, Lawful}
+use Rattle.table.specs.Rotation.{Rotation}
 use Rattle.orbits.specs.Count.{count}
-use Rattle.orbits.specs.Faces.{faces}
-use Rattle.tracing.specs.Place.{places, trace, flip}
-use Rattle.tracing.specs.FaceCount.{facesIn, faces-part}
-use Rattle.surgery.specs.PlacesIn.{Kept}
-use Rattle.surface.specs.Chain.{Orientable}
-use Rattle.surgery.specs.PlacesIn.{placesIn, placesIn-part}
+use Rattle.tracing.specs.laws.FaceCount.{facesIn}
+use Rattle.surgery.specs.laws.PlacesIn.{placesIn}
 
 -- "V, E, F are live vertices, live edges, listed walks"; F is tracing's `faceCount`
 unfoldable pub vertexCount : Rotation → ℕ
@@ -33,16 +28,3 @@ edgesIn R Q = count (λ e. R .live (2 * e) && Q (R .from (2 * e))) edges
 -- "A walk is in the part whose corners it meets."
 unfoldable pub walksIn : Rotation → (ℕ → Bool) → ℕ
 walksIn R Q = facesIn R (placesIn R Q)
-
-abbrev pub facesAt : Rotation → (ℕ → Bool) → ℕ
-facesAt R Q = faces (trace R) (flip R) places (placesIn R Q)
-
-pub walks-faces : {R : Rotation} {Q : ℕ → Bool} → Lawful R → Kept R Q → walksIn R Q ≡ facesAt R Q
-unfolding walksIn
-walks-faces {R} {Q} L K = faces-part R L (placesIn R Q) (placesIn-part L K)
-
--- V-E+F is at most 2, even if the part is orientable, and at most 1 if not; here with F the number of faces
-pub record EulerLaws (R : Rotation) (Q : ℕ → Bool) (F : ℕ) : Type 0 where
-  pub bound : verticesIn R Q + F ≤ edgesIn R Q + 2
-  pub even : Orientable R Q → (verticesIn R Q + edgesIn R Q + F) % 2 ≡ 0
-  pub less : ¬ Orientable R Q → verticesIn R Q + F ≤ edgesIn R Q + 1

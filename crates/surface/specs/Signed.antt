@@ -2,22 +2,16 @@
 --     eulerOf              V-E+F;     partEuler, meshEuler     of a part and of the mesh
 --     PartLaws, part-laws      at most 2, even if the part is orientable, at most 1 if not
 --     mesh-sum             the mesh's is the sum of its parts';     empty-euler     of the empty mesh 0
-use Prim.Native.Nat.{ℕ, suc, _+_, _-_, _%_, _<_, _≤_}
-use native.Mathlib.Omega.{arith}
-use native.Mathlib.Decide.{decLe}
-use mathlib.Core.Path.{_≡_, refl, sym, _∙_, ap}
+use Prim.Native.Nat.{ℕ, _%_}
+use mathlib.Core.Path.{_≡_}
 use mathlib.Core.Bool.{true, false}
 use mathlib.Core.List.{List, [], _∷_}
-use lib.Dec.{le→leb}
-use lib.IntN.{ℤ, pos, negsuc, negℤ, natAbs, _+ℤ_, _-ℤ_, +ℤ-assoc, +ℤ-comm, negℤ-+ℤ, negℤ-negℤ, +ℤ-negℤ-cancel}
+use lib.IntN.{ℤ, pos, natAbs, _+ℤ_, _-ℤ_}
 use lib.Signed.{_≤ℤ_}
-use Rattle.table.specs.Rotation.{Rotation, Lawful}
-use Rattle.orbits.specs.Truth.{clash}
+use Rattle.table.specs.Rotation.{Rotation}
 use Rattle.tracing.specs.Listing.{faceCount}
-use Rattle.surface.specs.Labels.{inPart, inPart-of, orientable, orientable-marks}
+use Rattle.surface.specs.Labels.{inPart, orientable}
 use Rattle.surface.specs.Counts.{vertexCount, edgeCount, verticesIn, edgesIn, walksIn}
-use Rattle.surface.specs.Euler.{Closed, euler}
-use Rattle.surface.specs.Sums.{root?, root-there, root-label, parts, total, vertices-sum, edges-sum, faces-sum, empty-vertices, empty-edges, empty-faces}
 
 -- V-E+F
 unfoldable pub eulerOf : ℕ → ℕ → ℕ → ℤ
@@ -30,91 +24,13 @@ partEuler R r = eulerOf (verticesIn R (inPart R r)) (edgesIn R (inPart R r)) (wa
 unfoldable pub meshEuler : Rotation → ℤ
 meshEuler R = eulerOf (vertexCount R) (edgeCount R) (faceCount R)
 
--- a difference of natural numbers is one or the opposite of one
-pub data Difference (a b : ℕ) (z : ℤ) : Type 0 where
-  above : b ≤ a → z ≡ pos (a - b) → Difference a b z
-  under : a < b → z ≡ negsuc (b - suc a) → Difference a b z
-
-minus : (a b : ℕ) → b ≤ a → pos a -ℤ pos b ≡ pos (a - b)
-minus a b h =
-    let sum : a ≡ a - b + b = omega arith in
-    ap (λ k. pos k -ℤ pos b) sum ∙ +ℤ-negℤ-cancel (pos (a - b)) (pos b)
-
-pub difference : (a b : ℕ) → Difference a b (pos a -ℤ pos b)
-difference a b = elim (decLe b a) [
-  | yes h ↦ above h (minus a b h)
-  | no h ↦
-      let back : pos a -ℤ pos b ≡ negℤ (pos b -ℤ pos a) =
-      sym (negℤ-+ℤ (pos b) (negℤ (pos a)) ∙ ap (λ z. negℤ (pos b) +ℤ z) (negℤ-negℤ (pos a)) ∙ +ℤ-comm (negℤ (pos b)) (pos a)) in
-      let one : b - a ≡ suc (b - suc a) = omega arith in
-      under (omega arith) (back ∙ ap negℤ (minus b a (omega arith)) ∙ ap (λ k. negℤ (pos k)) one)
-]
-
-move : (a b c : ℤ) → a +ℤ b +ℤ c ≡ a +ℤ c +ℤ b
-move a b c = +ℤ-assoc a b c ∙ ap (λ z. a +ℤ z) (+ℤ-comm b c) ∙ sym (+ℤ-assoc a c b)
-
-pub euler-difference : (v e f : ℕ) → eulerOf v e f ≡ pos (v + f) -ℤ pos e
-unfolding eulerOf
-euler-difference v e f = move (pos v) (negℤ (pos e)) (pos f)
-
-at-most : (v e f k : ℕ) → v + f ≤ e + k → eulerOf v e f ≤ℤ pos k
-at-most v e f k h = rw (euler-difference v e f) (elim (difference (v + f) e) [
-  | above l q ↦ rw q (record { le = le→leb (v + f - e) k (omega arith) })
-  | under l q ↦ rw q (record { le = tt })
-])
-
-even-number : (v e f : ℕ) → (v + e + f) % 2 ≡ 0 → natAbs (eulerOf v e f) % 2 ≡ 0
-even-number v e f h = rw (euler-difference v e f) (elim (difference (v + f) e) [
-  | above l q ↦ rw q (omega arith)
-  | under l q ↦ rw q (omega arith)
-])
-
 pub record PartLaws (R : Rotation) (r : ℕ) : Type 0 where
   pub at-most-two : partEuler R r ≤ℤ pos 2
   pub even : orientable R r ≡ true → natAbs (partEuler R r) % 2 ≡ 0
   pub at-most-one : orientable R r ≡ false → partEuler R r ≤ℤ pos 1
-
-pub part-laws : {C : Rotation → Type 0} → Closed C → {R : Rotation} → C R → (r : ℕ) → root? R r ≡ true → PartLaws R r
-unfolding partEuler
-part-laws closed {R} c r t =
-    let L = closed .lawful R c in
-    let H = euler closed c (root-there R r t) (inPart-of L r (root-label R r t)) in
-    record {
-      at-most-two = at-most _ _ _ 2 (H .bound);
-      even = λ o. even-number _ _ _ (H .even (orientable-marks L r .0 o));
-      at-most-one = λ n. at-most _ _ _ 1 (H .less (λ o. clash (orientable-marks L r .1 o) n));
-    }
 
 -- the mesh's is the sum
 
 unfoldable pub totalℤ : (ℕ → ℤ) → List ℕ → ℤ
 totalℤ f [] = pos 0
 totalℤ f (x ∷ l) = f x +ℤ totalℤ f l
-
-exchange : (a b c d : ℤ) → (a +ℤ b) +ℤ (c +ℤ d) ≡ (a +ℤ c) +ℤ (b +ℤ d)
-exchange a b c d = sym (+ℤ-assoc (a +ℤ b) c d) ∙ ap (λ z. z +ℤ d) (move a b c) ∙ +ℤ-assoc (a +ℤ c) b d
-
-regroup : (a b c d e f : ℤ) → (a +ℤ b) +ℤ (c +ℤ d) +ℤ (e +ℤ f) ≡ (a +ℤ c +ℤ e) +ℤ (b +ℤ d +ℤ f)
-regroup a b c d e f = ap (λ z. z +ℤ (e +ℤ f)) (exchange a b c d) ∙ exchange (a +ℤ c) (b +ℤ d) e f
-
-euler-add : (v w e k f g : ℕ) → eulerOf (v + w) (e + k) (f + g) ≡ eulerOf v e f +ℤ eulerOf w k g
-unfolding eulerOf
-euler-add v w e k f g =
-    ap (λ z. pos (v + w) +ℤ z +ℤ pos (f + g)) (negℤ-+ℤ (pos e) (pos k)) ∙ regroup (pos v) (pos w) (negℤ (pos e)) (negℤ (pos k)) (pos f) (pos g)
-
-euler-total : (f g h : ℕ → ℕ) (l : List ℕ) → eulerOf (total f l) (total g l) (total h l) ≡ totalℤ (λ r. eulerOf (f r) (g r) (h r)) l
-unfolding total totalℤ eulerOf
-euler-total f g h [] = refl
-euler-total f g h (x ∷ l) =
-    euler-add (f x) (total f l) (g x) (total g l) (h x) (total h l) ∙ ap (λ z. eulerOf (f x) (g x) (h x) +ℤ z) (euler-total f g h l)
-
-pub mesh-sum : {R : Rotation} → Lawful R → meshEuler R ≡ totalℤ (partEuler R) (parts R)
-unfolding meshEuler partEuler
-mesh-sum {R} L =
-    rw (vertices-sum L, edges-sum L, faces-sum L)
-    (euler-total (λ r. verticesIn R (inPart R r)) (λ r. edgesIn R (inPart R r)) (λ r. walksIn R (inPart R r)) (parts R))
-
--- "The empty mesh has no parts and Euler number 0."
-pub empty-euler : {R : Rotation} → Lawful R → ((v : ℕ) → R .there v ≡ false) → meshEuler R ≡ pos 0
-unfolding meshEuler eulerOf
-empty-euler L none = rw (empty-vertices L none, empty-edges L none, empty-faces L none)

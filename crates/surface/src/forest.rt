@@ -8,8 +8,8 @@ ghost use Prim.Native.Nat.{_<_};
 ghost use lib.ListN.{length, replicate};
 ghost use Rattle.table.specs.Layout.{vertices};
 ghost use Rattle.table.specs.Good.{Good};
-ghost use Rattle.surface.specs.Forest.{Shape, Found, Flattening, lift as lifted, liftTurn};
-ghost use Rattle.surface.specs.Linking.{Taking, Taken, Labelled, Fresh};
+ghost use Rattle.surface.specs.laws.Forest.{Shape, Found, Flattening, lift as lifted, liftTurn};
+ghost use Rattle.surface.specs.laws.Linking.{Taking, Taken, Labelled, Fresh};
 
 // The root of a vertex, and the vertex's mark.
 pub struct Root {

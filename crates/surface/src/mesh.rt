@@ -12,10 +12,10 @@ ghost use Prim.Native.Nat.{_*_, _<_};
 ghost use Rattle.table.specs.Layout.{vertices, edges};
 ghost use Rattle.table.specs.Good.{Good};
 ghost use Rattle.table.specs.Rotation.{rotation, there?, live?};
-ghost use Rattle.tracing.specs.Marks.{bit};
-ghost use Rattle.surface.specs.Sums.{root?, parts};
-ghost use Rattle.surface.specs.Tally.{Keyed};
-ghost use Rattle.surface.specs.Mesh.{Counted, MeshCounts};
+ghost use Rattle.tracing.specs.Listing.{bit};
+ghost use Rattle.surface.specs.Parts.{root?, parts};
+ghost use Rattle.surface.specs.laws.Tally.{Keyed};
+ghost use Rattle.surface.specs.laws.Mesh.{Counted, MeshCounts};
 
 pub struct Mesh {
     pub vertices: u16,

@@ -12,9 +12,10 @@ ghost use lib.Seq.{sets};
 ghost use Rattle.table.specs.Layout.{vertices};
 ghost use Rattle.table.specs.Good.{Good};
 ghost use Rattle.table.specs.Rotation.{rotation};
-ghost use Rattle.surface.specs.Linking.{Labelled};
-ghost use Rattle.surface.specs.Rows.{flagOf, rowOf, rows, Written};
-ghost use Rattle.surface.specs.Rowing.{Turn, Turned, Rowing};
+ghost use Rattle.surface.specs.laws.Linking.{Labelled};
+ghost use Rattle.surface.specs.Rows.{flagOf, rowOf, rows};
+ghost use Rattle.surface.specs.laws.Rows.{Written};
+ghost use Rattle.surface.specs.laws.Rowing.{Turn, Turned, Rowing};
 
 // 1 if there are none, else 0.
 fn flag(twisted: u16) -> i32

@@ -12,8 +12,8 @@ ghost use mathlib.Core.Path.{_≡_};
 ghost use Prim.Native.Nat.{_+_, _<_};
 ghost use lib.ListN.{replicate};
 ghost use Rattle.table.specs.Layout.{vertices, edges, darts};
-ghost use Rattle.surface.specs.Tally.{Keyed, WalkTally};
-ghost use Rattle.surface.specs.Tallying.{Vertexing, Edging, Dartwise, Tallies, PartTally};
+ghost use Rattle.surface.specs.laws.Tally.{Keyed, WalkTally};
+ghost use Rattle.surface.specs.laws.Tallying.{Vertexing, Edging, Dartwise, Tallies, PartTally};
 ghost use Rattle.surface.specs.Signed.{eulerOf};
 
 // Vertex v, if it is live, and its empty walk, if it is isolated.

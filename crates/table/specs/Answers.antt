@@ -1,11 +1,5 @@
 -- Document 01's numbers for what a call answers.
--- Assumes nothing.
-use Prim.Native.Nat.{ℕ, _<_, _^_}
-use mathlib.Core.Path.{_≡_, _∙_}
-use mir.Syntax.{w64}
-use mir.Val.{toZ, ofZ}
-use mir.Facts.{toZ-ofZ}
-use lib.Signed.{mag}
+use Prim.Native.Nat.{ℕ}
 use lib.IntN.{ℤ, pos, negℤ}
 use Rattle.table.specs.declared.answer.Refusal.{Refusal}
 use Rattle.table.specs.declared.answer.Refusal.the-variants.{Torn, NoSuchName, Taken, Absent, Joined, Overturned, ShortSlice, ManyTurns, Far, BadMark, CutRecord}
@@ -33,7 +27,3 @@ refusalCode r = negℤ (pos (numberOf r))
 abbrev pub codeOf : Answer → ℤ
 codeOf (Done n) = pos n
 codeOf (Declined r) = refusalCode r
-
--- a code that is handed on keeps its value
-pub handed-on : {z c : ℤ} → mag z < 2 ^ 63 → z ≡ c → toZ w64 (ofZ w64 z) ≡ c
-handed-on h e = toZ-ofZ {w = w64} (record { sfits = h }) ∙ e

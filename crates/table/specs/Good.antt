@@ -1,5 +1,4 @@
 -- What a good table is, document 01, "The table": a field for each rule. "Anything else is torn."
--- Assumes nothing.
 use Prim.Native.Nat.{ℕ, _≤_, _<_}
 use mathlib.Core.Path.{_≡_}
 use mathlib.Core.List.{List}

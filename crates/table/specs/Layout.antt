@@ -1,5 +1,4 @@
 -- The words of a table, document 01, "The table": the layout is named here, and once more as the constants of src/layout.rt, and nowhere else.
--- Assumes nothing.
 use Prim.Native.Nat.{ℕ, _+_, _-_, _*_, _/_, _%_, _<_}
 use mathlib.Core.List.{List}
 use mathlib.Core.Logic.{_≢_}

@@ -1,14 +1,9 @@
+pub mod Answers
 pub mod Layout
 pub mod Good
 pub mod Rotation
-pub mod Lawful
-pub mod Writes
-pub mod Signed
-pub mod Answers
-pub mod Counting
-pub mod Darts
-pub mod Cycle
-pub mod Vertices
 pub mod Check
 pub mod Empty
 pub mod Output
+pub mod Writes
+pub mod laws

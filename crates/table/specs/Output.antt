@@ -1,20 +1,14 @@
 -- A call that writes an output to the front of a lent slice, document 01, "When a call declines": torn, then a slice shorter than
 -- "the output's exact size". The output may be of any kind of word.
--- Assumes nothing.
-use Prim.Native.Nat.{ℕ, suc, _+_, _<_, _≤_}
-use native.Mathlib.Omega.{arith}
-use native.Mathlib.Nat.{add-zero, zero-add}
-use mathlib.Core.Path.{_≡_, refl, _∙_, ap}
+use Prim.Native.Nat.{ℕ}
+use mathlib.Core.Path.{_≡_}
 use mathlib.Core.Bool.{Bool, true, false}
-use mathlib.Core.List.{List, [], _∷_, _++_}
+use mathlib.Core.List.{List, _++_}
 use lib.Dec.{leb}
-use lib.ListN.{length, set, drop}
-use lib.Seq.{sets, sets-eq}
-use borrow.Author.Tests.{le-leb, lt-leb}
+use lib.ListN.{length, drop}
 use Rattle.table.specs.Check.{good?}
 use Rattle.table.specs.declared.answer.Answer.{Answer}
 use Rattle.table.specs.declared.answer.Answer.the-variants.{Done, Declined}
-use Rattle.table.specs.declared.answer.Refusal.{Refusal}
 use Rattle.table.specs.declared.answer.Refusal.the-variants.{Torn, ShortSlice}
 
 -- the size, if there is room for it
@@ -44,53 +38,7 @@ outputAnswer t text n = ifGood (good? t) (sized (leb (length text) n) (length te
 unfoldable pub outputOut : {A : Type 0} → List ℕ → List A → List A → List A
 outputOut t text out = outBy (outputAnswer t text (length out)) text out
 
--- text that is stored word by word
-
-pub sets-append : {A : Type 0} (l : List A) (i : ℕ) (a b : List A) → sets l i (a ++ b) ≡ sets (sets l i a) (i + length a) b
-sets-append l i [] b = rw add-zero
-sets-append l i (x ∷ a) b = sets-append (set l i x) (suc i) a b ∙ ap (λ k. sets (sets (set l i x) (suc i) a) k b) (omega arith)
-
-pub sets-front : {A : Type 0} (text out : List A) → length text ≤ length out → sets out 0 text ≡ front text out
-sets-front text out h = sets-eq text out 0 (rw zero-add h) ∙ rw zero-add
-
--- the three ends of such a call
-
-module _ {A : Type 0} (t : List ℕ) (text out : List A) where
-  pub output-torn : good? t ≡ false → (Declined Torn ≡ outputAnswer t text (length out)) × (out ≡ outputOut t text out)
-  unfolding outputAnswer outputOut
-  output-torn g = rw g (refl, refl)
-
-  pub output-short : good? t ≡ true → length out < length text → (Declined ShortSlice ≡ outputAnswer t text (length out)) × (out ≡ outputOut t text out)
-  unfolding outputAnswer outputOut
-  output-short g h = rw (g, lt-leb (length text) (length out) h) (refl, refl)
-
-  pub output-done : {n : ℕ} {out′ : List A} → good? t ≡ true → n ≡ length text → length text ≤ length out → out′ ≡ front text out
-      → (Done n ≡ outputAnswer t text (length out)) × (out′ ≡ outputOut t text out)
-  unfolding outputAnswer outputOut
-  output-done g e h w = rw (g, le-leb (length text) (length out) h) (ap Done e, w)
-
 -- what an accepted call of table t answers and leaves: the size of `text`, and `text` at the front of the slice
 pub record Accepted {A : Type 0} (a : Answer) (text out out′ : List A) : Type 0 where
   pub size : (n : ℕ) → a ≡ Done n → n ≡ length text
   pub words : (n : ℕ) → a ≡ Done n → out′ ≡ front text out
-
-pub done-same : {n m : ℕ} → Done m ≡ Done n → n ≡ m
-done-same e = cc
-
-pub done-declined : {n : ℕ} {r : Refusal} → Declined r ≡ Done n → ⊥
-done-declined e = let z : _≡_ {A = ℕ} 0 1 = cc in omega arith
-
-pub declined-accepted : {A : Type 0} (r : Refusal) (text out : List A) → Accepted (Declined r) text out out
-declined-accepted r text out = record { size = λ n e. absurd (done-declined e); words = λ n e. absurd (done-declined e) }
-
-pub sized-accepted : {A : Type 0} (b : Bool) (text out : List A) → Accepted (sized b (length text)) text out (outBy (sized b (length text)) text out)
-sized-accepted true text out = record { size = λ n e. done-same e; words = λ n e. refl }
-sized-accepted false text out = declined-accepted ShortSlice text out
-
-pub output-accepted : {A : Type 0} (t : List ℕ) (text out : List A) → Accepted (outputAnswer t text (length out)) text out (outputOut t text out)
-unfolding outputAnswer outputOut
-output-accepted t text out = by (good? t)
-  where
-    by : (b : Bool) → let a = ifGood b (sized (leb (length text) (length out)) (length text)) in Accepted a text out (outBy a text out)
-    by true = sized-accepted (leb (length text) (length out)) text out
-    by false = declined-accepted Torn text out

@@ -11,8 +11,8 @@ ghost use Prim.Native.Nat.{_<_};
 ghost use lib.ListN.{length};
 ghost use Rattle.table.specs.Layout.{words, darts, edgeWord, edgeOf};
 ghost use Rattle.table.specs.Good.{Bare};
-ghost use Rattle.table.specs.Rotation.{Case};
-ghost use Rattle.table.specs.Darts.{Linked, DartRule, DartsSay};
+ghost use Rattle.table.specs.laws.Rotation.{Case};
+ghost use Rattle.table.specs.laws.Darts.{Linked, DartRule, DartsSay};
 
 // How many darts a part of the check went over, or that it met a broken rule.
 pub enum Counted {

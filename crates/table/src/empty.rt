@@ -8,7 +8,8 @@ use crate::layout::WORDS;
 ghost use Prim.Native.Nat.{_≤_};
 ghost use mathlib.Core.Path.{_≡_};
 ghost use lib.ListN.{length};
-ghost use Rattle.table.specs.Empty.{Filled, emptyOf, emptied};
+ghost use Rattle.table.specs.laws.Empty.{Filled};
+ghost use Rattle.table.specs.Empty.{emptyOf, emptied};
 
 // Stores w from index `from` on, up to `to`.
 fn fill(t: &mut [u16], from: usize, to: usize, w: u16)

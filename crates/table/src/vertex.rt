@@ -11,9 +11,9 @@ ghost use mathlib.Core.Path.{_≡_};
 ghost use Prim.Native.Nat.{_<_};
 ghost use lib.ListN.{length};
 ghost use Rattle.table.specs.Layout.{words, darts, vertices, Live};
-ghost use Rattle.table.specs.Darts.{Ruled};
-ghost use Rattle.table.specs.Cycle.{CycleSays};
-ghost use Rattle.table.specs.Vertices.{VertexSays, VerticesSay};
+ghost use Rattle.table.specs.laws.Darts.{Ruled};
+ghost use Rattle.table.specs.laws.Cycle.{CycleSays};
+ghost use Rattle.table.specs.laws.Vertices.{VertexSays, VerticesSay};
 
 // The number of darts on the cycle of w, or 0 where a smaller dart is on it.
 fn cycle(t: &[u16], w: usize) -> usize

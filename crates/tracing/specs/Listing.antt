@@ -1,17 +1,17 @@
 -- The listed walks, the listing and the face count, document 01, "Corners and walks" and "Counts".
 -- A listed face is named by the corner that its walk starts at: a dart, or 32,768+v for an isolated vertex v.
-use Prim.Native.Nat.{ℕ, zero, suc, _+_, _*_, _<_}
-use native.Mathlib.Omega.{arith}
-use mathlib.Core.Path.{_≡_, refl, sym}
+use Prim.Native.Nat.{ℕ, zero, suc, _+_, _*_}
 use mathlib.Core.Bool.{Bool, true, false, not}
-use mathlib.Core.List.{List, [], _∷_, _++_, map, append-assoc, append-nil}
+use mathlib.Core.List.{List, [], _∷_, _++_, map}
 use lib.Dec.{eqb, ltb}
 use lib.ListN.{length}
-use borrow.Author.Tests.{eq-eqb, ne-eqb, lt-ltb, le-ltb}
 use Rattle.table.specs.Layout.{vertices, darts}
 use Rattle.table.specs.Rotation.{Rotation}
-use Rattle.orbits.specs.Truth.{truth, holds, fails}
 use Rattle.tracing.specs.Walk.{walk, corners}
+
+abbrev pub bit : Bool → ℕ
+bit true = 1
+bit false = 0
 
 -- is c among these
 unfoldable pub has : ℕ → List ℕ → Bool
@@ -76,81 +76,3 @@ written R c =
 -- "A listing is written as 16-bit words"
 unfoldable pub listing : Rotation → List ℕ
 listing R = gather (written R) (faces R)
-
--- laws
-
-pub gather-one : (f : ℕ → List ℕ) (x : ℕ) → gather f (x ∷ []) ≡ f x
-unfolding gather
-gather-one f x = append-nil (f x)
-
-pub gather-none : (f : ℕ → List ℕ) → gather f [] ≡ []
-unfolding gather
-gather-none f = refl
-
-pub gather-append : (f : ℕ → List ℕ) (a b : List ℕ) → gather f (a ++ b) ≡ gather f a ++ gather f b
-unfolding gather
-gather-append f [] b = refl
-gather-append f (x ∷ a) b = rw (gather-append f a b) (sym (append-assoc (f x) (gather f a) (gather f b)))
-
-pub has-here : (c : ℕ) (l : List ℕ) → has c (c ∷ l) ≡ true
-unfolding has
-has-here c l = rw (eq-eqb c c refl, has)
-
-pub has-there : (c x : ℕ) (l : List ℕ) → (c ≡ x → ⊥) → has c (x ∷ l) ≡ has c l
-unfolding has
-has-there c x l n = rw (ne-eqb c x n, has)
-
-module _ (R : Rotation) where
-  pub starts-zero : starts R zero ≡ []
-  unfolding starts
-  starts-zero = refl
-
-  pub starts-suc : (d : ℕ) → starts R (suc d) ≡ starts R d ++ fresh R (starts R d) d
-  unfolding starts
-  starts-suc d = refl
-
-  pub alones-zero : alones R zero ≡ []
-  unfolding alones
-  alones-zero = refl
-
-  pub alones-suc : (v : ℕ) → alones R (suc v) ≡ alones R v ++ lone R v
-  unfolding alones
-  alones-suc v = refl
-
-  pub lone-yes : (v : ℕ) → R .alone v ≡ true → lone R v ≡ v ∷ []
-  unfolding lone
-  lone-yes v e = rw e
-
-  pub lone-no : (v : ℕ) → R .alone v ≡ false → lone R v ≡ []
-  unfolding lone
-  lone-no v e = rw e
-
-  pub fresh-dead : (before : List ℕ) (d : ℕ) → R .live d ≡ false → fresh R before d ≡ []
-  unfolding fresh
-  fresh-dead before d e = rw (e, fresh)
-
-  pub fresh-met : (before : List ℕ) (d : ℕ) → has d (metBy R before) ≡ true → fresh R before d ≡ []
-  unfolding fresh
-  fresh-met before d e = elim (truth (R .live d)) [
-    | holds l ↦ rw (l, fresh, e)
-    | fails l ↦ fresh-dead before d l
-  ]
-
-  pub fresh-start : (before : List ℕ) (d : ℕ) → R .live d ≡ true → has d (metBy R before) ≡ false → fresh R before d ≡ d ∷ []
-  unfolding fresh
-  fresh-start before d e m = rw (e, fresh, m)
-
-  pub written-walk : (c : ℕ) → c < loneAt → written R c ≡ length (walk R (2 * c)) ∷ walk R (2 * c)
-  unfolding written
-  written-walk c h = rw (lt-ltb c loneAt h, written)
-
-  pub written-lone : (v : ℕ) → written R (loneCorner v) ≡ 0 ∷ loneCorner v ∷ []
-  unfolding written
-  written-lone v = rw (le-ltb (loneCorner v) loneAt (omega arith), written)
-
-  pub written-some : (c : ℕ) → 0 < length (written R c)
-  unfolding written
-  written-some c = elim (truth (ltb c loneAt)) [
-    | holds e ↦ rw (e, written) (omega arith)
-    | fails e ↦ rw (e, written) (omega arith)
-  ]

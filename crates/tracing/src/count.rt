@@ -12,8 +12,8 @@ ghost use Rattle.table.specs.Layout.{darts};
 ghost use Rattle.table.specs.Good.{Good};
 ghost use Rattle.table.specs.Rotation.{rotation};
 ghost use Rattle.tracing.specs.Listing.{faceCount};
-ghost use Rattle.tracing.specs.Stands.{Stands};
-ghost use Rattle.tracing.specs.Size.{Marked, Looked, InRange, Lone, Measured};
+ghost use Rattle.tracing.specs.laws.Stands.{Stands};
+ghost use Rattle.tracing.specs.laws.Size.{Marked, Looked, InRange, Lone, Measured};
 
 // So many walks, and so many words of their listing.
 pub struct Size {

@@ -15,8 +15,8 @@ ghost use Rattle.table.specs.Output.{front};
 ghost use Rattle.table.specs.Rotation.{rotation};
 ghost use Rattle.tracing.specs.Walk.{walk};
 ghost use Rattle.tracing.specs.Listing.{listing};
-ghost use Rattle.tracing.specs.Stands.{Stands};
-ghost use Rattle.tracing.specs.Writing.{RoomAt, Entered, RoomLone, EnteredLone, walksText, lonesText, WroteWalks};
+ghost use Rattle.tracing.specs.laws.Stands.{Stands};
+ghost use Rattle.tracing.specs.laws.Writing.{RoomAt, Entered, RoomLone, EnteredLone, walksText, lonesText, WroteWalks};
 
 // The steps of the walk from s, from index `start` on.
 fn write_walk(t: &[u16], out: &mut [u16], start: usize, s: u16)

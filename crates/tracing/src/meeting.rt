@@ -6,11 +6,11 @@ use table::layout::EDGE;
 ghost use mathlib.Core.Path.{_≡_};
 ghost use Rattle.table.specs.Rotation.{rotation};
 ghost use Rattle.tracing.specs.Corner.{meetingOf};
-ghost use Rattle.tracing.specs.Meeting.{Corners};
+ghost use Rattle.tracing.specs.laws.Meeting.{Corners};
 ghost use Rattle.tracing.specs.Sides.{sidesOf};
-ghost use Rattle.tracing.specs.SidesFound.{LiveEdge};
-ghost use Rattle.tracing.specs.Stands.{Stands};
-ghost use Rattle.tracing.specs.Search.{Found};
+ghost use Rattle.tracing.specs.laws.SidesFound.{LiveEdge};
+ghost use Rattle.tracing.specs.laws.Stands.{Stands};
+ghost use Rattle.tracing.specs.laws.Search.{Found};
 
 // Two corners: on different faces, on one face with equal types, or with different types.
 pub enum Meeting {

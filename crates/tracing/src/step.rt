@@ -4,7 +4,7 @@ use table::layout::PREV;
 ghost use mathlib.Core.Path.{_≡_};
 ghost use Rattle.table.specs.Rotation.{rotation};
 ghost use Rattle.tracing.specs.Step.{around, step as stepOf, corner as cornerOf, mirror as mirrorOf};
-ghost use Rattle.tracing.specs.Stands.{Stands, LiveDart};
+ghost use Rattle.tracing.specs.laws.Stands.{Stands, LiveDart};
 
 // The step of type k just after dart d at its vertex, or just before it.
 fn around(t: &[u16], k: u16, d: usize) -> u16

@@ -5,9 +5,9 @@ use tracing::step::step;
 ghost use mathlib.Core.Path.{_≡_};
 ghost use Rattle.table.specs.Rotation.{rotation};
 ghost use Rattle.tracing.specs.Walk.{walk};
-ghost use Rattle.tracing.specs.Stands.{Stands};
+ghost use Rattle.tracing.specs.laws.Stands.{Stands};
 ghost use Rattle.weave.specs.Letters.{alternates};
-ghost use Rattle.weave.specs.Hands.{handsWith, handsAmong};
+ghost use Rattle.weave.specs.laws.Hands.{handsWith, handsAmong};
 
 // Is there an edge of positive turns, and is there one of negative turns.
 pub struct Hands {

@@ -7,10 +7,10 @@ ghost use Prim.Native.Nat.{_+_, _≤_, _<_};
 ghost use mathlib.Core.Path.{_≡_};
 ghost use lib.ListN.{length};
 ghost use lib.Seq.{sets};
-ghost use Rattle.tracing.specs.Stands.{Stands};
+ghost use Rattle.tracing.specs.laws.Stands.{Stands};
 ghost use Rattle.weave.specs.Letters.{letters};
-ghost use Rattle.weave.specs.Crossing.{Room, Lettered};
-ghost use Rattle.weave.specs.Passing.{Counted};
+ghost use Rattle.weave.specs.laws.Crossing.{Room, Lettered};
+ghost use Rattle.weave.specs.laws.Passing.{Counted};
 
 // The number of letters of the ribbon through step s.
 pub fn letter_count(t: &[u16], s: u16) -> usize

@@ -1,7 +1,8 @@
 -- `planner::planner_counts` meets its contract. Writes V, E, F, the number of parts and the Euler number.
 -- Assumes nothing.
 use mathlib.Core.Path.{_∙_, ap}
-use Rattle.table.specs.Answers.{codeOf, handed-on}
+use Rattle.table.specs.Answers.{codeOf}
+use Rattle.table.specs.laws.Answers.{handed-on}
 use borrow.Author.Needs.{needs}
 use Rattle.planner.proofs.planner_counts.Statement.{statement}
 use Rattle.planner.proofs.planner_counts.Tie as tie

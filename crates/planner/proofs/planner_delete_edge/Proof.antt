@@ -1,7 +1,8 @@
 -- `planner::planner_delete_edge` meets its contract. Deletes edge e.
 -- Assumes nothing.
 use mathlib.Core.Path.{_∙_, ap}
-use Rattle.table.specs.Answers.{codeOf, handed-on}
+use Rattle.table.specs.Answers.{codeOf}
+use Rattle.table.specs.laws.Answers.{handed-on}
 use borrow.Author.Needs.{needs}
 use Rattle.planner.proofs.planner_delete_edge.Statement.{statement}
 use Rattle.planner.proofs.planner_delete_edge.Tie as tie

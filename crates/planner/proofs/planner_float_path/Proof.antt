@@ -1,5 +1,6 @@
 -- `planner::planner_float_path` meets its contract. Writes the float path of the ribbon through the step of dart and type.
-use Rattle.table.specs.Answers.{codeOf, handed-on}
+use Rattle.table.specs.Answers.{codeOf}
+use Rattle.table.specs.laws.Answers.{handed-on}
 use mathlib.Core.Path.{_∙_, ap}
 use borrow.Author.Needs.{needs}
 use Rattle.planner.proofs.planner_float_path.Statement.{statement}

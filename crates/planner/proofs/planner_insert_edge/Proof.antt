@@ -1,8 +1,9 @@
 -- `planner::planner_insert_edge` meets its contract. Inserts edge e with turns k: dart 2e into corner c1, then 2e+1 into c2.
 -- Assumes nothing.
 use mathlib.Core.Path.{_∙_, ap, refl}
-use Rattle.table.specs.Answers.{codeOf, handed-on}
-use Rattle.edits.specs.Edits.{same-insertion}
+use Rattle.table.specs.Answers.{codeOf}
+use Rattle.table.specs.laws.Answers.{handed-on}
+use Rattle.edits.specs.laws.Edits.{same-insertion}
 use borrow.Author.Needs.{needs}
 use Rattle.planner.proofs.planner_insert_edge.Statement.{statement}
 use Rattle.planner.proofs.planner_insert_edge.Tie as tie

@@ -1,7 +1,8 @@
 -- `planner::planner_listing` meets its contract. Writes the listing of the table's walks, and answers its number of words.
 -- Assumes nothing.
 use mathlib.Core.Path.{_∙_, ap}
-use Rattle.table.specs.Answers.{codeOf, handed-on}
+use Rattle.table.specs.Answers.{codeOf}
+use Rattle.table.specs.laws.Answers.{handed-on}
 use borrow.Author.Needs.{needs}
 use Rattle.planner.proofs.planner_listing.Statement.{statement}
 use Rattle.planner.proofs.planner_listing.Tie as tie

@@ -1,7 +1,8 @@
 -- `planner::planner_parts` meets its contract. Writes six words for each part, upward.
 -- Assumes nothing.
 use mathlib.Core.Path.{_∙_, ap}
-use Rattle.table.specs.Answers.{codeOf, handed-on}
+use Rattle.table.specs.Answers.{codeOf}
+use Rattle.table.specs.laws.Answers.{handed-on}
 use borrow.Author.Needs.{needs}
 use Rattle.planner.proofs.planner_parts.Statement.{statement}
 use Rattle.planner.proofs.planner_parts.Tie as tie

@@ -1,6 +1,7 @@
 -- `planner::planner_plain` meets its contract. Is the weave plain.
 -- Assumes nothing.
-use Rattle.table.specs.Answers.{codeOf, handed-on}
+use Rattle.table.specs.Answers.{codeOf}
+use Rattle.table.specs.laws.Answers.{handed-on}
 use mathlib.Core.Path.{_∙_, ap}
 use borrow.Author.Needs.{needs}
 use Rattle.planner.proofs.planner_plain.Statement.{statement}

@@ -1,7 +1,8 @@
 -- `planner::planner_remove_vertex` meets its contract. Removes the isolated vertex v.
 -- Assumes nothing.
 use mathlib.Core.Path.{_∙_, ap}
-use Rattle.table.specs.Answers.{codeOf, handed-on}
+use Rattle.table.specs.Answers.{codeOf}
+use Rattle.table.specs.laws.Answers.{handed-on}
 use borrow.Author.Needs.{needs}
 use Rattle.planner.proofs.planner_remove_vertex.Statement.{statement}
 use Rattle.planner.proofs.planner_remove_vertex.Tie as tie

@@ -1,8 +1,9 @@
 -- `planner::planner_turn_edge` meets its contract. Turns edge e by an amount.
 -- Assumes nothing.
 use mathlib.Core.Path.{_∙_, ap, refl}
-use Rattle.table.specs.Answers.{codeOf, handed-on}
-use Rattle.edits.specs.Edits.{same-turn}
+use Rattle.table.specs.Answers.{codeOf}
+use Rattle.table.specs.laws.Answers.{handed-on}
+use Rattle.edits.specs.laws.Edits.{same-turn}
 use borrow.Author.Needs.{needs}
 use Rattle.planner.proofs.planner_turn_edge.Statement.{statement}
 use Rattle.planner.proofs.planner_turn_edge.Tie as tie

@@ -1,6 +1,6 @@
 -- `edits::apply::apply` meets its contract. Does the edit, or declines it. Answers the new face count.
 -- Assumes nothing.
-use Rattle.edits.specs.Edits.{same-edit, same-insertion, same-turn}
+use Rattle.edits.specs.laws.Edits.{same-edit, same-insertion, same-turn}
 use borrow.Author.Needs.{needs}
 use Rattle.edits.proofs.apply.apply.Statement.{statement}
 use Rattle.edits.proofs.apply.apply.Tie as tie

@@ -1,7 +1,7 @@
 -- `edits::edge::delete` meets its contract. Takes edge e out.
 -- Assumes nothing.
-use Rattle.edits.specs.Ready.{ready-second}
-use Rattle.edits.specs.Edge.{delete-last}
+use Rattle.edits.specs.laws.Ready.{ready-second}
+use Rattle.edits.specs.laws.Edge.{delete-last}
 use denote.Ref.{now}
 use lib.ListN.{length-set}
 use mathlib.Core.Path.{_∙_}

@@ -1,8 +1,8 @@
 -- `edits::edge::delete_edge` meets its contract. Deletes edge e. Answers the new face count.
 -- Assumes nothing.
-use Rattle.edits.specs.Passed.{may-delete, delete-good, may-delete-ready}
+use Rattle.edits.specs.laws.Passed.{may-delete, delete-good, may-delete-ready}
 use Rattle.edits.specs.declared.edit.Edit.the-variants.{DeleteEdge}
-use Rattle.edits.specs.Edits.{went-through, was-declined}
+use Rattle.edits.specs.laws.Edits.{went-through, was-declined}
 use Rattle.table.specs.Good.{Good}
 use denote.Ref.{now}
 use mathlib.Core.Path.{sym, subst, _∙_}

@@ -1,7 +1,7 @@
 -- `edits::edge::insert` meets its contract. Puts edge e, of word w, between corners c1 and c2. The second dart goes first, so that with one corner for both the first stands before it.
 -- Assumes nothing.
-use Rattle.edits.specs.Ready.{ready-first}
-use Rattle.edits.specs.Edge.{insert-last}
+use Rattle.edits.specs.laws.Ready.{ready-first}
+use Rattle.edits.specs.laws.Edge.{insert-last}
 use denote.Ref.{now}
 use lib.ListN.{length-set}
 use mathlib.Core.Path.{_∙_}

@@ -1,8 +1,8 @@
 -- `edits::splice::link` meets its contract. Puts dart x into corner c.
 -- Assumes nothing.
-use Rattle.edits.specs.Edge.{dart-link, link-past}
+use Rattle.edits.specs.laws.Edge.{dart-link, link-past}
 use denote.Ref.{now}
-use Rattle.edits.specs.Splice.{splice}
+use Rattle.edits.specs.Edge.{splice}
 use mir.Facts.{fits-16-64}
 use mathlib.Core.Path.{_∙_, sym}
 use native.Mathlib.Omega.{arith}

@@ -1,6 +1,6 @@
 -- `edits::splice::unlink` meets its contract. Takes dart x out of its vertex's cycle.
 -- Assumes nothing.
-use Rattle.edits.specs.Unlink.{unlink-last}
+use Rattle.edits.specs.laws.Unlink.{unlink-last}
 use denote.Ref.{now}
 use borrow.Author.Needs.{needs}
 use Rattle.edits.proofs.splice.unlink.Statement.{statement}

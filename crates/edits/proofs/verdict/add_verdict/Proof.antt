@@ -1,7 +1,7 @@
 -- `edits::verdict::add_verdict` meets its contract. To add vertex v.
 -- Assumes nothing.
 use Rattle.edits.specs.Verdicts.{addVerdict}
-use Rattle.table.specs.Check.{seen-good, seen-torn}
+use Rattle.table.specs.laws.Check.{seen-good, seen-torn}
 use denote.Ref.{now}
 use borrow.Author.Tests.{lt-leb, le-leb, eq-eqb, ne-eqb}
 use native.Mathlib.Omega.{arith}

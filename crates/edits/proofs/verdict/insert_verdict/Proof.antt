@@ -1,10 +1,11 @@
 -- `edits::verdict::insert_verdict` meets its contract. To insert edge e with turns k between corners c1 and c2.
 -- Assumes nothing.
-use Rattle.edits.specs.Turns.{amount-on, zero-over, some-few, hundred, overturned}
+use Rattle.edits.specs.laws.Turns.{amount-on, zero-over, some-few, hundred}
+use Rattle.edits.specs.Turns.{overturned}
 use mathlib.Core.Bool.{true, false}
 use mathlib.Core.Path.{_≡_, sym, ap, _∙_}
 use Rattle.edits.specs.Verdicts.{insertVerdict}
-use Rattle.table.specs.Check.{seen-good, seen-torn}
+use Rattle.table.specs.laws.Check.{seen-good, seen-torn}
 use denote.Ref.{now}
 use borrow.Author.Tests.{lt-leb, le-leb, eq-eqb, ne-eqb, not-true, not-false}
 use native.Mathlib.Omega.{arith}

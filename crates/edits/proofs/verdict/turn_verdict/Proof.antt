@@ -1,9 +1,9 @@
 -- `edits::verdict::turn_verdict` meets its contract. To turn edge e by an amount.
 -- Assumes nothing.
-use Rattle.edits.specs.Turns.{amount-on, zero-over, some-few}
+use Rattle.edits.specs.laws.Turns.{amount-on, zero-over, some-few}
 use Rattle.table.specs.Layout.{edgeWord}
 use Rattle.edits.specs.Verdicts.{turnVerdict}
-use Rattle.table.specs.Check.{seen-good, seen-torn}
+use Rattle.table.specs.laws.Check.{seen-good, seen-torn}
 use denote.Ref.{now}
 use borrow.Author.Tests.{lt-leb, le-leb, eq-eqb, ne-eqb}
 use native.Mathlib.Omega.{arith}

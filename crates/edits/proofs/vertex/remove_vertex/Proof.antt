@@ -1,8 +1,8 @@
 -- `edits::vertex::remove_vertex` meets its contract. Removes the isolated vertex v. Answers the new face count.
 -- Assumes nothing.
-use Rattle.edits.specs.Passed.{may-remove, remove-good}
+use Rattle.edits.specs.laws.Passed.{may-remove, remove-good}
 use Rattle.edits.specs.declared.edit.Edit.the-variants.{RemoveVertex}
-use Rattle.edits.specs.Edits.{went-through, was-declined}
+use Rattle.edits.specs.laws.Edits.{went-through, was-declined}
 use denote.Ref.{now}
 use native.Mathlib.Omega.{arith}
 use mathlib.Core.Path.{sym, _∙_, refl}

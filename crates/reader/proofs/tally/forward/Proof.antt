@@ -1,5 +1,5 @@
 -- `tally::forward` meets its contract: each field is tested before it is added to.
-use Rattle.reader.specs.Forward.{past-steps, past-overs, past-unders, past-length, brought}
+use Rattle.reader.specs.laws.Forward.{past-steps, past-overs, past-unders, past-length, brought}
 use native.Mathlib.Omega.{arith}
 use borrow.Author.Needs.{needs}
 use Rattle.reader.proofs.tally.forward.Statement.{statement}

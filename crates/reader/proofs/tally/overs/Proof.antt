@@ -1,5 +1,5 @@
 -- `tally::overs` meets its contract: half of the crossings, and the odd one by the hand and the type.
-use Rattle.reader.specs.Counts.{overs-positive, overs-negative, crossings-most}
+use Rattle.reader.specs.laws.Counts.{overs-positive, overs-negative, crossings-most}
 use native.Mathlib.Omega.{arith}
 use borrow.Author.Needs.{needs}
 use Rattle.reader.proofs.tally.overs.Statement.{statement}

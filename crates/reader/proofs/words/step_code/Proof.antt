@@ -1,5 +1,5 @@
 -- `words::step_code` meets its contract: the step, then the code of its answer.
-use Rattle.reader.specs.Words.{words-coded}
+use Rattle.reader.specs.laws.Words.{words-coded}
 use borrow.Author.Needs.{needs}
 use Rattle.reader.proofs.words.step_code.Statement.{statement}
 use Rattle.reader.proofs.words.step_code.Tie as tie

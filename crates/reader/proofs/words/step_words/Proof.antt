@@ -1,6 +1,6 @@
 -- `words::step_words` meets its contract: too few words, or the step that they are read for.
-use Rattle.reader.specs.Words.{words-torn, words-short, words-stepped}
-use Rattle.table.specs.Check.{seen-good, seen-torn}
+use Rattle.reader.specs.laws.Words.{words-torn, words-short, words-stepped}
+use Rattle.table.specs.laws.Check.{seen-good, seen-torn}
 use lib.ListN.{length-set}
 use native.Mathlib.Omega.{arith}
 use borrow.Author.Needs.{needs}

@@ -1,6 +1,6 @@
 -- `line::field` meets its contract: a space and a number.
 use native.Mathlib.Omega.{arith}
-use Rattle.report.specs.Wrote.{field-wrote}
+use Rattle.report.specs.laws.Wrote.{field-wrote}
 use borrow.Author.Needs.{needs}
 use Rattle.report.proofs.line.field.Statement.{statement}
 use Rattle.report.proofs.line.field.Tie as tie

@@ -1,5 +1,5 @@
 -- `line::mesh_line` meets its contract: the line of the counts of the mesh.
-use Rattle.report.specs.Wrote.{wrote-as, mesh-text}
+use Rattle.report.specs.laws.Wrote.{wrote-as, mesh-text}
 use borrow.Author.Needs.{needs}
 use Rattle.report.proofs.line.mesh_line.Statement.{statement}
 use Rattle.report.proofs.line.mesh_line.Tie as tie

@@ -1,5 +1,5 @@
 -- `line::signed_field` meets its contract: a space and a signed number.
-use Rattle.report.specs.Wrote.{signed-wrote}
+use Rattle.report.specs.laws.Wrote.{signed-wrote}
 use borrow.Author.Needs.{needs}
 use Rattle.report.proofs.line.signed_field.Statement.{statement}
 use Rattle.report.proofs.line.signed_field.Tie as tie

@@ -1,5 +1,5 @@
 -- `part::root_line` meets its contract, a return for each case: no vertex, no root, a part.
-use Rattle.report.specs.Parts.{part-none, part-other, part-root}
+use Rattle.report.specs.laws.Parts.{part-none, part-other, part-root}
 use native.Mathlib.Omega.{arith}
 use borrow.Author.Needs.{needs}
 use Rattle.report.proofs.part.root_line.Statement.{statement}

@@ -1,6 +1,6 @@
 -- `part::root_lines` meets its contract. The invariant: the lines of the parts below r are written.
-use Rattle.report.specs.Parts.{Parting, parting-none, parting-at, parting-more, parting-all}
-use Rattle.report.specs.Wrote.{wrote-length}
+use Rattle.report.specs.laws.Parts.{Parting, parting-none, parting-at, parting-more, parting-all}
+use Rattle.report.specs.laws.Wrote.{wrote-length}
 use Prim.Native.Nat.{_-_}
 use native.Mathlib.Omega.{arith}
 use Rattle.report.proofs.part.root_lines.Statement.{statement}

@@ -1,6 +1,6 @@
 -- `part::write_part` meets its contract: the word and three fields, one after the other.
-use Rattle.report.specs.Parts.{euler-on}
-use Rattle.report.specs.Wrote.{short, wrote-then, wrote-as}
+use Rattle.report.specs.laws.Parts.{euler-on}
+use Rattle.report.specs.laws.Wrote.{short, wrote-then, wrote-as}
 use Rattle.report.specs.Lines.{partText}
 use mathlib.Core.List.{[], _∷_}
 use mathlib.Core.Path.{ap}

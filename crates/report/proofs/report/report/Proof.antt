@@ -1,5 +1,5 @@
 -- `report::report` meets its contract: the lines, one after the other.
-use Rattle.report.specs.Whole.{report-wrote}
+use Rattle.report.specs.laws.Whole.{report-wrote}
 use borrow.Author.Needs.{needs}
 use Rattle.report.proofs.report.report.Statement.{statement}
 use Rattle.report.proofs.report.report.Tie as tie

@@ -1,6 +1,6 @@
 -- `step::write_letters` meets its contract. The invariant: the letters of the first j crossings are written.
-use Rattle.report.specs.Steps.{lettering-more, lettering-all}
-use Rattle.text.specs.Writing.{Copying, copying-none}
+use Rattle.report.specs.laws.Steps.{lettering-more, lettering-all}
+use Rattle.text.specs.laws.Writing.{Copying, copying-none}
 use Rattle.weave.specs.Letters.{lettersOn}
 use Prim.Native.Nat.{_-_}
 use native.Mathlib.Omega.{arith}

@@ -1,6 +1,6 @@
 -- `step::write_step` meets its contract: the dart, the type and the letters, one after the other.
-use Rattle.report.specs.Steps.{edge-crossed, step-wrote}
-use Rattle.report.specs.Wrote.{number-wrote}
+use Rattle.report.specs.laws.Steps.{edge-crossed, step-wrote}
+use Rattle.report.specs.laws.Wrote.{number-wrote}
 use native.Mathlib.Omega.{arith}
 use borrow.Author.Needs.{needs}
 use Rattle.report.proofs.step.write_step.Statement.{statement}

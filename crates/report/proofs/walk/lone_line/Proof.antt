@@ -1,5 +1,5 @@
 -- `walk::lone_line` meets its contract: the vertex is isolated, or it is not.
-use Rattle.report.specs.Walks.{lone-none, lone-one}
+use Rattle.report.specs.laws.Walks.{lone-none, lone-one}
 use borrow.Author.Needs.{needs}
 use Rattle.report.proofs.walk.lone_line.Statement.{statement}
 use Rattle.report.proofs.walk.lone_line.Tie as tie

@@ -1,6 +1,6 @@
 -- `walk::lone_lines` meets its contract. The invariant: the lines of the isolated vertices below v are written.
-use Rattle.report.specs.Walks.{Ending, ending-none, ending-at, ending-more, ending-all}
-use Rattle.report.specs.Wrote.{wrote-length}
+use Rattle.report.specs.laws.Walks.{Ending, ending-none, ending-at, ending-more, ending-all}
+use Rattle.report.specs.laws.Wrote.{wrote-length}
 use Prim.Native.Nat.{_-_}
 use native.Mathlib.Omega.{arith}
 use Rattle.report.proofs.walk.lone_lines.Statement.{statement}

@@ -1,5 +1,5 @@
 -- `walk::walk_line` meets its contract: no walk starts at the dart, or one, whose line is written.
-use Rattle.report.specs.Walks.{placed-none, placed-walk, placed-one}
+use Rattle.report.specs.laws.Walks.{placed-none, placed-walk, placed-one}
 use borrow.Author.Needs.{needs}
 use Rattle.report.proofs.walk.walk_line.Statement.{statement}
 use Rattle.report.proofs.walk.walk_line.Tie as tie

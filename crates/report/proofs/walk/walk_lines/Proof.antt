@@ -1,6 +1,6 @@
 -- `walk::walk_lines` meets its contract. The invariant: the lines of the walks that start below d are written, and their corners are marked.
-use Rattle.report.specs.Walks.{Numbering, numbering-none, numbering-at, numbering-more, numbering-all}
-use Rattle.report.specs.Wrote.{wrote-length}
+use Rattle.report.specs.laws.Walks.{Numbering, numbering-none, numbering-at, numbering-more, numbering-all}
+use Rattle.report.specs.laws.Wrote.{wrote-length}
 use Prim.Native.Nat.{_-_}
 use native.Mathlib.Omega.{arith}
 use Rattle.report.proofs.walk.walk_lines.Statement.{statement}

@@ -1,6 +1,6 @@
 -- `walk::write_lone` meets its contract: the word, the index and the vertex.
-use Rattle.report.specs.Walks.{lone-wrote}
-use Rattle.report.specs.Wrote.{number-wrote}
+use Rattle.report.specs.laws.Walks.{lone-wrote}
+use Rattle.report.specs.laws.Wrote.{number-wrote}
 use native.Mathlib.Omega.{arith}
 use borrow.Author.Needs.{needs}
 use Rattle.report.proofs.walk.write_lone.Statement.{statement}

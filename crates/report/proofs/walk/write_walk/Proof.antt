@@ -1,5 +1,5 @@
 -- `walk::write_walk` meets its contract: the word, the index, the number of steps and the steps.
-use Rattle.report.specs.Walks.{walk-wrote}
+use Rattle.report.specs.laws.Walks.{walk-wrote}
 use borrow.Author.Needs.{needs}
 use Rattle.report.proofs.walk.write_walk.Statement.{statement}
 use Rattle.report.proofs.walk.write_walk.Tie as tie

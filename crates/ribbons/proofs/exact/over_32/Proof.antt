@@ -1,5 +1,5 @@
 -- `exact::over_32` meets its contract: the number is small enough for a cast without loss, and the division is exact.
-use Rattle.ribbons.specs.Exact.{cast-exact, over32-divided}
+use Rattle.ribbons.specs.laws.Exact.{cast-exact, over32-divided}
 use mir.Facts.{toZ-ofZ}
 use mir.Syntax.{w32}
 use native.Mathlib.Omega.{arith}

@@ -1,6 +1,6 @@
 -- `length::cut_length` meets its contract: the refusal of the step, a short slice, or what the ribbon gives.
-use Rattle.ribbons.specs.CutLength.{cut-refused, cut-short, cut-along}
-use Rattle.weave.specs.Calls.{there-steps}
+use Rattle.ribbons.specs.laws.CutLength.{cut-refused, cut-short, cut-along}
+use Rattle.weave.specs.laws.Calls.{there-steps}
 use mathlib.Core.Path.{sym, _∙_}
 use borrow.Author.Needs.{needs}
 use Rattle.ribbons.proofs.length.cut_length.Statement.{statement}

@@ -1,6 +1,6 @@
 -- `path::float_path` meets its contract: the refusal of the step, or what the path from it gives.
-use Rattle.ribbons.specs.PathCall.{path-refused, path-left}
-use Rattle.weave.specs.Calls.{there-steps}
+use Rattle.ribbons.specs.laws.PathCall.{path-refused, path-left}
+use Rattle.weave.specs.laws.Calls.{there-steps}
 use mathlib.Core.Path.{sym, _∙_}
 use borrow.Author.Needs.{needs}
 use Rattle.ribbons.proofs.path.float_path.Statement.{statement}

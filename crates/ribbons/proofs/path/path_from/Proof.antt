@@ -1,5 +1,5 @@
 -- `path::path_from` meets its contract: declined with the slices as they were, or the path written.
-use Rattle.ribbons.specs.PathCall.{along-room, left-declined, left-done}
+use Rattle.ribbons.specs.laws.PathCall.{along-room, left-declined, left-done}
 use mathlib.Core.Path.{sym, _∙_}
 use borrow.Author.Needs.{needs}
 use Rattle.ribbons.proofs.path.path_from.Statement.{statement}

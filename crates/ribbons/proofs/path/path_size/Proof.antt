@@ -1,5 +1,5 @@
 -- `path::path_size` meets its contract, a return for each refusal in its order: four short slices, many turns, far.
-use Rattle.ribbons.specs.PathCall.{short-points, short-lifts, survey-few, short-kinds, short-coords, many-turns, far-away, path-sized}
+use Rattle.ribbons.specs.laws.PathCall.{short-points, short-lifts, survey-few, short-kinds, short-coords, many-turns, far-away, path-sized}
 use native.Mathlib.Omega.{arith}
 use borrow.Author.Needs.{needs}
 use Rattle.ribbons.proofs.path.path_size.Statement.{statement}

@@ -1,5 +1,5 @@
 -- `piece::coordinate` meets its contract: over, under or flat, each sum within its word and the float exact.
-use Rattle.ribbons.specs.Coordinate.{ends-fit, twice-fits, over-fits, under-fits, over-small, under-small, flat-small, coordinate-over, coordinate-under, coordinate-flat}
+use Rattle.ribbons.specs.laws.Coordinate.{ends-fit, twice-fits, over-fits, under-fits, over-small, under-small, flat-small, coordinate-over, coordinate-under, coordinate-flat}
 use Rattle.ribbons.proofs.piece.coordinate.Statement.{statement}
 use Rattle.ribbons.proofs.piece.coordinate.Tie as tie
 

@@ -1,5 +1,5 @@
 -- `piece::letter_of` meets its contract: no letter for an edge without turns, else that of the first crossing.
-use Rattle.ribbons.specs.Pieces.{letter-none, letter-one}
+use Rattle.ribbons.specs.laws.Pieces.{letter-none, letter-one}
 use borrow.Author.Needs.{needs}
 use Rattle.ribbons.proofs.piece.letter_of.Statement.{statement}
 use Rattle.ribbons.proofs.piece.letter_of.Tie as tie

@@ -1,5 +1,5 @@
 -- `piece::piece_on` meets its contract: over, under or flat by the letter, with the point of the step.
-use Rattle.ribbons.specs.Pieces.{piece-readable, piece-over, piece-under, piece-flat}
+use Rattle.ribbons.specs.laws.Pieces.{piece-readable, piece-over, piece-under, piece-flat}
 use borrow.Author.Needs.{needs}
 use Rattle.ribbons.proofs.piece.piece_on.Statement.{statement}
 use Rattle.ribbons.proofs.piece.piece_on.Tie as tie

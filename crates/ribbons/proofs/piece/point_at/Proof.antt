@@ -1,5 +1,5 @@
 -- `piece::point_at` meets its contract: three coordinates, each of lent words that are there and in range.
-use Rattle.ribbons.specs.Coordinate.{near-held, point-made}
+use Rattle.ribbons.specs.laws.Coordinate.{near-held, point-made}
 use borrow.Author.Needs.{needs}
 use Rattle.ribbons.proofs.piece.point_at.Statement.{statement}
 use Rattle.ribbons.proofs.piece.point_at.Tie as tie

@@ -1,5 +1,5 @@
 -- `piece::point_of` meets its contract: the point that the piece holds, or positive zeros.
-use Rattle.ribbons.specs.Pieces.{zeros}
+use Rattle.ribbons.specs.laws.Pieces.{zeros}
 use borrow.Author.Needs.{needs}
 use Rattle.ribbons.proofs.piece.point_of.Statement.{statement}
 use Rattle.ribbons.proofs.piece.point_of.Tie as tie

@@ -1,5 +1,5 @@
 -- `place::places_of` meets its contract: three words for each vertex and each edge.
-use Rattle.ribbons.specs.Places.{ends, places-are}
+use Rattle.ribbons.specs.laws.Places.{ends, places-are}
 use native.Mathlib.Omega.{arith}
 use borrow.Author.Needs.{needs}
 use Rattle.ribbons.proofs.place.places_of.Statement.{statement}

@@ -1,5 +1,5 @@
 -- `range::is_far` meets its contract: the three words, tested one after the other.
-use Rattle.ribbons.specs.Range.{far-first, far-second, far-last}
+use Rattle.ribbons.specs.laws.Range.{far-first, far-second, far-last}
 use borrow.Author.Needs.{needs}
 use Rattle.ribbons.proofs.range.is_far.Statement.{statement}
 use Rattle.ribbons.proofs.range.is_far.Tie as tie

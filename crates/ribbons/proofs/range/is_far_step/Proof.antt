@@ -1,5 +1,5 @@
 -- `range::is_far_step` meets its contract: the points of the two ends and the lift, tested one after the other.
-use Rattle.ribbons.specs.Range.{first-there, second-there, lift-there, step-first, step-second, step-last}
+use Rattle.ribbons.specs.laws.Range.{first-there, second-there, lift-there, step-first, step-second, step-last}
 use borrow.Author.Needs.{needs}
 use Rattle.ribbons.proofs.range.is_far_step.Statement.{statement}
 use Rattle.ribbons.proofs.range.is_far_step.Tie as tie

@@ -1,5 +1,5 @@
 -- `range::is_past` meets its contract: below the range, or else above it exactly if the last test says so.
-use Rattle.ribbons.specs.Range.{bound-fits, past-yes, past-else}
+use Rattle.ribbons.specs.laws.Range.{bound-fits, past-yes, past-else}
 use borrow.Author.Needs.{needs}
 use Rattle.ribbons.proofs.range.is_past.Statement.{statement}
 use Rattle.ribbons.proofs.range.is_past.Tie as tie

@@ -1,5 +1,5 @@
 -- `survey::has_many_turns` meets its contract: the crossings of the edge's word.
-use Rattle.ribbons.specs.Survey.{many-read}
+use Rattle.ribbons.specs.laws.Survey.{many-read}
 use borrow.Author.Needs.{needs}
 use Rattle.ribbons.proofs.survey.has_many_turns.Statement.{statement}
 use Rattle.ribbons.proofs.survey.has_many_turns.Tie as tie

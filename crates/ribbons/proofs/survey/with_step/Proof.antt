@@ -1,5 +1,5 @@
 -- `survey::with_step` meets its contract: one step more, and each of the two flags or the new one.
-use Rattle.ribbons.specs.Survey.{with-made}
+use Rattle.ribbons.specs.laws.Survey.{with-made}
 use borrow.Author.Needs.{needs}
 use Rattle.ribbons.proofs.survey.with_step.Statement.{statement}
 use Rattle.ribbons.proofs.survey.with_step.Tie as tie

@@ -1,5 +1,5 @@
 -- `writing::write_path` meets its contract: the pieces of the walk, then Close.
-use Rattle.ribbons.specs.Laying.{closing-room, closing-kinds, closing-coords}
+use Rattle.ribbons.specs.laws.Laying.{closing-room, closing-kinds, closing-coords}
 use borrow.Author.Needs.{needs}
 use Rattle.ribbons.proofs.writing.write_path.Statement.{statement}
 use Rattle.ribbons.proofs.writing.write_path.Tie as tie

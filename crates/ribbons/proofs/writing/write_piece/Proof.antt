@@ -1,5 +1,5 @@
 -- `writing::write_piece` meets its contract: one word, and three floats from three times its index on.
-use Rattle.ribbons.specs.Laying.{wrote-made}
+use Rattle.ribbons.specs.laws.Laying.{wrote-made}
 use lib.ListN.{length-set}
 use native.Mathlib.Omega.{arith}
 use borrow.Author.Needs.{needs}

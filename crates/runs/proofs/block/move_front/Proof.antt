@@ -1,5 +1,5 @@
 -- `block::move_front` meets its contract. The invariant: the first i bytes stand at the front.
-use Rattle.runs.specs.Moving.{Moving, moving-none, moving-more, moving-all}
+use Rattle.runs.specs.laws.Moving.{Moving, moving-none, moving-more, moving-all}
 use native.Mathlib.Omega.{arith}
 use Prim.Native.Nat.{_-_}
 use Rattle.runs.proofs.block.move_front.Statement.{statement}

@@ -1,5 +1,5 @@
 -- `block::run_block` meets its contract: the records are run, and what is left of the bytes is moved, unless a bad mark ended the reading.
-use Rattle.runs.specs.Moving.{block-bad, taken-there, block-more}
+use Rattle.runs.specs.laws.Moving.{block-bad, taken-there, block-more}
 use lib.Seq.{length-take-le}
 use mathlib.Core.Path.{sym}
 use borrow.Author.Needs.{needs}

@@ -1,6 +1,6 @@
 -- `lines::no_line` meets its contract: its five fields, one after the other.
-use Rattle.text.specs.Paste.{pasted-then}
-use Rattle.text.specs.Decimal.{decimal-few}
+use Rattle.text.specs.laws.Paste.{pasted-then}
+use Rattle.text.specs.laws.Decimal.{decimal-few}
 use native.Mathlib.Omega.{arith}
 use borrow.Author.Needs.{needs}
 use Rattle.runs.proofs.lines.no_line.Statement.{statement}

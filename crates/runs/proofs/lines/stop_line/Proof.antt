@@ -1,7 +1,7 @@
 -- `lines::stop_line` meets its contract: nothing for 0, else the line of the refusal.
-use Rattle.runs.specs.Running.{stop-none}
-use Rattle.runs.specs.Lines.{stop-some}
-use Rattle.text.specs.Paste.{pasted-as}
+use Rattle.runs.specs.laws.Running.{stop-none}
+use Rattle.runs.specs.laws.Lines.{stop-some}
+use Rattle.text.specs.laws.Paste.{pasted-as}
 use borrow.Author.Needs.{needs}
 use Rattle.runs.proofs.lines.stop_line.Statement.{statement}
 use Rattle.runs.proofs.lines.stop_line.Tie as tie

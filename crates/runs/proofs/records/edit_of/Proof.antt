@@ -1,5 +1,5 @@
 -- `records::edit_of` meets its contract: for each mark the words that follow it, which are there by the record's size.
-use Rattle.runs.specs.Decoding.{size-known, add-made, remove-made, insert-made, delete-made, turn-made}
+use Rattle.runs.specs.laws.Decoding.{size-known, add-made, remove-made, insert-made, delete-made, turn-made}
 use native.Mathlib.Omega.{arith}
 use borrow.Author.Needs.{needs}
 use Rattle.runs.proofs.records.edit_of.Statement.{statement}

@@ -1,6 +1,6 @@
 -- `records::first_record` meets its contract: nothing, a lone byte, then by the mark.
 use mathlib.Core.Path.{refl}
-use Rattle.runs.specs.Decoding.{first-nothing, first-lone, first-marked}
+use Rattle.runs.specs.laws.Decoding.{first-nothing, first-lone, first-marked}
 use borrow.Author.Needs.{needs}
 use Rattle.runs.proofs.records.first_record.Statement.{statement}
 use Rattle.runs.proofs.records.first_record.Tie as tie

@@ -1,5 +1,5 @@
 -- `records::known_record` meets its contract: whole, or cut.
-use Rattle.runs.specs.Decoding.{known-cut, known-whole}
+use Rattle.runs.specs.laws.Decoding.{known-cut, known-whole}
 use borrow.Author.Needs.{needs}
 use Rattle.runs.proofs.records.known_record.Statement.{statement}
 use Rattle.runs.proofs.records.known_record.Tie as tie

@@ -1,6 +1,6 @@
 -- `records::signed` meets its contract: the lower half of the words as they are, the upper half below zero.
 use borrow.Author.Needs.{needs}
-use Rattle.runs.specs.Decoding.{signed-low, signed-high, signed-fits}
+use Rattle.runs.specs.laws.Decoding.{signed-low, signed-high, signed-fits}
 use Rattle.runs.proofs.records.signed.Statement.{statement}
 use Rattle.runs.proofs.records.signed.Tie as tie
 

@@ -1,5 +1,5 @@
 -- `run::run_record` meets its contract: the table that the edit leaves, and a line if it was declined.
-use Rattle.runs.specs.Running.{line-done, line-declined}
+use Rattle.runs.specs.laws.Running.{line-done, line-declined}
 use borrow.Author.Needs.{needs}
 use Rattle.runs.proofs.run.run_record.Statement.{statement}
 use Rattle.runs.proofs.run.run_record.Tie as tie

@@ -3,7 +3,7 @@ use borrow.Author.Needs.{needs}
 use native.Mathlib.Omega.{arith}
 use Prim.Native.Nat.{_-_}
 use lib.ListN.{length}
-use Rattle.runs.specs.Running.{Running, running-none, running-within, running-more, running-size, running-refused, running-nothing}
+use Rattle.runs.specs.laws.Running.{Running, running-none, running-within, running-more, running-size, running-refused, running-nothing}
 use Rattle.runs.proofs.run.run_records.Statement.{statement}
 use Rattle.runs.proofs.run.run_records.Tie as tie
 

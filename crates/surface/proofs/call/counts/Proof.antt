@@ -1,7 +1,7 @@
 -- `call::counts` meets its contract: torn, short or written.
-use Rattle.surface.specs.Calls.{counts-short, counts-done}
-use Rattle.table.specs.Output.{output-torn}
-use Rattle.table.specs.Check.{seen-good, seen-torn}
+use Rattle.surface.specs.laws.Calls.{counts-short, counts-done}
+use Rattle.table.specs.laws.Output.{output-torn}
+use Rattle.table.specs.laws.Check.{seen-good, seen-torn}
 use borrow.Author.Needs.{needs}
 use Rattle.surface.proofs.call.counts.Statement.{statement}
 use Rattle.surface.proofs.call.counts.Tie as tie

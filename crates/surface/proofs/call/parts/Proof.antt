@@ -1,8 +1,8 @@
 -- `call::parts` meets its contract: torn, short or written.
-use Rattle.surface.specs.Calls.{rows-size, parts-short, parts-done}
-use Rattle.surface.specs.Tally.{labelled-keyed}
-use Rattle.table.specs.Output.{output-torn}
-use Rattle.table.specs.Check.{seen-good, seen-torn}
+use Rattle.surface.specs.laws.Calls.{rows-size, parts-short, parts-done}
+use Rattle.surface.specs.laws.Tally.{labelled-keyed}
+use Rattle.table.specs.laws.Output.{output-torn}
+use Rattle.table.specs.laws.Check.{seen-good, seen-torn}
 use native.Mathlib.Omega.{arith}
 use borrow.Author.Needs.{needs}
 use Rattle.surface.proofs.call.parts.Statement.{statement}

@@ -1,7 +1,7 @@
 -- `call::write_five` meets its contract: five stores.
 use native.Mathlib.Omega.{arith}
 use lib.ListN.{length-set}
-use Rattle.surface.specs.Calls.{five-stores}
+use Rattle.surface.specs.laws.Calls.{five-stores}
 use borrow.Author.Needs.{needs}
 use Rattle.surface.proofs.call.write_five.Statement.{statement}
 use Rattle.surface.proofs.call.write_five.Tie as tie

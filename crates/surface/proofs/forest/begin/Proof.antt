@@ -1,5 +1,5 @@
 -- `forest::begin` meets its contract. The invariant: the vertices below v point to themselves.
-use Rattle.surface.specs.Linking.{Fresh, fresh-none, fresh-more}
+use Rattle.surface.specs.laws.Linking.{Fresh, fresh-none, fresh-more}
 use Prim.Native.Nat.{_-_}
 use mathlib.Core.Path.{_≡_}
 use native.Mathlib.Omega.{arith}

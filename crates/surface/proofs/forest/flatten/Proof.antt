@@ -1,5 +1,5 @@
 -- `forest::flatten` meets its contract. The invariant: the vertices below v point to their roots.
-use Rattle.surface.specs.Forest.{Flattening, flattening-none, flattening-more}
+use Rattle.surface.specs.laws.Forest.{Flattening, flattening-none, flattening-more}
 use Prim.Native.Nat.{_-_}
 use mathlib.Core.Path.{_≡_}
 use native.Mathlib.Omega.{arith}

@@ -1,5 +1,5 @@
 -- `forest::label_parts` meets its contract. The invariant: the edges below e are taken in.
-use Rattle.surface.specs.Linking.{Linking, linking-none, linking-taking, linking-more, linked-flat}
+use Rattle.surface.specs.laws.Linking.{Linking, linking-none, linking-taking, linking-more, linked-flat}
 use Prim.Native.Nat.{_-_}
 use mathlib.Core.Path.{_≡_}
 use native.Mathlib.Omega.{arith}

@@ -1,5 +1,5 @@
 -- `forest::lift` meets its contract: it is the two stores that the definition has.
-use Rattle.surface.specs.Forest.{up-low}
+use Rattle.surface.specs.laws.Forest.{up-low}
 use native.Mathlib.Omega.{arith}
 use borrow.Author.Needs.{needs}
 use Rattle.surface.proofs.forest.lift.Statement.{statement}

@@ -1,5 +1,5 @@
 -- `forest::take_edge` meets its contract, a return for each case: an edge that is not live, in one tree, between two.
-use Rattle.surface.specs.Linking.{taken-dead, taken-same, taken-up, taken-down, first-low, second-low}
+use Rattle.surface.specs.laws.Linking.{taken-dead, taken-same, taken-up, taken-down, first-low, second-low}
 use native.Mathlib.Omega.{arith}
 use borrow.Author.Needs.{needs}
 use Rattle.surface.proofs.forest.take_edge.Statement.{statement}

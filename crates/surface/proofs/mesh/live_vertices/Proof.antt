@@ -1,5 +1,5 @@
 -- `mesh::live_vertices` meets its contract. The invariant: the live vertices below v are counted.
-use Rattle.surface.specs.Mesh.{Counted, counted-none, counted-more}
+use Rattle.surface.specs.laws.Mesh.{Counted, counted-none, counted-more}
 use Rattle.table.specs.Rotation.{there?}
 use Prim.Native.Nat.{_-_, _≤_}
 use mathlib.Core.Path.{_≡_}

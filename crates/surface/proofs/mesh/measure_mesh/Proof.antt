@@ -1,7 +1,7 @@
 -- `mesh::measure_mesh` meets its contract: labels, then the counts.
-use Rattle.surface.specs.Mesh.{faces-low, mesh-counts}
-use Rattle.surface.specs.Tally.{labelled-keyed}
-use Rattle.table.specs.Lawful.{good-lawful}
+use Rattle.surface.specs.laws.Mesh.{faces-low, mesh-counts}
+use Rattle.surface.specs.laws.Tally.{labelled-keyed}
+use Rattle.table.specs.laws.Lawful.{good-lawful}
 use native.Mathlib.Omega.{arith}
 use borrow.Author.Needs.{needs}
 use Rattle.surface.proofs.mesh.measure_mesh.Statement.{statement}

@@ -1,5 +1,5 @@
 -- `mesh::one_edge` meets its contract.
-use Rattle.surface.specs.Mesh.{edge-yes, edge-no}
+use Rattle.surface.specs.laws.Mesh.{edge-yes, edge-no}
 use borrow.Author.Needs.{needs}
 use Rattle.surface.proofs.mesh.one_edge.Statement.{statement}
 use Rattle.surface.proofs.mesh.one_edge.Tie as tie

@@ -1,5 +1,5 @@
 -- `mesh::one_root` meets its contract, a return for each case: no vertex, a larger one of its part, the smallest.
-use Rattle.surface.specs.Mesh.{root-none, root-other, root-yes}
+use Rattle.surface.specs.laws.Mesh.{root-none, root-other, root-yes}
 use native.Mathlib.Omega.{arith}
 use borrow.Author.Needs.{needs}
 use Rattle.surface.proofs.mesh.one_root.Statement.{statement}

@@ -1,5 +1,5 @@
 -- `mesh::one_vertex` meets its contract.
-use Rattle.surface.specs.Mesh.{vertex-yes, vertex-no}
+use Rattle.surface.specs.laws.Mesh.{vertex-yes, vertex-no}
 use borrow.Author.Needs.{needs}
 use Rattle.surface.proofs.mesh.one_vertex.Statement.{statement}
 use Rattle.surface.proofs.mesh.one_vertex.Tie as tie

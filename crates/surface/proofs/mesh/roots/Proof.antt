@@ -1,6 +1,6 @@
 -- `mesh::roots` meets its contract. The invariant: the smallest vertices of parts below v are counted.
-use Rattle.surface.specs.Mesh.{Counted, counted-none, counted-more}
-use Rattle.surface.specs.Sums.{root?}
+use Rattle.surface.specs.laws.Mesh.{Counted, counted-none, counted-more}
+use Rattle.surface.specs.Parts.{root?}
 use Rattle.table.specs.Rotation.{rotation}
 use Prim.Native.Nat.{_-_, _≤_}
 use mathlib.Core.Path.{_≡_}

@@ -1,6 +1,6 @@
 -- `rows::labelled_rows` meets its contract: counts, then rows.
-use Rattle.surface.specs.Tally.{labelled-keyed}
-use Rattle.surface.specs.Rowing.{rowing-none}
+use Rattle.surface.specs.laws.Tally.{labelled-keyed}
+use Rattle.surface.specs.laws.Rowing.{rowing-none}
 use borrow.Author.Needs.{needs}
 use Rattle.surface.proofs.rows.labelled_rows.Statement.{statement}
 use Rattle.surface.proofs.rows.labelled_rows.Tie as tie

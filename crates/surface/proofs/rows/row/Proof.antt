@@ -2,7 +2,7 @@
 use lib.Dec.{eqb}
 use native.Mathlib.Omega.{arith}
 use lib.ListN.{length-set}
-use Rattle.surface.specs.Rows.{row-words}
+use Rattle.surface.specs.laws.Rows.{row-words}
 use borrow.Author.Needs.{needs}
 use Rattle.surface.proofs.rows.row.Statement.{statement}
 use Rattle.surface.proofs.rows.row.Tie as tie

@@ -1,5 +1,5 @@
 -- `rows::write_root` meets its contract, a return for each case: no vertex, no root, a part.
-use Rattle.surface.specs.Rowing.{turned-none, turned-other, turned-root, is-root}
+use Rattle.surface.specs.laws.Rowing.{turned-none, turned-other, turned-root, is-root}
 use native.Mathlib.Omega.{arith}
 use borrow.Author.Needs.{needs}
 use Rattle.surface.proofs.rows.write_root.Statement.{statement}

@@ -1,6 +1,6 @@
 -- `rows::write_rows` meets its contract. The invariant: the rows of the parts labelled below r stand at the front.
-use Rattle.surface.specs.Rows.{written-size}
-use Rattle.surface.specs.Rowing.{Rowing, rowing-turn, rowing-more}
+use Rattle.surface.specs.laws.Rows.{written-size}
+use Rattle.surface.specs.laws.Rowing.{Rowing, rowing-turn, rowing-more}
 use Prim.Native.Nat.{_-_}
 use mathlib.Core.Path.{_≡_}
 use native.Mathlib.Omega.{arith}

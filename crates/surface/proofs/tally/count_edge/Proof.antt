@@ -1,5 +1,5 @@
 -- `tally::count_edge` meets its contract, a return for each case: an edge that is not live, one that agrees with the marks, a twisted one.
-use Rattle.surface.specs.Tallying.{edge-near, edge-none, edge-plain, edge-twisted}
+use Rattle.surface.specs.laws.Tallying.{edge-near, edge-none, edge-plain, edge-twisted}
 use native.Mathlib.Omega.{arith}
 use borrow.Author.Needs.{needs}
 use Rattle.surface.proofs.tally.count_edge.Statement.{statement}

@@ -1,5 +1,5 @@
 -- `tally::count_edges` meets its contract. The invariant: the edges below e are counted.
-use Rattle.surface.specs.Tallying.{Edging}
+use Rattle.surface.specs.laws.Tallying.{Edging}
 use Prim.Native.Nat.{_-_, _≤_}
 use mathlib.Core.Path.{_≡_}
 use native.Mathlib.Omega.{arith}

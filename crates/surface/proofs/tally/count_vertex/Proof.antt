@@ -1,5 +1,5 @@
 -- `tally::count_vertex` meets its contract, a return for each case: a vertex that is not live, one with darts, an isolated one.
-use Rattle.surface.specs.Tallying.{vertex-low, lone-low, vertex-none, vertex-joined, vertex-alone}
+use Rattle.surface.specs.laws.Tallying.{vertex-low, lone-low, vertex-none, vertex-joined, vertex-alone}
 use native.Mathlib.Omega.{arith}
 use borrow.Author.Needs.{needs}
 use Rattle.surface.proofs.tally.count_vertex.Statement.{statement}

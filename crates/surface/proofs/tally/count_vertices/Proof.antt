@@ -1,5 +1,5 @@
 -- `tally::count_vertices` meets its contract. The invariant: the vertices below v are counted.
-use Rattle.surface.specs.Tallying.{Vertexing}
+use Rattle.surface.specs.laws.Tallying.{Vertexing}
 use Prim.Native.Nat.{_-_, _≤_}
 use mathlib.Core.Path.{_≡_}
 use native.Mathlib.Omega.{arith}

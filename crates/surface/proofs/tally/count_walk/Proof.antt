@@ -1,6 +1,6 @@
 -- `tally::count_walk` meets its contract: no walk starts at dart d, or one does.
-use Rattle.tracing.specs.Size.{seen-range}
-use Rattle.surface.specs.Tallying.{walk-none, walk-more, walk-key, walk-low, start-low}
+use Rattle.tracing.specs.laws.Size.{seen-range}
+use Rattle.surface.specs.laws.Tallying.{walk-none, walk-more, walk-key, walk-low, start-low}
 use native.Mathlib.Omega.{arith}
 use borrow.Author.Needs.{needs}
 use Rattle.surface.proofs.tally.count_walk.Statement.{statement}

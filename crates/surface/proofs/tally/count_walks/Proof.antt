@@ -1,5 +1,5 @@
 -- `tally::count_walks` meets its contract. The invariant: the walks that start below d are counted, and their corners marked.
-use Rattle.surface.specs.Tallying.{Dartwise, dartwise-none}
+use Rattle.surface.specs.laws.Tallying.{Dartwise, dartwise-none}
 use Prim.Native.Nat.{_-_, _≤_}
 use mathlib.Core.Path.{_≡_}
 use native.Mathlib.Omega.{arith}

@@ -1,5 +1,5 @@
 -- `tally::euler` meets its contract: from counts of 16 bits nothing is lost in 32.
-use Rattle.surface.specs.EulerWord.{difference-fits, euler-fits, euler-word}
+use Rattle.surface.specs.laws.EulerWord.{difference-fits, euler-fits, euler-word}
 use native.Mathlib.Omega.{arith}
 use borrow.Author.Needs.{needs}
 use Rattle.surface.proofs.tally.euler.Statement.{statement}

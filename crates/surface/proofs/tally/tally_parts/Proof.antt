@@ -1,5 +1,5 @@
 -- `tally::tally_parts` meets its contract: three counts, one after the other.
-use Rattle.surface.specs.Tallying.{tallies-keyed, tallies-vertexing, tallies-edging, tallied}
+use Rattle.surface.specs.laws.Tallying.{tallies-keyed, tallies-vertexing, tallies-edging, tallied}
 use Rattle.surface.proofs.tally.tally_parts.Statement.{statement}
 use Rattle.surface.proofs.tally.tally_parts.Tie as tie
 

@@ -1,7 +1,8 @@
 -- `table::answer::code` meets its contract. The answer as C gets it: the number, or the refusal's code.
 -- Assumes nothing.
 use native.Mathlib.Omega.{arith}
-use Rattle.table.specs.Answers.{handed-on, codeOf}
+use Rattle.table.specs.laws.Answers.{handed-on}
+use Rattle.table.specs.Answers.{codeOf}
 use mathlib.Core.Path.{sym, ap, _∙_}
 use mir.Syntax.{w64}
 use mir.Facts.{toZ-pos}

@@ -1,7 +1,7 @@
 -- `table::dart::is_bare` meets its contract. Are the three words of a dart that is not live 65,535.
 -- Assumes nothing.
 use mathlib.Core.Path.{refl}
-use Rattle.table.specs.Rotation.{holds, fails}
+use Rattle.table.specs.laws.Rotation.{holds, fails}
 use borrow.Author.Needs.{needs}
 use Rattle.table.proofs.dart.is_bare.Statement.{statement}
 use Rattle.table.proofs.dart.is_bare.Tie as tie

@@ -2,7 +2,7 @@
 -- Assumes nothing.
 use mathlib.Core.Path.{refl}
 use native.Mathlib.Omega.{arith}
-use Rattle.table.specs.Rotation.{holds, fails}
+use Rattle.table.specs.laws.Rotation.{holds, fails}
 use mir.Facts.{fits-16-64}
 use borrow.Author.Needs.{needs}
 use Rattle.table.proofs.dart.is_linked.Statement.{statement}

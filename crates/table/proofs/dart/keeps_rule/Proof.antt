@@ -1,7 +1,7 @@
 -- `table::dart::keeps_rule` meets its contract. Does dart d keep its rules, by what its edge's word w says.
 -- Assumes nothing.
-use Rattle.table.specs.Darts.{rule-dead, rule-live}
-use Rattle.table.specs.Rotation.{case-map, fails}
+use Rattle.table.specs.laws.Darts.{rule-dead, rule-live}
+use Rattle.table.specs.laws.Rotation.{case-map, fails}
 use native.Mathlib.Omega.{arith}
 use mathlib.Core.Path.{refl, sym, _∙_}
 use borrow.Author.Needs.{needs}

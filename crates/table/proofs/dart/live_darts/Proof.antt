@@ -1,9 +1,9 @@
 -- `table::dart::live_darts` meets its contract. The number of live darts, if each dart keeps its rules. The loop keeps `Passed`, and `darts - d` falls.
 -- Assumes nothing.
-use Rattle.table.specs.Darts.{passed-few, Passed, passed-none, passed-live, passed-dead, passed-all, passed-broken}
+use Rattle.table.specs.laws.Darts.{passed-few, Passed, passed-none, passed-live, passed-dead, passed-all, passed-broken}
 use borrow.Author.Tests.{not-true, not-false}
 use mathlib.Core.Path.{refl}
-use Rattle.table.specs.Rotation.{case-yes, case-no}
+use Rattle.table.specs.laws.Rotation.{case-yes, case-no}
 use Rattle.table.specs.Layout.{darts}
 use native.Mathlib.Omega.{arith}
 use Prim.Native.Nat.{_-_}

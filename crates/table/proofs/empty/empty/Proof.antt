@@ -1,7 +1,7 @@
 -- `empty::empty` meets its contract: the size is wrong, or each kind of word is filled.
 use mathlib.Core.Path.{refl}
 use borrow.Author.Tests.{eq-eqb, ne-eqb}
-use Rattle.table.specs.Empty.{filled-all}
+use Rattle.table.specs.laws.Empty.{filled-all}
 use borrow.Author.Needs.{needs}
 use Rattle.table.proofs.empty.empty.Statement.{statement}
 use Rattle.table.proofs.empty.empty.Tie as tie

@@ -1,7 +1,7 @@
 -- `table::vertex::all_led_darts` meets its contract. The number of darts on the cycles that the vertices' words lead. The loop keeps `Summed`, and `vertices - v` falls.
 -- Assumes nothing.
-use Rattle.table.specs.Vertices.{Summed, summed-none, summed-more, summed-few, summed-all, summed-broken}
-use Rattle.table.specs.Counting.{counts-broken, counts-of}
+use Rattle.table.specs.laws.Vertices.{Summed, summed-none, summed-more, summed-few, summed-all, summed-broken}
+use Rattle.table.specs.laws.Counting.{counts-broken, counts-of}
 use Rattle.table.specs.Layout.{vertices}
 use borrow.Author.Needs.{needs}
 use native.Mathlib.Omega.{arith}

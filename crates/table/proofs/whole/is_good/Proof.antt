@@ -1,9 +1,9 @@
 -- `table::whole::is_good` meets its contract. Is t a good table. Keeps no array, and reads each word a few times at most.
 -- Assumes nothing.
-use Rattle.table.specs.Check.{good-yes, good-no}
-use Rattle.table.specs.Vertices.{counted-good, good-counted}
-use Rattle.table.specs.Counting.{counts-broken, counts-of}
-use Rattle.table.specs.Darts.{good-ruled}
+use Rattle.table.specs.laws.Check.{good-yes, good-no}
+use Rattle.table.specs.laws.Vertices.{counted-good, good-counted}
+use Rattle.table.specs.laws.Counting.{counts-broken, counts-of}
+use Rattle.table.specs.laws.Darts.{good-ruled}
 use mathlib.Core.Path.{_∙_, sym}
 use borrow.Author.Needs.{needs}
 use Rattle.table.proofs.whole.is_good.Statement.{statement}

@@ -1,5 +1,5 @@
 -- `number::integer` meets its contract, by the test of the sign.
-use Rattle.text.specs.Sign.{signed-negative, signed-positive}
+use Rattle.text.specs.laws.Sign.{signed-negative, signed-positive}
 use borrow.Author.Needs.{needs}
 use Rattle.text.proofs.number.integer.Statement.{statement}
 use Rattle.text.proofs.number.integer.Tie as tie

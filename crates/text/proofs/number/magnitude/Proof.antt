@@ -1,5 +1,5 @@
 -- `number::magnitude` meets its contract: the opposite of a number of 32 bits fits 64.
-use Rattle.text.specs.Sign.{widened, negated-fits, negated-ready, negated-is, positive-ready, positive-is}
+use Rattle.text.specs.laws.Sign.{widened, negated-fits, negated-ready, negated-is, positive-ready, positive-is}
 use Rattle.text.proofs.number.magnitude.Statement.{statement}
 use Rattle.text.proofs.number.magnitude.Tie as tie
 

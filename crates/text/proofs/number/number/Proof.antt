@@ -1,6 +1,6 @@
 -- `number::number` meets its contract: the part of the array from the first digit on is the text.
-use Rattle.text.specs.Writing.{spelled-part}
-use Rattle.text.specs.Paste.{pasted-as}
+use Rattle.text.specs.laws.Writing.{spelled-part}
+use Rattle.text.specs.laws.Paste.{pasted-as}
 use borrow.Author.Needs.{needs}
 use Rattle.text.proofs.number.number.Statement.{statement}
 use Rattle.text.proofs.number.number.Tie as tie

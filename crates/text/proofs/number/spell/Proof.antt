@@ -1,5 +1,5 @@
 -- `number::spell` meets its contract. The invariant: the digits after index i stand, and those of the rest go before them.
-use Rattle.text.specs.Writing.{Spelling, spelling-none, spelling-room, spelling-more, spelling-all}
+use Rattle.text.specs.laws.Writing.{Spelling, spelling-none, spelling-room, spelling-more, spelling-all}
 use mathlib.Core.Path.{refl}
 use native.Mathlib.Omega.{arith}
 use Rattle.text.proofs.number.spell.Statement.{statement}

@@ -1,5 +1,5 @@
 -- `window::byte` meets its contract: a text of one byte.
-use Rattle.text.specs.Paste.{paste-one}
+use Rattle.text.specs.laws.Paste.{paste-one}
 use mathlib.Core.Path.{_∙_, sym, refl}
 use native.Mathlib.Omega.{arith}
 use borrow.Author.Needs.{needs}

@@ -1,6 +1,6 @@
 -- `window::bytes` meets its contract. The invariant: the first i bytes are written.
 use borrow.Author.Needs.{needs}
-use Rattle.text.specs.Writing.{Copying, copying-none, copying-more, copying-all}
+use Rattle.text.specs.laws.Writing.{Copying, copying-none, copying-more, copying-all}
 use lib.ListN.{length}
 use Prim.Native.Nat.{_-_}
 use native.Mathlib.Omega.{arith}

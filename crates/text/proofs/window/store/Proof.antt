@@ -1,5 +1,5 @@
 -- `window::store` meets its contract: the window shows the place, or it does not.
-use Rattle.text.specs.Paste.{put-before, put-past, put-in}
+use Rattle.text.specs.laws.Paste.{put-before, put-past, put-in}
 use mathlib.Core.Path.{sym}
 use borrow.Author.Needs.{needs}
 use Rattle.text.proofs.window.store.Statement.{statement}

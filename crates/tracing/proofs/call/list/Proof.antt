@@ -1,7 +1,7 @@
 -- `call::list` meets its contract: torn, short or written.
 use native.Mathlib.Omega.{arith}
-use Rattle.table.specs.Check.{seen-good, seen-torn}
-use Rattle.table.specs.Output.{output-torn, output-short, output-done}
+use Rattle.table.specs.laws.Check.{seen-good, seen-torn}
+use Rattle.table.specs.laws.Output.{output-torn, output-short, output-done}
 use borrow.Author.Needs.{needs}
 use Rattle.tracing.proofs.call.list.Statement.{statement}
 use Rattle.tracing.proofs.call.list.Tie as tie

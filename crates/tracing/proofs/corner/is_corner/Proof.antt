@@ -1,5 +1,5 @@
 -- `corner::is_corner` meets its contract, a return for each kind of word.
-use Rattle.tracing.specs.Present.{formed-dart, formed-not, formed-lone}
+use Rattle.tracing.specs.laws.Present.{formed-dart, formed-not, formed-lone}
 use borrow.Author.Needs.{needs}
 use Rattle.tracing.proofs.corner.is_corner.Statement.{statement}
 use Rattle.tracing.proofs.corner.is_corner.Tie as tie

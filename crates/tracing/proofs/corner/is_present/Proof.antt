@@ -1,5 +1,5 @@
 -- `corner::is_present` meets its contract: the word of the dart's edge, or of the vertex, says it.
-use Rattle.tracing.specs.Present.{well-dart, well-lone, present-edge, present-vertex}
+use Rattle.tracing.specs.laws.Present.{well-dart, well-lone, present-edge, present-vertex}
 use native.Mathlib.Omega.{arith}
 use borrow.Author.Needs.{needs}
 use Rattle.tracing.proofs.corner.is_present.Statement.{statement}

@@ -1,5 +1,5 @@
 -- `count::isolated` meets its contract. The invariant: n of the vertices below v are isolated.
-use Rattle.tracing.specs.Size.{Lone, lone-none, lone-more, lone-skip}
+use Rattle.tracing.specs.laws.Size.{Lone, lone-none, lone-more, lone-skip}
 use mathlib.Core.Logic.{⊎-elim}
 use mathlib.Core.Path.{_≡_}
 use native.Mathlib.Omega.{arith}

@@ -1,5 +1,5 @@
 -- `count::look` meets its contract, a return for each case: a dart that is not live, a corner that is marked, a start.
-use Rattle.tracing.specs.Size.{looked-dead, looked-met, looked-walk, start-stands}
+use Rattle.tracing.specs.laws.Size.{looked-dead, looked-met, looked-walk, start-stands}
 use borrow.Author.Needs.{needs}
 use Rattle.tracing.proofs.count.look.Statement.{statement}
 use Rattle.tracing.proofs.count.look.Tie as tie

@@ -1,7 +1,7 @@
 -- `count::mark_walk` meets its contract. The invariant: the walk is under way, and the corners of its steps so far are marked.
 -- It ends because a walk has fewer than 4,096 steps before it returns.
-use Rattle.tracing.specs.Size.{Marking, marking-none, marking-more, marking-all, marking-corner}
-use Rattle.tracing.specs.Along.{walking-few}
+use Rattle.tracing.specs.laws.Size.{Marking, marking-none, marking-more, marking-all, marking-corner}
+use Rattle.tracing.specs.laws.Along.{walking-few}
 use native.Mathlib.Omega.{arith}
 use Prim.Native.Nat.{_-_}
 use Rattle.tracing.proofs.count.mark_walk.Statement.{statement}

@@ -1,5 +1,5 @@
 -- `count::measure` meets its contract. The invariant: the walks that start below d are counted, and their corners marked.
-use Rattle.tracing.specs.Size.{Counting, counting-none, seen-range, counting-more, measured}
+use Rattle.tracing.specs.laws.Size.{Counting, counting-none, seen-range, counting-more, measured}
 use mathlib.Core.Path.{_≡_}
 use native.Mathlib.Omega.{arith}
 use Prim.Native.Nat.{_-_}

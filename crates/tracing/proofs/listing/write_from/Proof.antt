@@ -1,5 +1,5 @@
 -- `listing::write_from` meets its contract: no words where no walk starts, else the number of its steps and the steps.
-use Rattle.tracing.specs.Writing.{looked-begins, entered-none, entered-walk, walk-room}
+use Rattle.tracing.specs.laws.Writing.{looked-begins, entered-none, entered-walk, walk-room}
 use mathlib.Core.Path.{_∙_, ap}
 use lib.Seq.{length-sets}
 use lib.ListN.{length, length-set}

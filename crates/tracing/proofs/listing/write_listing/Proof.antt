@@ -1,5 +1,5 @@
 -- `listing::write_listing` meets its contract: the walks, then the empty walks.
-use Rattle.tracing.specs.Writing.{walks-room, lones-room, listed-parts}
+use Rattle.tracing.specs.laws.Writing.{walks-room, lones-room, listed-parts}
 use borrow.Author.Needs.{needs}
 use Rattle.tracing.proofs.listing.write_listing.Statement.{statement}
 use Rattle.tracing.proofs.listing.write_listing.Tie as tie

@@ -1,5 +1,5 @@
 -- `listing::write_lone` meets its contract: two words for an isolated vertex, none for another.
-use Rattle.tracing.specs.Writing.{entered-blank, entered-lone, lone-room}
+use Rattle.tracing.specs.laws.Writing.{entered-blank, entered-lone, lone-room}
 use lib.ListN.{length-set}
 use native.Mathlib.Omega.{arith}
 use borrow.Author.Needs.{needs}

@@ -1,5 +1,5 @@
 -- `listing::write_lones` meets its contract. The invariant: the empty walks of the vertices below v are written.
-use Rattle.tracing.specs.Writing.{Ending, ending-none, ending-room, ending-more}
+use Rattle.tracing.specs.laws.Writing.{Ending, ending-none, ending-room, ending-more}
 use mathlib.Core.Path.{_≡_}
 use native.Mathlib.Omega.{arith}
 use Prim.Native.Nat.{_-_}

@@ -1,6 +1,6 @@
 -- `listing::write_walk` meets its contract. The invariant: the walk is under way, and its steps so far are written.
-use Rattle.tracing.specs.Writing.{Stepping, stepping-none, stepping-within, stepping-more, stepping-all}
-use Rattle.tracing.specs.Along.{walking-few}
+use Rattle.tracing.specs.laws.Writing.{Stepping, stepping-none, stepping-within, stepping-more, stepping-all}
+use Rattle.tracing.specs.laws.Along.{walking-few}
 use lib.ListN.{length-set}
 use native.Mathlib.Omega.{arith}
 use Prim.Native.Nat.{_-_}

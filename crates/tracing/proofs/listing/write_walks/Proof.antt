@@ -1,5 +1,5 @@
 -- `listing::write_walks` meets its contract. The invariant: the walks that start below d stand at the front, and their corners are marked.
-use Rattle.tracing.specs.Writing.{Writing, writing-none, writing-room, writing-more, writing-all}
+use Rattle.tracing.specs.laws.Writing.{Writing, writing-none, writing-room, writing-more, writing-all}
 use mathlib.Core.Path.{_≡_}
 use native.Mathlib.Omega.{arith}
 use Prim.Native.Nat.{_-_}

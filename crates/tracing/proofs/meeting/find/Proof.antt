@@ -1,5 +1,5 @@
 -- `meeting::find` meets its contract. The invariant: the walk is under way and has passed neither step; the measure is what is left of it.
-use Rattle.tracing.specs.Search.{Searching, left, searching-none, searching-more, searching-less, found-first, found-second, found-neither}
+use Rattle.tracing.specs.laws.Search.{Searching, left, searching-none, searching-more, searching-less, found-first, found-second, found-neither}
 use Rattle.tracing.proofs.meeting.find.Statement.{statement}
 use Rattle.tracing.proofs.meeting.find.Tie as tie
 

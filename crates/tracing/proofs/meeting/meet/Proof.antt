@@ -1,5 +1,5 @@
 -- `meeting::meet` meets its contract, a return for each case: by the search of the walk from the first corner.
-use Rattle.tracing.specs.Meeting.{meets-itself, lone-first, lone-second, first-stands, second-stands, found-same, found-other, found-apart}
+use Rattle.tracing.specs.laws.Meeting.{meets-itself, lone-first, lone-second, first-stands, second-stands, found-same, found-other, found-apart}
 use borrow.Author.Needs.{needs}
 use Rattle.tracing.proofs.meeting.meet.Statement.{statement}
 use Rattle.tracing.proofs.meeting.meet.Tie as tie

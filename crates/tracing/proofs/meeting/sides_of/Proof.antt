@@ -1,5 +1,5 @@
 -- `meeting::sides_of` meets its contract: the search from (2e, 0) finds the same dart again, the other dart, or neither.
-use Rattle.tracing.specs.SidesFound.{edge-near, edge-stands, found-same-dart, found-both-darts, found-two-faces}
+use Rattle.tracing.specs.laws.SidesFound.{edge-near, edge-stands, found-same-dart, found-both-darts, found-two-faces}
 use native.Mathlib.Omega.{arith}
 use Rattle.tracing.proofs.meeting.sides_of.Statement.{statement}
 use Rattle.tracing.proofs.meeting.sides_of.Tie as tie

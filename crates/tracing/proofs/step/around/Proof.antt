@@ -1,5 +1,5 @@
 -- `step::around` meets its contract: the words of a live dart are darts, so twice one fits.
-use Rattle.tracing.specs.Stands.{near, around-next-word, around-prev-word}
+use Rattle.tracing.specs.laws.Stands.{near, around-next-word, around-prev-word}
 use native.Mathlib.Omega.{arith}
 use Rattle.tracing.proofs.step.around.Statement.{statement}
 use Rattle.tracing.proofs.step.around.Tie as tie

@@ -1,6 +1,6 @@
 -- `step::corner` meets its contract: a live dart's "next" is a dart.
-use Rattle.tracing.specs.Stands.{near, stands-dart, corner-next-word}
-use Rattle.tracing.specs.Step.{corner-zero}
+use Rattle.tracing.specs.laws.Stands.{near, stands-dart, corner-next-word}
+use Rattle.tracing.specs.laws.Step.{corner-zero}
 use Rattle.table.specs.Rotation.{rotation}
 use mathlib.Core.Path.{sym}
 use native.Mathlib.Omega.{arith}

@@ -1,5 +1,5 @@
 -- `step::step` meets its contract: the reverse of a live dart is live, and the type does not overflow.
-use Rattle.tracing.specs.Stands.{near, stands-dart, stands-rev}
+use Rattle.tracing.specs.laws.Stands.{near, stands-dart, stands-rev}
 use Rattle.tracing.specs.Step.{step, stepType}
 use Rattle.table.specs.Rotation.{turnsOf}
 use native.Mathlib.Omega.{arith}

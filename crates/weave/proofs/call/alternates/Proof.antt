@@ -1,6 +1,6 @@
 -- `call::alternates` meets its contract: the refusal of the step, or what the hands of its ribbon tell.
 use mathlib.Core.Path.{sym, _∙_}
-use Rattle.weave.specs.Calls.{there-steps, alternates-refused, alternates-done}
+use Rattle.weave.specs.laws.Calls.{there-steps, alternates-refused, alternates-done}
 use borrow.Author.Needs.{needs}
 use Rattle.weave.proofs.call.alternates.Statement.{statement}
 use Rattle.weave.proofs.call.alternates.Tie as tie

@@ -3,7 +3,7 @@ use lib.Seq.{length-sets}
 use lib.ListN.{length}
 use native.Mathlib.Omega.{arith}
 use mathlib.Core.Path.{sym, _∙_, ap}
-use Rattle.weave.specs.Calls.{there-steps, letters-refused, letters-short, letters-done}
+use Rattle.weave.specs.laws.Calls.{there-steps, letters-refused, letters-short, letters-done}
 use borrow.Author.Needs.{needs}
 use Rattle.weave.proofs.call.letters.Statement.{statement}
 use Rattle.weave.proofs.call.letters.Tie as tie

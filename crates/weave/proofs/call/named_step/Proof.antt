@@ -1,7 +1,7 @@
 -- `call::named_step` meets its contract, a return for each refusal in its order: torn, no such name, absent.
 use native.Mathlib.Omega.{arith}
-use Rattle.table.specs.Check.{seen-good, seen-torn}
-use Rattle.weave.specs.Calls.{named-torn, named-past, named-type, named-dead, named-there}
+use Rattle.table.specs.laws.Check.{seen-good, seen-torn}
+use Rattle.weave.specs.laws.Calls.{named-torn, named-past, named-type, named-dead, named-there}
 use borrow.Author.Needs.{needs}
 use Rattle.weave.proofs.call.named_step.Statement.{statement}
 use Rattle.weave.proofs.call.named_step.Tie as tie

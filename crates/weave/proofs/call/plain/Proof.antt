@@ -1,6 +1,6 @@
 -- `call::plain` meets its contract: torn, or what the listed ribbons tell.
-use Rattle.table.specs.Check.{seen-good, seen-torn}
-use Rattle.weave.specs.Calls.{plain-torn, plain-done}
+use Rattle.table.specs.laws.Check.{seen-good, seen-torn}
+use Rattle.weave.specs.laws.Calls.{plain-torn, plain-done}
 use borrow.Author.Needs.{needs}
 use Rattle.weave.proofs.call.plain.Statement.{statement}
 use Rattle.weave.proofs.call.plain.Tie as tie

@@ -1,7 +1,7 @@
 -- `hands::hands_along` meets its contract. The invariant: the walk is under way, and the hands of its edges so far are seen; the measure is what is left of it.
 use borrow.Author.Needs.{needs}
-use Rattle.tracing.specs.Search.{left}
-use Rattle.weave.specs.Hands.{Seeing, seeing-none, seeing-more, seeing-all, walking-less}
+use Rattle.tracing.specs.laws.Search.{left}
+use Rattle.weave.specs.laws.Hands.{Seeing, seeing-none, seeing-more, seeing-all, walking-less}
 use Rattle.weave.proofs.hands.hands_along.Statement.{statement}
 use Rattle.weave.proofs.hands.hands_along.Tie as tie
 

@@ -1,5 +1,5 @@
 -- `hands::is_alternating` meets its contract: a ribbon alternates exactly if it does not have edges of both hands.
-use Rattle.weave.specs.Hands.{tell-positive, tell-none}
+use Rattle.weave.specs.laws.Hands.{tell-positive, tell-none}
 use borrow.Author.Needs.{needs}
 use Rattle.weave.proofs.hands.is_alternating.Statement.{statement}
 use Rattle.weave.proofs.hands.is_alternating.Tie as tie

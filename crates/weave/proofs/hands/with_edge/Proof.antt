@@ -1,5 +1,5 @@
 -- `hands::with_edge` meets its contract: a turned edge adds its hand, an edge without turns none.
-use Rattle.weave.specs.Hands.{with-positive, with-negative, with-unturned}
+use Rattle.weave.specs.laws.Hands.{with-positive, with-negative, with-unturned}
 use Rattle.weave.proofs.hands.with_edge.Statement.{statement}
 use Rattle.weave.proofs.hands.with_edge.Tie as tie
 

@@ -1,5 +1,5 @@
 -- `letter::crossings` meets its contract: the turns either way from the word of an edge without turns.
-use Rattle.weave.specs.Crossing.{crossings-low, crossings-high}
+use Rattle.weave.specs.laws.Crossing.{crossings-low, crossings-high}
 use borrow.Author.Needs.{needs}
 use Rattle.weave.proofs.letter.crossings.Statement.{statement}
 use Rattle.weave.proofs.letter.crossings.Tie as tie

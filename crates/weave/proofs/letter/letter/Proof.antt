@@ -1,5 +1,5 @@
 -- `letter::letter` meets its contract, a return for each of the four ways to cross.
-use Rattle.weave.specs.Crossing.{rising-over, rising-under, falling-under, falling-over}
+use Rattle.weave.specs.laws.Crossing.{rising-over, rising-under, falling-under, falling-over}
 use Rattle.weave.proofs.letter.letter.Statement.{statement}
 use Rattle.weave.proofs.letter.letter.Tie as tie
 

@@ -2,7 +2,7 @@
 use borrow.Author.Needs.{needs}
 use Prim.Native.Nat.{_-_}
 use native.Mathlib.Omega.{arith}
-use Rattle.weave.specs.Crossing.{Crossing, crossing-none, crossing-more, crossing-within, crossing-all}
+use Rattle.weave.specs.laws.Crossing.{Crossing, crossing-none, crossing-more, crossing-within, crossing-all}
 use Rattle.weave.proofs.ribbon.write_step.Statement.{statement}
 use Rattle.weave.proofs.ribbon.write_step.Tie as tie
 

@@ -1,0 +1,14 @@
+pub mod Turns
+pub mod Held
+pub mod Splice
+pub mod Unlink
+pub mod Link
+pub mod Edge
+pub mod Ready
+pub mod Deleted
+pub mod Inserted
+pub mod Passed
+pub mod Changes
+pub mod Edits
+pub mod RoundTrip
+pub mod Verdicts

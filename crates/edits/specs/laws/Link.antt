@@ -1,0 +1,484 @@
+-- A dart put into a corner: just before the dart that names it, or alone at an isolated vertex. The rules of the darts hold again.
+use Prim.Native.Nat.{ℕ, _≤_, _<_}
+use native.Mathlib.Omega.{arith}
+use native.Mathlib.Decide.{ℕ-discrete, decLt}
+use mathlib.Core.Path.{_≡_, refl, sym, _∙_, ap}
+use mathlib.Core.Bool.{Bool, true, false, _||_}
+use mathlib.Core.List.{List}
+use mathlib.Core.Logic.{_≢_, _↔_}
+use lib.Dec.{eqb}
+use borrow.Author.Tests.{eq-eqb, ne-eqb, lt-ltb, le-ltb}
+use Rattle.orbits.specs.laws.Truth.{clash, truth, holds, fails}
+use Rattle.orbits.specs.Reach.{Reach}
+use Rattle.orbits.specs.laws.Reach.{reach-here, reach-one, reach-step, reach-trans, reach-ind}
+use Rattle.table.specs.Layout.{vertices, edges, darts, nothing, isolated, nextWord, prevWord, leaves, edgeWord, vertexWord}
+use Rattle.table.specs.laws.Writes.{upd, upd-at, upd-off}
+use Rattle.surgery.specs.Without.{bypass}
+use Rattle.surgery.specs.laws.Bypass.{bypass-self, bypass-into, bypass-off}
+use Rattle.edits.specs.laws.Held.{Held, SmallestIn, nextIn, next-in, next-out}
+use Rattle.edits.specs.laws.Splice.{Reads}
+use Rattle.edits.specs.Edge.{lesser}
+
+-- the darts of L and x
+unfoldable pub plus : (ℕ → Bool) → ℕ → ℕ → Bool
+plus L x d = eqb d x || L d
+
+pub plus-new : (L : ℕ → Bool) (x : ℕ) → plus L x x ≡ true
+unfolding plus
+plus-new L x = rw (eq-eqb x x refl)
+
+pub plus-old : (L : ℕ → Bool) (x d : ℕ) → d ≢ x → plus L x d ≡ L d
+unfolding plus
+plus-old L x d n = rw (ne-eqb d x n)
+
+pub data Plus (L : ℕ → Bool) (x d : ℕ) : Type 0 where
+  new : d ≡ x → Plus L x d
+  old : d ≢ x → L d ≡ true → Plus L x d
+
+pub plus-case : (L : ℕ → Bool) (x d : ℕ) → plus L x d ≡ true → Plus L x d
+plus-case L x d e = elim (ℕ-discrete d x) [
+  | yes p ↦ new p
+  | no n ↦ old n (sym (plus-old L x d n) ∙ e)
+]
+
+-- t with dart x more: the rules hold, and leaving x out again gives the rotation and the words of t
+pub record Grown (t u : List ℕ) (L : ℕ → Bool) (x : ℕ) : Type 0 where
+  pub held : Held u (plus L x)
+  pub next : (d : ℕ) → nextIn t L d ≡ bypass (nextIn u (plus L x)) x d
+  pub from : (d : ℕ) → d < darts → d ≢ x → leaves u d ≡ leaves t d
+  pub edge : (e : ℕ) → e < edges → edgeWord u e ≡ edgeWord t e
+  pub there : (v : ℕ) → v < vertices → (vertexWord u v ≡ nothing) ↔ (vertexWord t v ≡ nothing)
+
+-- Just before dart d: x comes between d and the dart p before it.
+module _ (t u : List ℕ) (L : ℕ → Bool) (H : Held t L) (x d p v w : ℕ) (free : L x ≡ false) (low : x < darts) (on : L d ≡ true)
+    (before : prevWord t d ≡ p) (at : leaves t d ≡ v) (word : lesser (vertexWord t v) x ≡ w)
+    (r : Reads u (upd (upd (nextWord t) x d) p x) (upd (upd (prevWord t) d x) x p) (upd (leaves t) x v) (edgeWord t) (upd (vertexWord t) v w)) where
+  not-x : (j : ℕ) → L j ≡ true → j ≢ x
+  not-x j e q = clash (rw q at e) free
+
+  p-on : L p ≡ true
+  p-on = rw (← before) (H .prev-live d on)
+
+  p-next : nextWord t p ≡ d
+  p-next = rw (← before) (H .next-prev d on)
+
+  v-low : v < vertices
+  v-low = rw (← at) (H .leaves-low d on)
+
+  p-leaves : leaves t p ≡ v
+  p-leaves = sym (H .next-leaves p p-on) ∙ ap (leaves t) p-next ∙ at
+
+  next-x : nextWord u x ≡ d
+  next-x = r .next-is x low ∙ upd-off _ p x x (λ q. not-x p p-on (sym q)) ∙ upd-at (nextWord t) x d
+
+  next-p : nextWord u p ≡ x
+  next-p = r .next-is p (H .low p p-on) ∙ upd-at _ p x
+
+  next-other : (j : ℕ) → j < darts → j ≢ x → j ≢ p → nextWord u j ≡ nextWord t j
+  next-other j h n m = r .next-is j h ∙ upd-off _ p x j m ∙ upd-off (nextWord t) x d j n
+
+  prev-d : prevWord u d ≡ x
+  prev-d = r .prev-is d (H .low d on) ∙ upd-off _ x p d (not-x d on) ∙ upd-at (prevWord t) d x
+
+  prev-x : prevWord u x ≡ p
+  prev-x = r .prev-is x low ∙ upd-at _ x p
+
+  prev-other : (j : ℕ) → j < darts → j ≢ x → j ≢ d → prevWord u j ≡ prevWord t j
+  prev-other j h n m = r .prev-is j h ∙ upd-off _ x p j n ∙ upd-off (prevWord t) d x j m
+
+  leaves-x : leaves u x ≡ v
+  leaves-x = r .from-is x low ∙ upd-at (leaves t) x v
+
+  leaves-other : (j : ℕ) → j < darts → j ≢ x → leaves u j ≡ leaves t j
+  leaves-other j h n = r .from-is j h ∙ upd-off (leaves t) x v j n
+
+  leaves-old : (j : ℕ) → L j ≡ true → leaves u j ≡ leaves t j
+  leaves-old j e = leaves-other j (H .low j e) (not-x j e)
+
+  vertex-v : vertexWord u v ≡ w
+  vertex-v = r .vertex-is v v-low ∙ upd-at (vertexWord t) v w
+
+  vertex-other : (j : ℕ) → j < vertices → j ≢ v → vertexWord u j ≡ vertexWord t j
+  vertex-other j h n = r .vertex-is j h ∙ upd-off (vertexWord t) v w j n
+
+  -- v's word before is its smallest dart
+  old-smallest : SmallestIn t L v (vertexWord t v)
+  old-smallest = H .smallest v v-low (rw at at (H .leaves-live d on)) (λ i. H .alone v v-low i d on at)
+
+  data Lesser : Type 0 where
+    takes : x < vertexWord t v → w ≡ x → Lesser
+    stays : vertexWord t v ≤ x → w ≡ vertexWord t v → Lesser
+
+  lesser-case : Lesser
+  lesser-case = elim (decLt x (vertexWord t v)) [
+    | yes h ↦ takes h (sym word ∙ rw (lt-ltb _ _ h))
+    | no h ↦ stays (omega arith) (sym word ∙ rw (le-ltb x (vertexWord t v) (omega arith)))
+  ]
+
+  w-low : w < darts
+  w-low = elim lesser-case [
+    | takes h e ↦ rw e low
+    | stays h e ↦ rw e (H .low _ (old-smallest .live))
+  ]
+
+  grow : (j : ℕ) → L j ≡ true → plus L x j ≡ true
+  grow j e = plus-old L x j (not-x j e) ∙ e
+
+  -- an old step is a step still, or two by way of x
+  old-step : (j : ℕ) → L j ≡ true → Reach (nextWord u) j (nextWord t j)
+  old-step j e = elim (ℕ-discrete j p) [
+    | yes q ↦ rw (q, p-next) (rw (next-p, next-x) at (reach-trans (reach-one {f = nextWord u} p) (reach-one (nextWord u p))))
+    | no n ↦ rw (next-other j (H .low j e) (not-x j e) n) at (reach-one {f = nextWord u} j)
+  ]
+
+  record Onward (j k : ℕ) : Type 0 where
+    live : L k ≡ true
+    path : Reach (nextWord u) j k
+
+  old-reach : (j k : ℕ) → L j ≡ true → Reach (nextWord t) j k → Reach (nextWord u) j k
+  old-reach j k e c = reach-ind (nextWord t) (Onward j) j (record { live = e; path = reach-here })
+      (λ i s o. record { live = H .next-live i (o .live); path = reach-trans (o .path) (old-step i (o .live)) }) k c .path
+
+  new-cycle : (j k : ℕ) → Plus L x j → Plus L x k → leaves u j ≡ leaves u k → Reach (nextWord u) j k
+  new-cycle j k (new a) (new b) e = rw (a, b) reach-here
+  new-cycle j k (new a) (old n b) e =
+      let s : leaves t d ≡ leaves t k = at ∙ sym leaves-x ∙ ap (leaves u) (sym a) ∙ e ∙ leaves-old k b in
+      rw a (reach-trans (rw next-x at (reach-one {f = nextWord u} x)) (old-reach d k on (H .one-cycle d k on b s)))
+  new-cycle j k (old n a) (new b) e =
+      let s : leaves t j ≡ leaves t p = sym (leaves-old j a) ∙ e ∙ ap (leaves u) b ∙ leaves-x ∙ sym p-leaves in
+      rw b (reach-trans (old-reach j p a (H .one-cycle j p a p-on s)) (rw next-p at (reach-one {f = nextWord u} p)))
+  new-cycle j k (old n a) (old m b) e = old-reach j k a (H .one-cycle j k a b (sym (leaves-old j a) ∙ e ∙ leaves-old k b))
+
+  next-new : (j : ℕ) → Plus L x j → plus L x (nextWord u j) ≡ true
+  next-new j (new a) = rw (a, next-x) (grow d on)
+  next-new j (old n a) = elim (ℕ-discrete j p) [
+    | yes q ↦ rw (q, next-p) (plus-new L x)
+    | no m ↦ rw (next-other j (H .low j a) n m) (grow _ (H .next-live j a))
+  ]
+
+  prev-new : (j : ℕ) → Plus L x j → plus L x (prevWord u j) ≡ true
+  prev-new j (new a) = rw (a, prev-x) (grow p p-on)
+  prev-new j (old n a) = elim (ℕ-discrete j d) [
+    | yes q ↦ rw (q, prev-d) (plus-new L x)
+    | no m ↦ rw (prev-other j (H .low j a) n m) (grow _ (H .prev-live j a))
+  ]
+
+  prev-next-new : (j : ℕ) → Plus L x j → prevWord u (nextWord u j) ≡ j
+  prev-next-new j (new a) = rw (a, next-x) prev-d
+  prev-next-new j (old n a) = elim (ℕ-discrete j p) [
+    | yes q ↦ rw (q, next-p) prev-x
+    | no m ↦
+        let l = H .next-live j a in
+        rw (next-other j (H .low j a) n m)
+        (prev-other (nextWord t j) (H .low _ l) (not-x _ l) (λ q. m (sym (H .prev-next j a) ∙ ap (prevWord t) q ∙ before)) ∙ H .prev-next j a)
+  ]
+
+  next-prev-new : (j : ℕ) → Plus L x j → nextWord u (prevWord u j) ≡ j
+  next-prev-new j (new a) = rw (a, prev-x) next-p
+  next-prev-new j (old n a) = elim (ℕ-discrete j d) [
+    | yes q ↦ rw (q, prev-d) next-x
+    | no m ↦
+        let l = H .prev-live j a in
+        rw (prev-other j (H .low j a) n m)
+        (next-other (prevWord t j) (H .low _ l) (not-x _ l) (λ q. m (sym (H .next-prev j a) ∙ ap (nextWord t) q ∙ p-next)) ∙ H .next-prev j a)
+  ]
+
+  leaves-new : (j : ℕ) → Plus L x j → leaves u (nextWord u j) ≡ leaves u j
+  leaves-new j (new a) = rw (a, next-x) (leaves-old d on ∙ at ∙ sym leaves-x)
+  leaves-new j (old n a) = elim (ℕ-discrete j p) [
+    | yes q ↦ rw (q, next-p) (leaves-x ∙ sym p-leaves ∙ sym (leaves-old p p-on))
+    | no m ↦ rw (next-other j (H .low j a) n m) (leaves-old _ (H .next-live j a) ∙ H .next-leaves j a ∙ sym (leaves-old j a))
+  ]
+
+  leaves-low-new : (j : ℕ) → Plus L x j → leaves u j < vertices
+  leaves-low-new j (new a) = rw (a, leaves-x) v-low
+  leaves-low-new j (old n a) = rw (leaves-old j a) (H .leaves-low j a)
+
+  vertex-live-new : (j : ℕ) → j < vertices → (j ≢ v → vertexWord t j ≢ nothing) → vertexWord u j ≢ nothing
+  vertex-live-new j h n = elim (ℕ-discrete j v) [
+    | yes q ↦ λ z. let e : w ≡ nothing = sym vertex-v ∙ ap (vertexWord u) (sym q) ∙ z in let l = w-low in omega arith
+    | no m ↦ rw (vertex-other j h m) (n m)
+  ]
+
+  leaves-live-new : (j : ℕ) → Plus L x j → vertexWord u (leaves u j) ≢ nothing
+  leaves-live-new j (new a) = vertex-live-new (leaves u j) (leaves-low-new j (new a)) (λ m. absurd (m (ap (leaves u) a ∙ leaves-x)))
+  leaves-live-new j (old n a) = vertex-live-new (leaves u j) (leaves-low-new j (old n a)) (λ m. rw (leaves-old j a) (H .leaves-live j a))
+
+  alone-new : (b : ℕ) → b < vertices → vertexWord u b ≡ isolated → (j : ℕ) → Plus L x j → leaves u j ≢ b
+  alone-new b h i j c q = elim (ℕ-discrete b v) [
+    | yes s ↦ let e : w ≡ isolated = sym vertex-v ∙ ap (vertexWord u) (sym s) ∙ i in let l = w-low in omega arith
+    | no m ↦ elsewhere c m
+  ]
+    where
+      elsewhere : Plus L x j → b ≢ v → ⊥
+      elsewhere (new a) m = m (sym q ∙ ap (leaves u) a ∙ leaves-x)
+      elsewhere (old n a) m = H .alone b h (sym (vertex-other b h m) ∙ i) j a (sym (leaves-old j a) ∙ q)
+
+  smallest-here : SmallestIn u (plus L x) v w
+  smallest-here = elim lesser-case [
+    | takes h e ↦ record {
+      live = rw e (plus-new L x);
+      here = rw e leaves-x;
+      least = λ k l q. elim (plus-case L x k l) [
+        | new a ↦ rw (e, a) (omega arith)
+        | old n a ↦ let s = old-smallest .least k a (sym (leaves-old k a) ∙ q) in omega arith
+      ];
+    }
+    | stays h e ↦ record {
+      live = rw e (grow _ (old-smallest .live));
+      here = rw e (leaves-old _ (old-smallest .live) ∙ old-smallest .here);
+      least = λ k l q. elim (plus-case L x k l) [
+        | new a ↦ rw (e, a) h
+        | old n a ↦ rw e (old-smallest .least k a (sym (leaves-old k a) ∙ q))
+      ];
+    }
+  ]
+
+  smallest-new : (b : ℕ) → b < vertices → vertexWord u b ≢ nothing → vertexWord u b ≢ isolated → SmallestIn u (plus L x) b (vertexWord u b)
+  smallest-new b h n i = elim (ℕ-discrete b v) [
+    | yes s ↦ rw (s, vertex-v) smallest-here
+    | no m ↦
+        let same = vertex-other b h m in
+        let o = H .smallest b h (rw same at n) (rw same at i) in
+        rw same (record {
+          live = grow _ (o .live);
+          here = leaves-old _ (o .live) ∙ o .here;
+          least = λ k l q. elim (plus-case L x k l) [
+            | new a ↦ absurd (m (sym q ∙ ap (leaves u) a ∙ leaves-x))
+            | old z a ↦ o .least k a (sym (leaves-old k a) ∙ q)
+          ];
+        })
+  ]
+
+  before-held : Held u (plus L x)
+  before-held = record {
+    size = r .size;
+    low = λ j e. elim (plus-case L x j e) [ new a ↦ rw a low | old n a ↦ H .low j a ];
+    bare = λ j h e.
+        let n : j ≢ x = λ q. clash (rw q (plus-new L x)) e in
+        let off : L j ≡ false = sym (plus-old L x j n) ∙ e in
+        let b = H .bare j h off in
+        record {
+          next-none = next-other j h n (λ q. clash (rw q p-on) off) ∙ b .next-none;
+          prev-none = prev-other j h n (λ q. clash (rw q on) off) ∙ b .prev-none;
+          leaves-none = leaves-other j h n ∙ b .leaves-none;
+        };
+    leaves-low = λ j e. leaves-low-new j (plus-case L x j e);
+    leaves-live = λ j e. leaves-live-new j (plus-case L x j e);
+    next-live = λ j e. next-new j (plus-case L x j e);
+    prev-live = λ j e. prev-new j (plus-case L x j e);
+    prev-next = λ j e. prev-next-new j (plus-case L x j e);
+    next-prev = λ j e. next-prev-new j (plus-case L x j e);
+    next-leaves = λ j e. leaves-new j (plus-case L x j e);
+    one-cycle = λ j k e f. new-cycle j k (plus-case L x j e) (plus-case L x k f);
+    alone = λ b h i j e. alone-new b h i j (plus-case L x j e);
+    smallest = smallest-new;
+  }
+
+  before-next : (j : ℕ) → nextIn t L j ≡ bypass (nextIn u (plus L x)) x j
+  before-next j = elim (ℕ-discrete j x) [
+    | yes q ↦ rw q (next-out t L x free ∙ sym (bypass-self (nextIn u (plus L x)) x))
+    | no n ↦ elim (truth (L j)) [
+      | fails f ↦
+          let e = next-out u (plus L x) j (plus-old L x j n ∙ f) in
+          next-out t L j f ∙ sym (bypass-off (nextIn u (plus L x)) x j n (rw e n) ∙ e)
+      | holds l ↦ elim (ℕ-discrete j p) [
+        | yes q ↦
+            let e : nextIn u (plus L x) p ≡ x = next-in u (plus L x) p (grow p p-on) ∙ next-p in
+            rw q (next-in t L p p-on ∙ p-next ∙ sym (bypass-into (nextIn u (plus L x)) x p (not-x p p-on) e ∙ next-in u (plus L x) x (plus-new L x) ∙ next-x))
+        | no m ↦
+            let e : nextIn u (plus L x) j ≡ nextWord t j = next-in u (plus L x) j (grow j l) ∙ next-other j (H .low j l) n m in
+            next-in t L j l ∙ sym (bypass-off (nextIn u (plus L x)) x j n (rw e (not-x _ (H .next-live j l))) ∙ e)
+      ]
+    ]
+  ]
+
+  -- where x stands
+  pub before-seat : (leaves u x ≡ v) × (nextWord u x ≡ d)
+  before-seat = (leaves-x, next-x)
+
+  pub before-grown : Grown t u L x
+  before-grown = record {
+    held = before-held;
+    next = before-next;
+    from = leaves-other;
+    edge = r .edge-is;
+    there = λ b h. elim (ℕ-discrete b v) [
+      | yes q ↦ (
+        λ z. let e : w ≡ nothing = sym vertex-v ∙ ap (vertexWord u) (sym q) ∙ z in let l = w-low in absurd (omega arith),
+        λ z. absurd (rw at at (H .leaves-live d on) (ap (vertexWord t) (sym q) ∙ z)),
+      )
+      | no m ↦ let e = vertex-other b h m in (λ z. sym e ∙ z, λ z. e ∙ z)
+    ];
+  }
+
+-- Alone at an isolated vertex v.
+module _ (t u : List ℕ) (L : ℕ → Bool) (H : Held t L) (x v : ℕ) (free : L x ≡ false) (low : x < darts) (v-low : v < vertices) (bare : vertexWord t v ≡ isolated)
+    (r : Reads u (upd (upd (nextWord t) x x) x x) (upd (upd (prevWord t) x x) x x) (upd (leaves t) x v) (edgeWord t) (upd (vertexWord t) v x)) where
+  lone-not-x : (j : ℕ) → L j ≡ true → j ≢ x
+  lone-not-x j e q = clash (rw q at e) free
+
+  lone-next : nextWord u x ≡ x
+  lone-next = r .next-is x low ∙ upd-at _ x x
+
+  lone-prev : prevWord u x ≡ x
+  lone-prev = r .prev-is x low ∙ upd-at _ x x
+
+  lone-leaves : leaves u x ≡ v
+  lone-leaves = r .from-is x low ∙ upd-at (leaves t) x v
+
+  lone-vertex : vertexWord u v ≡ x
+  lone-vertex = r .vertex-is v v-low ∙ upd-at (vertexWord t) v x
+
+  next-off : (j : ℕ) → j < darts → j ≢ x → nextWord u j ≡ nextWord t j
+  next-off j h n = r .next-is j h ∙ upd-off _ x x j n ∙ upd-off (nextWord t) x x j n
+
+  prev-off : (j : ℕ) → j < darts → j ≢ x → prevWord u j ≡ prevWord t j
+  prev-off j h n = r .prev-is j h ∙ upd-off _ x x j n ∙ upd-off (prevWord t) x x j n
+
+  leaves-off : (j : ℕ) → j < darts → j ≢ x → leaves u j ≡ leaves t j
+  leaves-off j h n = r .from-is j h ∙ upd-off (leaves t) x v j n
+
+  vertex-off : (j : ℕ) → j < vertices → j ≢ v → vertexWord u j ≡ vertexWord t j
+  vertex-off j h n = r .vertex-is j h ∙ upd-off (vertexWord t) v x j n
+
+  on-next : (j : ℕ) → L j ≡ true → nextWord u j ≡ nextWord t j
+  on-next j e = next-off j (H .low j e) (lone-not-x j e)
+
+  on-prev : (j : ℕ) → L j ≡ true → prevWord u j ≡ prevWord t j
+  on-prev j e = prev-off j (H .low j e) (lone-not-x j e)
+
+  on-leaves : (j : ℕ) → L j ≡ true → leaves u j ≡ leaves t j
+  on-leaves j e = leaves-off j (H .low j e) (lone-not-x j e)
+
+  -- no old dart is there
+  elsewhere : (j : ℕ) → L j ≡ true → leaves t j ≢ v
+  elsewhere j e = H .alone v v-low bare j e
+
+  keep : (j : ℕ) → L j ≡ true → plus L x j ≡ true
+  keep j e = plus-old L x j (lone-not-x j e) ∙ e
+
+  record Along (j k : ℕ) : Type 0 where
+    live : L k ≡ true
+    path : Reach (nextWord u) j k
+
+  same-reach : (j k : ℕ) → L j ≡ true → Reach (nextWord t) j k → Reach (nextWord u) j k
+  same-reach j k e c = reach-ind (nextWord t) (Along j) j (record { live = e; path = reach-here })
+      (λ i s o. record { live = H .next-live i (o .live); path = rw (← (on-next i (o .live))) (reach-step (o .path)) }) k c .path
+
+  lone-cycle : (j k : ℕ) → Plus L x j → Plus L x k → leaves u j ≡ leaves u k → Reach (nextWord u) j k
+  lone-cycle j k (new a) (new b) e = rw (a, b) reach-here
+  lone-cycle j k (new a) (old n b) e = absurd (elsewhere k b (sym (on-leaves k b) ∙ sym e ∙ ap (leaves u) a ∙ lone-leaves))
+  lone-cycle j k (old n a) (new b) e = absurd (elsewhere j a (sym (on-leaves j a) ∙ e ∙ ap (leaves u) b ∙ lone-leaves))
+  lone-cycle j k (old n a) (old m b) e = same-reach j k a (H .one-cycle j k a b (sym (on-leaves j a) ∙ e ∙ on-leaves k b))
+
+  lone-smallest : (b : ℕ) → b < vertices → vertexWord u b ≢ nothing → vertexWord u b ≢ isolated → SmallestIn u (plus L x) b (vertexWord u b)
+  lone-smallest b h n i = elim (ℕ-discrete b v) [
+    | yes s ↦ rw (s, lone-vertex) (record {
+      live = plus-new L x;
+      here = lone-leaves;
+      least = λ k l q. elim (plus-case L x k l) [
+        | new a ↦ rw a (omega arith)
+        | old z a ↦ absurd (elsewhere k a (sym (on-leaves k a) ∙ q))
+      ];
+    })
+    | no m ↦
+        let same = vertex-off b h m in
+        let o = H .smallest b h (rw same at n) (rw same at i) in
+        rw same (record {
+          live = keep _ (o .live);
+          here = on-leaves _ (o .live) ∙ o .here;
+          least = λ k l q. elim (plus-case L x k l) [
+            | new a ↦ absurd (m (sym q ∙ ap (leaves u) a ∙ lone-leaves))
+            | old z a ↦ o .least k a (sym (on-leaves k a) ∙ q)
+          ];
+        })
+  ]
+
+  lone-alone : (b : ℕ) → b < vertices → vertexWord u b ≡ isolated → (j : ℕ) → Plus L x j → leaves u j ≢ b
+  lone-alone b h i j c q = elim (ℕ-discrete b v) [
+    | yes s ↦ let e : x ≡ isolated = sym lone-vertex ∙ ap (vertexWord u) (sym s) ∙ i in omega arith
+    | no m ↦ other c m
+  ]
+    where
+      other : Plus L x j → b ≢ v → ⊥
+      other (new a) m = m (sym q ∙ ap (leaves u) a ∙ lone-leaves)
+      other (old n a) m = H .alone b h (sym (vertex-off b h m) ∙ i) j a (sym (on-leaves j a) ∙ q)
+
+  lone-there : (j : ℕ) → Plus L x j → vertexWord u (leaves u j) ≢ nothing
+  lone-there j (new a) z = let e : x ≡ nothing = sym lone-vertex ∙ ap (vertexWord u) (sym (ap (leaves u) a ∙ lone-leaves)) ∙ z in omega arith
+  lone-there j (old n a) z =
+      H .leaves-live j a (sym (vertex-off (leaves t j) (H .leaves-low j a) (elsewhere j a)) ∙ ap (vertexWord u) (sym (on-leaves j a)) ∙ z)
+
+  alone-held : Held u (plus L x)
+  alone-held = record {
+    size = r .size;
+    low = λ j e. elim (plus-case L x j e) [ new a ↦ rw a low | old n a ↦ H .low j a ];
+    bare = λ j h e.
+        let n : j ≢ x = λ q. clash (rw q (plus-new L x)) e in
+        let b = H .bare j h (sym (plus-old L x j n) ∙ e) in
+        record {
+          next-none = next-off j h n ∙ b .next-none;
+          prev-none = prev-off j h n ∙ b .prev-none;
+          leaves-none = leaves-off j h n ∙ b .leaves-none;
+        };
+    leaves-low = λ j e. elim (plus-case L x j e) [
+      | new a ↦ rw (a, lone-leaves) v-low
+      | old n a ↦ rw (on-leaves j a) (H .leaves-low j a)
+    ];
+    leaves-live = λ j e. lone-there j (plus-case L x j e);
+    next-live = λ j e. elim (plus-case L x j e) [
+      | new a ↦ rw (a, lone-next) (plus-new L x)
+      | old n a ↦ rw (on-next j a) (keep _ (H .next-live j a))
+    ];
+    prev-live = λ j e. elim (plus-case L x j e) [
+      | new a ↦ rw (a, lone-prev) (plus-new L x)
+      | old n a ↦ rw (on-prev j a) (keep _ (H .prev-live j a))
+    ];
+    prev-next = λ j e. elim (plus-case L x j e) [
+      | new a ↦ rw (a, lone-next) lone-prev
+      | old n a ↦ rw (on-next j a) (on-prev _ (H .next-live j a) ∙ H .prev-next j a)
+    ];
+    next-prev = λ j e. elim (plus-case L x j e) [
+      | new a ↦ rw (a, lone-prev) lone-next
+      | old n a ↦ rw (on-prev j a) (on-next _ (H .prev-live j a) ∙ H .next-prev j a)
+    ];
+    next-leaves = λ j e. elim (plus-case L x j e) [
+      | new a ↦ rw (a, lone-next)
+      | old n a ↦ rw (on-next j a) (on-leaves _ (H .next-live j a) ∙ H .next-leaves j a ∙ sym (on-leaves j a))
+    ];
+    one-cycle = λ j k e f. lone-cycle j k (plus-case L x j e) (plus-case L x k f);
+    alone = λ b h i j e. lone-alone b h i j (plus-case L x j e);
+    smallest = lone-smallest;
+  }
+
+  alone-next : (j : ℕ) → nextIn t L j ≡ bypass (nextIn u (plus L x)) x j
+  alone-next j = elim (ℕ-discrete j x) [
+    | yes q ↦ rw q (next-out t L x free ∙ sym (bypass-self (nextIn u (plus L x)) x))
+    | no n ↦ elim (truth (L j)) [
+      | fails f ↦
+          let e = next-out u (plus L x) j (plus-old L x j n ∙ f) in
+          next-out t L j f ∙ sym (bypass-off (nextIn u (plus L x)) x j n (rw e n) ∙ e)
+      | holds l ↦
+          let e : nextIn u (plus L x) j ≡ nextWord t j = next-in u (plus L x) j (keep j l) ∙ on-next j l in
+          next-in t L j l ∙ sym (bypass-off (nextIn u (plus L x)) x j n (rw e (lone-not-x _ (H .next-live j l))) ∙ e)
+    ]
+  ]
+
+  pub alone-seat : (leaves u x ≡ v) × (nextWord u x ≡ x)
+  alone-seat = (lone-leaves, lone-next)
+
+  pub alone-grown : Grown t u L x
+  alone-grown = record {
+    held = alone-held;
+    next = alone-next;
+    from = leaves-off;
+    edge = r .edge-is;
+    there = λ b h. elim (ℕ-discrete b v) [
+      | yes q ↦ (
+        λ z. let e : x ≡ nothing = sym lone-vertex ∙ ap (vertexWord u) (sym q) ∙ z in absurd (omega arith),
+        λ z. let e : isolated ≡ nothing = sym bare ∙ ap (vertexWord t) (sym q) ∙ z in absurd (omega arith),
+      )
+      | no m ↦ let e = vertex-off b h m in (λ z. sym e ∙ z, λ z. e ∙ z)
+    ];
+  }

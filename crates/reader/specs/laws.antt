@@ -1,0 +1,5 @@
+pub mod Counts
+pub mod Forward
+pub mod Reading
+pub mod Walked
+pub mod Words

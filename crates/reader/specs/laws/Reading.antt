@@ -1,0 +1,166 @@
+-- The walk reader, document 01, "Corners and walks": where it stands, when it declines, and what a step leaves.
+use Prim.Native.Nat.{ℕ, _+_, _*_, _/_, _<_, _≤_}
+use native.Mathlib.Omega.{arith}
+use mathlib.Core.Path.{_≡_, refl, sym, _∙_, ap}
+use mathlib.Core.Bool.{Bool, true, false, _&&_}
+use mathlib.Core.List.{List}
+use lib.Dec.{ltb, eqb}
+use borrow.Author.Tests.{lt-ltb, le-ltb, ltb-true}
+use Rattle.orbits.specs.laws.Truth.{truth, holds, fails, both-left, both-right}
+use Rattle.table.specs.Layout.{darts, edgeOf, edgeWord}
+use Rattle.table.specs.Rotation.{rotation, live?}
+use Rattle.table.specs.laws.Rotation.{yes-live, not-live, case-yes}
+use Rattle.table.specs.Check.{good?}
+use Rattle.table.specs.laws.Check.{good-case}
+use Rattle.table.specs.laws.Output.{done-declined}
+use Rattle.table.specs.declared.answer.Answer.the-variants.{Done, Declined}
+use Rattle.table.specs.declared.answer.Refusal.{Refusal}
+use Rattle.table.specs.declared.answer.Refusal.the-variants.{Torn, NoSuchName, Absent}
+use Rattle.tracing.specs.Step.{step}
+use Rattle.tracing.specs.Listing.{bit}
+use Rattle.tracing.specs.laws.Stands.{Stands}
+use Rattle.weave.specs.declared.call.Named.{Named}
+use Rattle.weave.specs.declared.call.Named.the-variants.{There, Refused}
+use Rattle.weave.specs.Calls.{namedStep}
+use Rattle.reader.specs.declared.place.Step.{Step}
+use Rattle.reader.specs.declared.tally.Tally.{Tally}
+use Rattle.reader.specs.declared.tally.Tallied.{Tallied}
+use Rattle.reader.specs.declared.tally.Tallied.the-variants.{Brought, Kept}
+use Rattle.reader.specs.declared.walk.Stepped.{Stepped}
+use Rattle.reader.specs.Forward.{tallyOf}
+use Rattle.reader.specs.Reading.{beginBy, beginOf, wordAt, inRange, placed, stays, moved, steppedBy, stepBy, stepOf}
+
+-- "Every step declines as the making of the reader would"
+pub placed-begun : (t : List ℕ) (s : Step) → placed t s s ≡ namedStep t (s .dart) (s .kind)
+unfolding placed namedStep
+placed-begun t s = rw (and-self (inRange (s .dart) (s .kind)), and-self (live? t (s .dart)))
+  where
+    and-self : (b : Bool) → (b && b) ≡ b
+    and-self true = refl
+    and-self false = refl
+
+-- and so a reader that could not be made hands out no step
+pub begun-declined : (t : List ℕ) (s : Step) (lengths : List ℕ) (y : Tally) {r : Refusal} → beginOf t (s .dart) (s .kind) ≡ Declined r → stepOf t s s lengths y ≡ stays s y r
+begun-declined t s lengths y {r} e = ap (stepBy t s s lengths y) (placed-begun t s ∙ refused (namedStep t (s .dart) (s .kind)) e)
+  where
+    refused : (n : Named) → beginBy n ≡ Declined r → n ≡ Refused r
+    refused (There x) f = absurd (done-declined (sym f))
+    refused (Refused q) f = let same : q ≡ r = cc in ap Refused same
+
+-- the ends of the making
+
+module _ (t : List ℕ) (d k : ℕ) {n : Named} (e : n ≡ namedStep t d k) where
+  pub begin-refused : {r : Refusal} → n ≡ Refused r → Declined r ≡ beginOf t d k
+  begin-refused f = sym (ap beginBy (sym e ∙ f))
+
+  pub begin-there : {s : ℕ} → n ≡ There s → Done 0 ≡ beginOf t d k
+  begin-there f = sym (ap beginBy (sym e ∙ f))
+
+-- a step that has a name
+pub in-range : (d k : ℕ) → d < darts → k ≤ 1 → inRange d k ≡ true
+in-range d k h l = rw (lt-ltb d darts h, lt-ltb k 2 (omega arith))
+
+-- the ends of the placing
+
+module _ (t : List ℕ) (at first : Step) where
+  pub placed-torn : good? t ≡ false → Refused Torn ≡ placed t at first
+  unfolding placed
+  placed-torn g = rw g
+
+  module _ (g : good? t ≡ true) where
+    pub placed-past : darts ≤ at .dart → Refused NoSuchName ≡ placed t at first
+    unfolding placed
+    placed-past h = rw (g, le-ltb (at .dart) darts h)
+
+    pub placed-type : at .dart < darts → 1 < at .kind → Refused NoSuchName ≡ placed t at first
+    unfolding placed
+    placed-type h l = rw (g, lt-ltb (at .dart) darts h, le-ltb (at .kind) 2 (omega arith))
+
+    module _ (n : inRange (at .dart) (at .kind) ≡ true) where
+      pub first-past : darts ≤ first .dart → Refused NoSuchName ≡ placed t at first
+      unfolding placed
+      first-past h = rw (g, n, le-ltb (first .dart) darts h)
+
+      pub first-type : first .dart < darts → 1 < first .kind → Refused NoSuchName ≡ placed t at first
+      unfolding placed
+      first-type h l = rw (g, n, lt-ltb (first .dart) darts h, le-ltb (first .kind) 2 (omega arith))
+
+      module _ (m : inRange (first .dart) (first .kind) ≡ true) where
+        pub placed-dead : edgeWord t (edgeOf (at .dart)) ≡ 0 → Refused Absent ≡ placed t at first
+        unfolding placed
+        placed-dead z = rw (g, n, m, not-live t (at .dart) (λ v. v .on z))
+
+        pub first-dead : at .dart < darts → (edgeWord t (edgeOf (at .dart)) ≡ 0 → ⊥) → edgeWord t (edgeOf (first .dart)) ≡ 0 → Refused Absent ≡ placed t at first
+        unfolding placed
+        first-dead h on z = rw (g, n, m, yes-live t (at .dart) (record { low = h; on = on }), not-live t (first .dart) (λ v. v .on z))
+
+        pub placed-there : live? t (at .dart) ≡ true → live? t (first .dart) ≡ true → There (wordAt at) ≡ placed t at first
+        unfolding placed
+        placed-there l f = rw (g, n, m, l, f)
+
+-- a reader that stands at a live step, and whose walk began at one
+pub record Placed (t : List ℕ) (at first : Step) (s : ℕ) : Type 0 where
+  pub stands : Stands t s
+  pub word : s ≡ 2 * at .dart + at .kind
+  pub first-low : first .dart < darts
+  pub first-type : first .kind < 2
+
+pub there-placed : {t : List ℕ} {at first : Step} {s : ℕ} → There s ≡ placed t at first → Placed t at first s
+unfolding placed
+there-placed {t} {at} {first} {s} e = elim (truth (good? t)) [
+  | fails g ↦ absurd (other (rw g at e))
+  | holds g ↦ elim (truth (inRange (at .dart) (at .kind) && inRange (first .dart) (first .kind))) [
+    | fails n ↦ absurd (other (rw (g, n) at e))
+    | holds n ↦ elim (truth (live? t (at .dart) && live? t (first .dart))) [
+      | fails l ↦ absurd (other (rw (g, n, l) at e))
+      | holds l ↦
+          let here = both-left (inRange (at .dart) (at .kind)) (inRange (first .dart) (first .kind)) n in
+          let start = both-right (inRange (at .dart) (at .kind)) (inRange (first .dart) (first .kind)) n in
+          let low = ltb-true (at .kind) 2 (both-right (ltb (at .dart) darts) (ltb (at .kind) 2) here) in
+          let f : There s ≡ There (2 * at .dart + at .kind) = rw (g, n, l) at e in
+          let word : s ≡ 2 * at .dart + at .kind = cc in
+          let half : s / 2 ≡ at .dart = omega arith in
+          record {
+            stands = record { good = case-yes (good-case t) g; live = rw half (both-left (live? t (at .dart)) (live? t (first .dart)) l) };
+            word = word;
+            first-low = ltb-true (first .dart) darts (both-left (ltb (first .dart) darts) (ltb (first .kind) 2) start);
+            first-type = ltb-true (first .kind) 2 (both-right (ltb (first .dart) darts) (ltb (first .kind) 2) start);
+          }
+    ]
+  ]
+]
+  where
+    other : {r : Refusal} → There s ≡ Refused r → ⊥
+    other f = let z : _≡_ {A = ℕ} 0 1 = cc in omega arith
+
+-- the ends of a step
+
+module _ (t : List ℕ) (at first : Step) (lengths : List ℕ) (y : Tally) {n : Named} (e : n ≡ placed t at first) where
+  pub step-refused : {r : Refusal} {q : Stepped} → n ≡ Refused r → q ≡ stays at y r → q ≡ stepOf t at first lengths y
+  step-refused f h = h ∙ sym (ap (stepBy t at first lengths y) (sym e ∙ f))
+
+  module _ {s : ℕ} {m : Tallied} (f : n ≡ There s) (g : m ≡ tallyOf t s lengths y) where
+    stepped : steppedBy t at first y s m ≡ stepOf t at first lengths y
+    stepped = ap (steppedBy t at first y s) g ∙ sym (ap (stepBy t at first lengths y) (sym e ∙ f))
+
+    pub step-kept : {r : Refusal} {q : Stepped} → m ≡ Kept r → q ≡ stays at y r → q ≡ stepOf t at first lengths y
+    step-kept k h = h ∙ sym (ap (steppedBy t at first y s) k) ∙ stepped
+
+    pub step-moved : {z : Tally} {next : ℕ} {q : Stepped} → m ≡ Brought z → next ≡ step (rotation t) s → q ≡ moved next first z → q ≡ stepOf t at first lengths y
+    step-moved {z} k h i = i ∙ ap (λ x. moved x first z) h ∙ sym (ap (steppedBy t at first y s) k) ∙ stepped
+
+-- a step goes on, or it leaves the reader and the tally as they were
+pub data Settled (at : Step) (y : Tally) (q : Stepped) : Type 0 where
+  goes : (n : ℕ) → q .answer ≡ Done n → Settled at y q
+  rests : (r : Refusal) → q ≡ stays at y r → Settled at y q
+
+pub settled : (t : List ℕ) (at first : Step) (lengths : List ℕ) (y : Tally) → Settled at y (stepOf t at first lengths y)
+settled t at first lengths y = by (placed t at first)
+  where
+    tallied : (s : ℕ) (m : Tallied) → Settled at y (steppedBy t at first y s m)
+    tallied s (Brought z) = goes (bit (eqb (step (rotation t) s) (wordAt first))) refl
+    tallied s (Kept r) = rests r refl
+
+    by : (n : Named) → Settled at y (stepBy t at first lengths y n)
+    by (There s) = tallied s (tallyOf t s lengths y)
+    by (Refused r) = rests r refl

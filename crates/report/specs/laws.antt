@@ -1,0 +1,5 @@
+pub mod Wrote
+pub mod Parts
+pub mod Steps
+pub mod Walks
+pub mod Whole

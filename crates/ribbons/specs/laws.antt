@@ -1,0 +1,11 @@
+pub mod Coordinate
+pub mod CutLength
+pub mod Exact
+pub mod Summing
+pub mod Places
+pub mod Laying
+pub mod Survey
+pub mod PathCall
+pub mod Pieces
+pub mod Range
+pub mod Unrounded

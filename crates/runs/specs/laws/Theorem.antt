@@ -1,0 +1,130 @@
+-- The third demand: one claim about a whole run, a field for each clause, document 01, "Runs of edits".
+-- It holds for every list of edits, declined ones included, from every good table, and so from the empty mesh.
+use Prim.Native.Nat.{ℕ}
+use native.Mathlib.Omega.{arith}
+use mathlib.Core.Path.{_≡_, refl, sym, _∙_, ap}
+use mathlib.Core.List.{List, [], _∷_, _++_}
+use lib.IntN.{pos, _+ℤ_, +ℤ-idr, +ℤ-assoc}
+use Rattle.table.specs.Good.{Good}
+use Rattle.table.specs.Rotation.{Rotation, Lawful, rotation}
+use Rattle.table.specs.laws.Lawful.{good-lawful}
+use Rattle.table.specs.Empty.{emptyTable}
+use Rattle.table.specs.laws.Empty.{empty-good}
+use Rattle.table.specs.laws.Output.{output-accepted}
+use Rattle.table.specs.laws.Signed.{difference, below, above}
+use Rattle.table.specs.declared.answer.Answer.the-variants.{Done, Declined}
+use Rattle.tracing.specs.Listing.{listing}
+use Rattle.tracing.specs.laws.Met.{present-once, absent-never}
+use Rattle.tracing.specs.laws.Edges.{edge-twice}
+use Rattle.tracing.specs.laws.Stands.{stands-low}
+use Rattle.surgery.specs.Change.{Change, less, as-many, more, Changes}
+use Rattle.edits.specs.Edits.{verdict, edited, answer}
+use Rattle.edits.specs.laws.Edits.{edited-passes, edited-declines, answer-passes, answer-declines}
+use Rattle.edits.specs.laws.Passed.{written-good}
+use Rattle.edits.specs.Changes.{change}
+use Rattle.edits.specs.laws.Changes.{written-changes}
+use Rattle.edits.specs.declared.edit.Edit.{Edit}
+use Rattle.edits.specs.declared.edit.Verdict.{Verdict}
+use Rattle.edits.specs.declared.edit.Verdict.the-variants.{Passes, Declines}
+use Rattle.surface.specs.laws.Tables.{table-parts}
+use Rattle.surface.specs.Calls.{countsOf, partRows}
+use Rattle.weave.specs.laws.Calls.{letters-accepted, alternates-accepted, plain-accepted}
+use Rattle.weave.specs.laws.Ribbon.{alternates-iff}
+use Rattle.runs.specs.Run.{run, number, calls, called, faceNumber}
+use Rattle.runs.specs.laws.Run.{run-append, run-one}
+use Rattle.runs.specs.RunLaws.{RunLaws}
+
+-- a verdict is one of two
+data Judged (v : Verdict) : Type 0 where
+  passed : v ≡ Passes → Judged v
+  declined : (r : _) → v ≡ Declines r → Judged v
+
+judged : (v : Verdict) → Judged v
+judged Passes = passed refl
+judged (Declines r) = declined r refl
+
+-- one edit
+
+pub edited-good : (t : List ℕ) (E : Edit) → Good t → Good (edited t E)
+edited-good t E g = elim (judged (verdict t E)) [
+  | passed p ↦ rw (edited-passes t E p) (written-good t E p)
+  | declined r p ↦ rw (edited-declines t E r p) g
+]
+
+-- a change of the number of faces, as a sum
+change-sum : (c : Change) (F G : ℕ) → Changes c F G → pos G ≡ pos F +ℤ number c
+change-sum less F G e = elim (difference F 1) [
+  | below h q ↦ absurd (omega arith)
+  | above h q ↦ sym (q ∙ ap pos (omega arith))
+]
+change-sum as-many F G e = ap pos e ∙ ap pos (omega arith)
+change-sum more F G e = ap pos (omega arith)
+
+pub edited-count : (t : List ℕ) (E : Edit) → Good t → faceNumber (edited t E) ≡ faceNumber t +ℤ calls t E
+unfolding calls
+edited-count t E g = elim (judged (verdict t E)) [
+  | passed p ↦ rw (edited-passes t E p, p) (change-sum (change t E) _ _ (written-changes t E p))
+  | declined r p ↦ rw (edited-declines t E r p, p) (sym (+ℤ-idr (faceNumber t)))
+]
+
+-- an edit that answers a number went through, and the number is the new face count
+pub answered-count : (t : List ℕ) (E : Edit) (n : ℕ) → answer t E ≡ Done n → pos n ≡ faceNumber (edited t E)
+answered-count t E n a = elim (judged (verdict t E)) [
+  | passed p ↦ rw (edited-passes t E p) (ap pos (same (sym a ∙ answer-passes t E p)))
+  | declined r p ↦ absurd (never (sym a ∙ answer-declines t E r p))
+]
+  where
+    same : {m : ℕ} → Done n ≡ Done m → n ≡ m
+    same e = cc
+
+    never : {r : _} → Done n ≡ Declined r → ⊥
+    never e = let z : _≡_ {A = ℕ} 0 1 = cc in omega arith
+
+-- the whole run
+
+pub run-good : (t : List ℕ) (Es : List Edit) → Good t → Good (run t Es)
+unfolding run
+run-good t [] g = g
+run-good t (E ∷ Es) g = run-good (edited t E) Es (edited-good t E g)
+
+pub run-count : (t : List ℕ) (Es : List Edit) → Good t → faceNumber (run t Es) ≡ faceNumber t +ℤ called t Es
+unfolding run called
+run-count t [] g = sym (+ℤ-idr (faceNumber t))
+run-count t (E ∷ Es) g =
+    run-count (edited t E) Es (edited-good t E g)
+    ∙ ap (λ z. z +ℤ called (edited t E) Es) (edited-count t E g)
+    ∙ +ℤ-assoc (faceNumber t) (calls t E) (called (edited t E) Es)
+
+pub run-laws : (t : List ℕ) → Good t → (Es : List Edit) → RunLaws t Es
+run-laws t g Es = record {
+  good = after;
+  corners-once = present-once R L;
+  no-others = absent-never R L;
+  edges-twice = λ e l. edge-twice R L e l;
+  parts = λ r h. table-parts after r h;
+  count = run-count t Es g;
+  answered = λ front E back e n a.
+      answered-count (run t front) E n a
+      ∙ ap faceNumber (sym (run-append t front (E ∷ []) ∙ run-one (run t front) E))
+      ∙ run-count t (front ++ (E ∷ [])) g;
+  alternation = λ s h. alternates-iff (run t Es) after s (stands-low h);
+  listing-call = λ out. output-accepted (run t Es) (listing R) out;
+  counts-call = λ out. output-accepted (run t Es) (countsOf R) out;
+  parts-call = λ out. output-accepted (run t Es) (partRows R) out;
+  letters-call = λ d k out. letters-accepted (run t Es) d k out;
+  alternates-call = λ d k n a. alternates-accepted (run t Es) d k n a;
+  plain-call = λ n a. plain-accepted (run t Es) n a;
+}
+  where
+    after : Good (run t Es)
+    after = run-good t Es g
+
+    R : Rotation
+    R = rotation (run t Es)
+
+    L : Lawful R
+    L = good-lawful (run t Es) after
+
+-- "The slice begins as the empty mesh or as any good table"
+pub empty-run-laws : (Es : List Edit) → RunLaws emptyTable Es
+empty-run-laws Es = run-laws emptyTable empty-good Es

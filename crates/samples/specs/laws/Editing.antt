@@ -1,0 +1,122 @@
+-- Runs of edits on sparse tables: as `run` and its answers on the table that is put.
+--     verdictOn, editedOn, answerOn     one edit;     runOn, answersOn     a run
+use Prim.Native.Nat.{ℕ, _+_}
+use mathlib.Core.Path.{_≡_, refl, _∙_, ap, ap₂}
+use mathlib.Core.Bool.{not, _||_}
+use mathlib.Core.List.{List, [], _∷_}
+use lib.Dec.{eqb, leb}
+use lib.ListN.{getD}
+use lib.IntN.{ℤ, _+ℤ_}
+use Rattle.table.specs.Layout.{vertices, edges, nothing, isolated, edgeAt, vertexAt}
+use Rattle.table.specs.Rotation.{rotation}
+use Rattle.table.specs.Good.{Good}
+use Rattle.table.specs.laws.Check.{good-yes}
+use Rattle.table.specs.Answers.{codeOf}
+use Rattle.table.specs.declared.answer.Answer.{Answer}
+use Rattle.table.specs.declared.answer.Answer.the-variants.{Done, Declined}
+use Rattle.table.specs.declared.answer.Refusal.the-variants.{NoSuchName, Taken, Absent, Joined, Overturned}
+use Rattle.tracing.specs.Listing.{faceCount}
+use Rattle.tracing.specs.Corner.{wellFormed, present}
+use Rattle.edits.specs.Turns.{turnsIn, overturned}
+use Rattle.edits.specs.Verdicts.{first, addVerdict, removeVerdict, insertVerdict, deleteVerdict, turnVerdict}
+use Rattle.edits.specs.Edits.{verdict, edited, answer}
+use Rattle.edits.specs.laws.Edits.{edited-passes, edited-declines, answer-passes, answer-declines}
+use Rattle.edits.specs.declared.edit.Edit.{Edit}
+use Rattle.edits.specs.declared.edit.Edit.the-variants.{AddVertex, RemoveVertex, InsertEdge, DeleteEdge, TurnEdge}
+use Rattle.edits.specs.declared.edit.Verdict.{Verdict}
+use Rattle.edits.specs.declared.edit.Verdict.the-variants.{Passes, Declines}
+use Rattle.runs.specs.Run.{run}
+use Rattle.runs.specs.laws.Theorem.{edited-good}
+use Rattle.samples.specs.Samples.{answers}
+use Rattle.samples.specs.laws.Sparse.{Writes, put, read, put-read}
+use Rattle.samples.specs.laws.Reading.{rotationBy, rotation-by, facesOn, faces-read}
+use Rattle.samples.specs.laws.Writing.{writtenOn, written-on}
+
+-- the verdict on a good table whose word at i is g i
+abbrev verdictBy : (ℕ → ℕ) → Edit → Verdict
+verdictBy g (AddVertex v) = first (leb vertices v) NoSuchName (first (not (eqb (g (vertexAt + v)) nothing)) Taken Passes)
+verdictBy g (RemoveVertex v) =
+    first (leb vertices v) NoSuchName
+    (first (not (not (eqb (g (vertexAt + v)) nothing))) Absent
+    (first (not (eqb (g (vertexAt + v)) isolated)) Joined
+    Passes))
+verdictBy g (InsertEdge e c₁ c₂ k) =
+    first (leb edges e || (not (wellFormed c₁) || not (wellFormed c₂))) NoSuchName
+    (first (not (eqb (g (edgeAt + e)) 0)) Taken
+    (first (not (present (rotationBy g) c₁) || not (present (rotationBy g) c₂)) Absent
+    (first (overturned k) Overturned
+    Passes)))
+verdictBy g (DeleteEdge e) = first (leb edges e) NoSuchName (first (not (not (eqb (g (edgeAt + e)) 0))) Absent Passes)
+verdictBy g (TurnEdge e a) =
+    first (leb edges e) NoSuchName
+    (first (not (not (eqb (g (edgeAt + e)) 0))) Absent
+    (first (overturned (turnsIn (g (edgeAt + e)) +ℤ a)) Overturned
+    Passes))
+
+verdict-by : (t : List ℕ) (E : Edit) → Good t → verdict t E ≡ verdictBy (λ i. getD t i 0) E
+unfolding addVerdict removeVerdict insertVerdict deleteVerdict turnVerdict
+verdict-by t (AddVertex v) g = rw (← good-yes t g)
+verdict-by t (RemoveVertex v) g = rw (← good-yes t g)
+verdict-by t (InsertEdge e c₁ c₂ k) g = rw (← good-yes t g, rotation-by t)
+verdict-by t (DeleteEdge e) g = rw (← good-yes t g)
+verdict-by t (TurnEdge e a) g = rw (← good-yes t g)
+
+abbrev writesBy : Verdict → Writes → Writes → Writes
+writesBy Passes new old = new
+writesBy (Declines r) new old = old
+
+abbrev answeredBy : Verdict → ℕ → Answer
+answeredBy Passes n = Done n
+answeredBy (Declines r) n = Declined r
+
+unfoldable pub verdictOn : Writes → Edit → Verdict
+verdictOn ws E = verdictBy (read ws) E
+
+unfoldable pub editedOn : Writes → Edit → Writes
+editedOn ws E = writesBy (verdictOn ws E) (writtenOn ws E) ws
+
+unfoldable pub answerOn : Writes → Edit → Answer
+answerOn ws E = answeredBy (verdictOn ws E) (facesOn (writtenOn ws E))
+
+module _ (ws : Writes) (E : Edit) (g : Good (put ws)) where
+  verdict-on : verdict (put ws) E ≡ verdictOn ws E
+  unfolding verdictOn
+  verdict-on = verdict-by (put ws) E g ∙ ap (λ h. verdictBy h E) (put-read ws)
+
+  edited-on : edited (put ws) E ≡ put (editedOn ws E)
+  unfolding editedOn
+  edited-on = by (verdictOn ws E) verdict-on
+    where
+      by : (v : Verdict) → verdict (put ws) E ≡ v → edited (put ws) E ≡ put (writesBy v (writtenOn ws E) ws)
+      by Passes e = edited-passes (put ws) E e ∙ written-on ws E
+      by (Declines r) e = edited-declines (put ws) E r e
+
+  answer-on : answer (put ws) E ≡ answerOn ws E
+  unfolding answerOn
+  answer-on = by (verdictOn ws E) verdict-on
+    where
+      by : (v : Verdict) → verdict (put ws) E ≡ v → answer (put ws) E ≡ answeredBy v (facesOn (writtenOn ws E))
+      by Passes e = answer-passes (put ws) E e ∙ ap (λ t. Done (faceCount (rotation t))) (written-on ws E) ∙ ap Done (faces-read (writtenOn ws E))
+      by (Declines r) e = answer-declines (put ws) E r e
+
+  good-on : Good (put (editedOn ws E))
+  good-on = rw edited-on at (edited-good (put ws) E g)
+
+unfoldable pub runOn : Writes → List Edit → Writes
+runOn ws [] = ws
+runOn ws (E ∷ Es) = runOn (editedOn ws E) Es
+
+unfoldable pub answersOn : Writes → List Edit → List ℤ
+answersOn ws [] = []
+answersOn ws (E ∷ Es) = codeOf (answerOn ws E) ∷ answersOn (editedOn ws E) Es
+
+pub run-on : (ws : Writes) (Es : List Edit) → Good (put ws) → run (put ws) Es ≡ put (runOn ws Es)
+unfolding run runOn
+run-on ws [] g = refl
+run-on ws (E ∷ Es) g = ap (λ t. run t Es) (edited-on ws E g) ∙ run-on (editedOn ws E) Es (good-on ws E g)
+
+pub answers-on : (ws : Writes) (Es : List Edit) → Good (put ws) → answers (put ws) Es ≡ answersOn ws Es
+unfolding answers answersOn
+answers-on ws [] g = refl
+answers-on ws (E ∷ Es) g =
+    ap₂ (λ a l. codeOf a ∷ l) (answer-on ws E g) (ap (λ t. answers t Es) (edited-on ws E g) ∙ answers-on (editedOn ws E) Es (good-on ws E g))

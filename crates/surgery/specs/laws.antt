@@ -1,0 +1,17 @@
+pub mod Spin
+pub mod Alike
+pub mod Bypass
+pub mod Without
+pub mod Exchanged
+pub mod Through
+pub mod Seat
+pub mod SeatFollows
+pub mod Past
+pub mod Delete
+pub mod Insert
+pub mod Sits
+pub mod Turn
+pub mod Vertex
+pub mod PlacesIn
+pub mod Between
+pub mod Change

@@ -1,0 +1,13 @@
+pub mod Rotation
+pub mod Counting
+pub mod Darts
+pub mod Cycle
+pub mod Vertices
+pub mod Decided
+pub mod Answers
+pub mod Check
+pub mod Empty
+pub mod Lawful
+pub mod Output
+pub mod Signed
+pub mod Writes

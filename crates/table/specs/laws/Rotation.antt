@@ -1,0 +1,101 @@
+-- A rotation system, with no words in it: tracing, surgery and surfaces are stated over it. `rotation t` reads one off a table, and a good table's is lawful.
+-- A dart that is not live is its own next and its own previous, so that the laws hold for every number.
+use Prim.Native.Nat.{ℕ, _<_}
+use mathlib.Core.Path.{_≡_, refl, sym, _∙_}
+use mathlib.Core.Bool.{Bool, true, false, not}
+use mathlib.Core.List.{List}
+use mathlib.Core.Logic.{_≢_}
+use lib.Dec.{ltb}
+use borrow.Author.Tests.{ltb-true, eqb-true, eqb-false, lt-ltb, eq-eqb, ne-eqb, not-true}
+use Rattle.orbits.specs.laws.Truth.{clash, both, both-left, both-right}
+use Rattle.table.specs.Layout.{vertices, darts, nothing, isolated, nextWord, prevWord, edgeWord, vertexWord, edgeOf, Live}
+use Rattle.table.specs.Rotation.{live?, nextDart, prevDart, there?, alone?}
+
+not-yes : (b : Bool) → b ≡ false → not b ≡ true
+not-yes b p = rw p
+
+-- a Boolean that says whether P holds is one of two cases
+pub data Case (b : Bool) (P : Type 0) : Type 0 where
+  holds : b ≡ true → P → Case b P
+  fails : b ≡ false → (P → ⊥) → Case b P
+
+case-of : {b : Bool} {P : Type 0} → (b ≡ true → P) → (P → b ≡ true) → (c : Bool) → b ≡ c → Case b P
+case-of f g true e = holds e (f e)
+case-of f g false e = fails e (λ p. clash (g p) e)
+
+-- two Booleans that say the same are the same
+pub same-case : {a b : Bool} {P Q : Type 0} → (P → Q) → (Q → P) → Case a P → Case b Q → a ≡ b
+same-case f g (holds p x) (holds q y) = p ∙ sym q
+same-case f g (holds p x) (fails q n) = absurd (n (f x))
+same-case f g (fails p n) (holds q y) = absurd (n (g y))
+same-case f g (fails p n) (fails q m) = p ∙ sym q
+
+module _ (t : List ℕ) where
+  pub live-yes : (d : ℕ) → live? t d ≡ true → Live t d
+  unfolding live?
+  live-yes d e =
+      record {
+        low = ltb-true d darts (both-left (ltb d darts) _ e);
+        on = eqb-false (edgeWord t (edgeOf d)) 0 (not-true _ (both-right (ltb d darts) _ e));
+      }
+
+  pub yes-live : (d : ℕ) → Live t d → live? t d ≡ true
+  unfolding live?
+  yes-live d l =
+      both (lt-ltb d darts (l .low)) (not-yes _ (ne-eqb (edgeWord t (edgeOf d)) 0 (l .on)))
+
+  pub live-case : (d : ℕ) → Case (live? t d) (Live t d)
+  live-case d = case-of (live-yes d) (yes-live d) (live? t d) refl
+
+  pub nextDart-live : (d : ℕ) → live? t d ≡ true → nextDart t d ≡ nextWord t d
+  unfolding nextDart
+  nextDart-live d e = rw e
+
+  pub prevDart-live : (d : ℕ) → live? t d ≡ true → prevDart t d ≡ prevWord t d
+  unfolding prevDart
+  prevDart-live d e = rw e
+
+  pub nextDart-dead : (d : ℕ) → live? t d ≡ false → nextDart t d ≡ d
+  unfolding nextDart
+  nextDart-dead d e = rw e
+
+  pub prevDart-dead : (d : ℕ) → live? t d ≡ false → prevDart t d ≡ d
+  unfolding prevDart
+  prevDart-dead d e = rw e
+
+  pub there-yes : (v : ℕ) → v < vertices → vertexWord t v ≢ nothing → there? t v ≡ true
+  unfolding there?
+  there-yes v l n = both (lt-ltb v vertices l) (not-yes _ (ne-eqb (vertexWord t v) nothing n))
+
+  pub there-word : (v : ℕ) → there? t v ≡ true → (v < vertices) × (vertexWord t v ≢ nothing)
+  unfolding there?
+  there-word v e =
+      (ltb-true v vertices (both-left (ltb v vertices) _ e), eqb-false (vertexWord t v) nothing (not-true _ (both-right (ltb v vertices) _ e)))
+
+  pub alone-yes : (v : ℕ) → v < vertices → vertexWord t v ≡ isolated → alone? t v ≡ true
+  unfolding alone?
+  alone-yes v l p = both (lt-ltb v vertices l) (eq-eqb (vertexWord t v) isolated p)
+
+  pub alone-word : (v : ℕ) → alone? t v ≡ true → (v < vertices) × (vertexWord t v ≡ isolated)
+  unfolding alone?
+  alone-word v e =
+      (ltb-true v vertices (both-left (ltb v vertices) _ e), eqb-true (vertexWord t v) isolated (both-right (ltb v vertices) _ e))
+
+  pub not-live : (d : ℕ) → (Live t d → ⊥) → live? t d ≡ false
+  not-live d n = elim (live-case d) [
+    | holds e l ↦ absurd (n l)
+    | fails e m ↦ e
+  ]
+
+-- what a Boolean that was seen tells
+pub case-yes : {b : Bool} {P : Type 0} → Case b P → b ≡ true → P
+case-yes (holds e p) t = p
+case-yes (fails e n) t = absurd (clash t e)
+
+pub case-no : {b : Bool} {P : Type 0} → Case b P → b ≡ false → P → ⊥
+case-no (holds e p) f x = clash e f
+case-no (fails e n) f x = n x
+
+pub case-map : {b : Bool} {P Q : Type 0} → (P → Q) → (Q → P) → Case b P → Case b Q
+case-map f g (holds e p) = holds e (f p)
+case-map f g (fails e n) = fails e (λ q. n (g q))

@@ -1,0 +1,4 @@
+pub mod Decimal
+pub mod Paste
+pub mod Sign
+pub mod Writing

@@ -1,11 +1,9 @@
 -- The tables that the insertion and the deletion of an edge leave, document 01, "Edits". Both are good; deleting what was inserted gives the first table back.
 use Prim.Native.Nat.{ℕ, _+_, _-_, _*_, zero, suc}
-use mathlib.Core.Bool.{true, false}
+use mathlib.Core.Bool.{true, false, cond}
 use mathlib.Core.List.{List}
 use lib.Dec.{eqb, ltb}
 use Rattle.table.specs.Layout.{darts, nothing, isolated, nextWord, prevWord, leaves, vertexWord}
-use Rattle.table.specs.Rotation.{choose}
-use Rattle.table.specs.Empty.{orElse}
 use Rattle.table.specs.Writes.{setEdge, setNext, setPrev, setLeaves, setVertex}
 use Rattle.tracing.specs.Listing.{loneAt}
 
@@ -19,15 +17,15 @@ splice t x d p v w = setVertex (setLeaves (tie (tie t x d) p x) x v) v w
 
 -- the smaller of a vertex's word and a dart
 abbrev pub lesser : ℕ → ℕ → ℕ
-lesser w x = choose (ltb x w) x w
+lesser w x = cond (ltb x w) x w
 
 -- dart x goes into corner c: just before the dart that names it, or alone at the isolated vertex
 unfoldable pub link : List ℕ → ℕ → ℕ → List ℕ
-link t x c = orElse (ltb c darts) (splice t x c (prevWord t c) (leaves t c) (lesser (vertexWord t (leaves t c)) x)) (splice t x x x (c - loneAt) x)
+link t x c = cond (ltb c darts) (splice t x c (prevWord t c) (leaves t c) (lesser (vertexWord t (leaves t c)) x)) (splice t x x x (c - loneAt) x)
 
 -- "dart 2e goes into corner c1, then 2e+1 into c2 .. With c1 = c2 the order is old, 2e, 2e+1, d": so 2e+1 is put in first, and 2e then before it
 abbrev pub firstCorner : ℕ → ℕ → ℕ → ℕ
-firstCorner e c₁ c₂ = choose (eqb c₁ c₂) (2 * e + 1) c₁
+firstCorner e c₁ c₂ = cond (eqb c₁ c₂) (2 * e + 1) c₁
 
 -- edge e with word w between corners c1 and c2
 abbrev pub inserted : List ℕ → ℕ → ℕ → ℕ → ℕ → List ℕ
@@ -44,7 +42,7 @@ seek t v d (suc k) = elim (eqb (leaves t d) v) [ true ↦ d | false ↦ seek t v
 
 -- v's word once x is out: if it was x, the next larger dart that leaves v
 abbrev pub successor : List ℕ → ℕ → ℕ → ℕ → ℕ
-successor c v x w = choose (eqb w x) (seek c v x (darts - x)) w
+successor c v x w = cond (eqb w x) (seek c v x (darts - x)) w
 
 abbrev pub taken : List ℕ → ℕ → List ℕ
 taken t x = cut t x (nextWord t x) (prevWord t x)

@@ -8,19 +8,13 @@ use Rattle.table.specs.declared.answer.Answer.{Answer}
 use Rattle.table.specs.declared.answer.Answer.the-variants.{Done, Declined}
 use Rattle.tracing.specs.Listing.{faceCount}
 use Rattle.edits.specs.Turns.{turnedWord}
-use Rattle.edits.specs.Verdicts.{addVerdict, removeVerdict, insertVerdict, deleteVerdict, turnVerdict}
+use Rattle.edits.specs.Verdicts.{verdict}
 use Rattle.edits.specs.Edge.{inserted, deleted}
 use Rattle.edits.specs.declared.edit.Edit.{Edit}
 use Rattle.edits.specs.declared.edit.Edit.the-variants.{AddVertex, RemoveVertex, InsertEdge, DeleteEdge, TurnEdge}
 use Rattle.edits.specs.declared.edit.Verdict.{Verdict}
 use Rattle.edits.specs.declared.edit.Verdict.the-variants.{Passes, Declines}
-
-abbrev pub verdict : List ℕ → Edit → Verdict
-verdict t (AddVertex v) = addVerdict t v
-verdict t (RemoveVertex v) = removeVerdict t v
-verdict t (InsertEdge e c₁ c₂ k) = insertVerdict t e c₁ c₂ k
-verdict t (DeleteEdge e) = deleteVerdict t e
-verdict t (TurnEdge e a) = turnVerdict t e a
+use Rattle.table.specs.Answers.{ifDone}
 
 -- the table that the edit writes where it goes through
 abbrev pub written : List ℕ → Edit → List ℕ
@@ -30,17 +24,14 @@ written t (InsertEdge e c₁ c₂ k) = inserted t e c₁ c₂ (turnedWord 100 k)
 written t (DeleteEdge e) = deleted t e
 written t (TurnEdge e a) = setEdge t e (turnedWord (edgeWord t e) a)
 
-abbrev tableBy : Verdict → List ℕ → List ℕ → List ℕ
-tableBy Passes new old = new
-tableBy (Declines r) new old = old
-
 -- "Each accepted edit answers the new face count."
 abbrev answerBy : Verdict → List ℕ → Answer
 answerBy Passes new = Done (faceCount (rotation new))
 answerBy (Declines r) new = Declined r
 
-unfoldable pub edited : List ℕ → Edit → List ℕ
-edited t E = tableBy (verdict t E) (written t E) t
-
 unfoldable pub answer : List ℕ → Edit → Answer
 answer t E = answerBy (verdict t E) (written t E)
+
+-- "all lent slices and records keep their contents" where the edit is declined
+unfoldable pub edited : List ℕ → Edit → List ℕ
+edited t E = ifDone (answer t E) (written t E) t

@@ -1,9 +1,8 @@
 -- Turns as edge words: "for each edge, 0 if not live, else its turns plus 100; turns run from -99 to 99".
 use Prim.Native.Nat.{ℕ}
-use mathlib.Core.Bool.{Bool}
+use mathlib.Core.Bool.{Bool, cond}
 use lib.Dec.{ltb}
 use lib.IntN.{ℤ, pos, natAbs, _+ℤ_, _-ℤ_}
-use Rattle.table.specs.Rotation.{choose}
 
 -- the turns that an edge word says
 abbrev pub turnsIn : ℕ → ℤ
@@ -19,4 +18,4 @@ wordFor z = natAbs (z +ℤ pos 100)
 
 -- an edge of word w turned by an amount: its word, or 0 where it would be overturned
 abbrev pub turnedWord : ℕ → ℤ → ℕ
-turnedWord w a = choose (overturned (turnsIn w +ℤ a)) 0 (wordFor (turnsIn w +ℤ a))
+turnedWord w a = cond (overturned (turnsIn w +ℤ a)) 0 (wordFor (turnsIn w +ℤ a))

@@ -1,23 +1,22 @@
 -- Which edits are declined, and with which number: document 01, "When a call declines". "Where several hold: 1, 2, 3, 4, 5, 6".
+-- First what the edit names is tested, 1 to 4, then what it may not pass, 5 and 6; nothing is written before.
+--     onNames, onLimits     the two lists of tests;     verdict     one after the other
 use Prim.Native.Nat.{ℕ}
-use mathlib.Core.Bool.{Bool, true, false, not, _||_}
+use mathlib.Core.Bool.{Bool, not, _&&_}
 use mathlib.Core.List.{List}
-use lib.Dec.{eqb, leb}
+use lib.Dec.{eqb, ltb}
 use lib.IntN.{ℤ, _+ℤ_}
 use Rattle.table.specs.Layout.{vertices, edges, nothing, isolated, edgeWord, vertexWord}
 use Rattle.table.specs.Rotation.{rotation}
 use Rattle.table.specs.Check.{good?}
-use Rattle.table.specs.declared.answer.Refusal.{Refusal}
+use Rattle.table.specs.Answers.{unless}
 use Rattle.table.specs.declared.answer.Refusal.the-variants.{Torn, NoSuchName, Taken, Absent, Joined, Overturned}
 use Rattle.tracing.specs.Corner.{wellFormed, present}
 use Rattle.edits.specs.Turns.{turnsIn, overturned}
+use Rattle.edits.specs.declared.edit.Edit.{Edit}
+use Rattle.edits.specs.declared.edit.Edit.the-variants.{AddVertex, RemoveVertex, InsertEdge, DeleteEdge, TurnEdge}
 use Rattle.edits.specs.declared.edit.Verdict.{Verdict}
 use Rattle.edits.specs.declared.edit.Verdict.the-variants.{Passes, Declines}
-
--- declined with r where the test holds; else as the tests that come after it say
-abbrev pub first : Bool → Refusal → Verdict → Verdict
-first true r v = Declines r
-first false r v = v
 
 -- is vertex v there; is edge e live
 abbrev pub vertexThere : List ℕ → ℕ → Bool
@@ -27,44 +26,66 @@ abbrev pub edgeThere : List ℕ → ℕ → Bool
 edgeThere t e = not (eqb (edgeWord t e) 0)
 
 -- "vertex .. to add is live"
-unfoldable pub addVerdict : List ℕ → ℕ → Verdict
-addVerdict t v =
-    first (not (good? t)) Torn
-    (first (leb vertices v) NoSuchName
-    (first (vertexThere t v) Taken
+unfoldable pub newVertex : List ℕ → ℕ → Verdict
+newVertex t v =
+    unless (good? t) (Declines Torn)
+    (unless (ltb v vertices) (Declines NoSuchName)
+    (unless (not (vertexThere t v)) (Declines Taken)
     Passes))
 
--- "vertex .. named is not there"; "vertex to remove has an edge"
-unfoldable pub removeVerdict : List ℕ → ℕ → Verdict
-removeVerdict t v =
-    first (not (good? t)) Torn
-    (first (leb vertices v) NoSuchName
-    (first (not (vertexThere t v)) Absent
-    (first (not (eqb (vertexWord t v) isolated)) Joined
-    Passes)))
+-- "vertex .. named is not there"
+unfoldable pub oldVertex : List ℕ → ℕ → Verdict
+oldVertex t v =
+    unless (good? t) (Declines Torn)
+    (unless (ltb v vertices) (Declines NoSuchName)
+    (unless (vertexThere t v) (Declines Absent)
+    Passes))
 
--- "malformed corner"; "edge to add is live"; "corner named is not there"; "turns would pass 99 either way"
-unfoldable pub insertVerdict : List ℕ → ℕ → ℕ → ℕ → ℤ → Verdict
-insertVerdict t e c₁ c₂ k =
-    first (not (good? t)) Torn
-    (first (leb edges e || (not (wellFormed c₁) || not (wellFormed c₂))) NoSuchName
-    (first (edgeThere t e) Taken
-    (first (not (present (rotation t) c₁) || not (present (rotation t) c₂)) Absent
-    (first (overturned k) Overturned
-    Passes))))
+-- "malformed corner"; "edge to add is live"; "corner named is not there"
+unfoldable pub newEdge : List ℕ → ℕ → ℕ → ℕ → Verdict
+newEdge t e c₁ c₂ =
+    unless (good? t) (Declines Torn)
+    (unless (ltb e edges && (wellFormed c₁ && wellFormed c₂)) (Declines NoSuchName)
+    (unless (not (edgeThere t e)) (Declines Taken)
+    (unless (present (rotation t) c₁ && present (rotation t) c₂) (Declines Absent)
+    Passes)))
 
 -- "edge .. named is not there"
-unfoldable pub deleteVerdict : List ℕ → ℕ → Verdict
-deleteVerdict t e =
-    first (not (good? t)) Torn
-    (first (leb edges e) NoSuchName
-    (first (not (edgeThere t e)) Absent
+unfoldable pub oldEdge : List ℕ → ℕ → Verdict
+oldEdge t e =
+    unless (good? t) (Declines Torn)
+    (unless (ltb e edges) (Declines NoSuchName)
+    (unless (edgeThere t e) (Declines Absent)
     Passes))
 
-unfoldable pub turnVerdict : List ℕ → ℕ → ℤ → Verdict
-turnVerdict t e a =
-    first (not (good? t)) Torn
-    (first (leb edges e) NoSuchName
-    (first (not (edgeThere t e)) Absent
-    (first (overturned (turnsIn (edgeWord t e) +ℤ a)) Overturned
-    Passes)))
+-- 1 to 4
+abbrev pub onNames : List ℕ → Edit → Verdict
+onNames t (AddVertex v) = newVertex t v
+onNames t (RemoveVertex v) = oldVertex t v
+onNames t (InsertEdge e c₁ c₂ k) = newEdge t e c₁ c₂
+onNames t (DeleteEdge e) = oldEdge t e
+onNames t (TurnEdge e a) = oldEdge t e
+
+-- 5, "vertex to remove has an edge"
+abbrev pub isolation : ℕ → Verdict
+isolation w = unless (eqb w isolated) (Declines Joined) Passes
+
+-- 6, "turns would pass 99 either way"
+abbrev pub fewTurns : ℤ → Verdict
+fewTurns k = unless (not (overturned k)) (Declines Overturned) Passes
+
+-- 5 and 6
+abbrev pub onLimits : List ℕ → Edit → Verdict
+onLimits t (AddVertex v) = Passes
+onLimits t (RemoveVertex v) = isolation (vertexWord t v)
+onLimits t (InsertEdge e c₁ c₂ k) = fewTurns k
+onLimits t (DeleteEdge e) = Passes
+onLimits t (TurnEdge e a) = fewTurns (turnsIn (edgeWord t e) +ℤ a)
+
+-- one list of tests after another
+abbrev pub andThen : Verdict → Verdict → Verdict
+andThen Passes v = v
+andThen (Declines r) v = Declines r
+
+abbrev pub verdict : List ℕ → Edit → Verdict
+verdict t E = andThen (onNames t E) (onLimits t E)

@@ -7,6 +7,7 @@ pub mod Edge
 pub mod Ready
 pub mod Deleted
 pub mod Inserted
+pub mod Marked
 pub mod Passed
 pub mod Changes
 pub mod Edits

@@ -13,6 +13,7 @@ use Rattle.ribbons.specs.CutLength.{lengthOf, farLength}
 use Rattle.reader.specs.declared.tally.Tally.{Tally}
 use Rattle.reader.specs.declared.tally.Tallied.{Tallied}
 use Rattle.reader.specs.declared.tally.Tallied.the-variants.{Brought, Kept}
+use Rattle.table.specs.Answers.{unless}
 
 -- "A tally record .. is brought forward by each step: steps, overs, unders, length."
 abbrev pub forward : Tally → ℕ → ℕ → ℕ → Tally
@@ -26,14 +27,9 @@ past32 = 4294967296
 abbrev pub fits32 : Tally → Bool
 fits32 y = ltb (y .steps) past32 && (ltb (y .overs) past32 && (ltb (y .unders) past32 && ltb (y .length) past32))
 
--- kept as it was, unless the test holds
-abbrev pub keptUnless : Bool → Refusal → Tallied → Tallied
-keptUnless true r y = y
-keptUnless false r y = Kept r
-
 -- "a tally that a step would carry past 32 bits is declined with 6"
 unfoldable pub forwardOf : Tally → ℕ → ℕ → ℕ → Tallied
-forwardOf y o u l = keptUnless (fits32 (forward y o u l)) Overturned (Brought (forward y o u l))
+forwardOf y o u l = unless (fits32 (forward y o u l)) (Kept Overturned) (Brought (forward y o u l))
 
 -- the tally with step s more: its letters, and its edge's length
 abbrev pub stepTally : List ℕ → ℕ → List ℕ → Tally → Tally
@@ -42,6 +38,6 @@ stepTally t s lengths y = forward y (times over (stepLetters t s)) (times under 
 -- "7 if they are short, and 9 for its own edge's length alone, which a step tests before 6"
 unfoldable pub tallyOf : List ℕ → ℕ → List ℕ → Tally → Tallied
 tallyOf t s lengths y =
-    keptUnless (leb edges (length lengths)) ShortSlice
-    (keptUnless (not (farLength lengths s)) Far
+    unless (leb edges (length lengths)) (Kept ShortSlice)
+    (unless (not (farLength lengths s)) (Kept Far)
     (forwardOf y (times over (stepLetters t s)) (times under (stepLetters t s)) (lengthOf lengths s)))

@@ -14,13 +14,14 @@ use Rattle.tracing.specs.Step.{step}
 use Rattle.tracing.specs.Listing.{bit}
 use Rattle.weave.specs.declared.call.Named.{Named}
 use Rattle.weave.specs.declared.call.Named.the-variants.{There, Refused}
-use Rattle.weave.specs.Calls.{unless, namedStep}
+use Rattle.weave.specs.Calls.{namedStep}
 use Rattle.reader.specs.declared.place.Step.{Step}
 use Rattle.reader.specs.declared.tally.Tally.{Tally}
 use Rattle.reader.specs.declared.tally.Tallied.{Tallied}
 use Rattle.reader.specs.declared.tally.Tallied.the-variants.{Brought, Kept}
 use Rattle.reader.specs.declared.walk.Stepped.{Stepped}
 use Rattle.reader.specs.Forward.{tallyOf}
+use Rattle.table.specs.Answers.{unless}
 
 -- the making of a reader: accepted, or the refusal of the step that it is made at
 abbrev pub beginBy : Named → Answer
@@ -44,9 +45,9 @@ inRange d k = ltb d darts && ltb k 2
 -- the step that the reader stands at, as a step word, if it and the step that the walk began at are there: 1, then 2, then 4
 unfoldable pub placed : List ℕ → Step → Step → Named
 placed t at first =
-    unless (good? t) Torn
-    (unless (inRange (at .dart) (at .kind) && inRange (first .dart) (first .kind)) NoSuchName
-    (unless (live? t (at .dart) && live? t (first .dart)) Absent
+    unless (good? t) (Refused Torn)
+    (unless (inRange (at .dart) (at .kind) && inRange (first .dart) (first .kind)) (Refused NoSuchName)
+    (unless (live? t (at .dart) && live? t (first .dart)) (Refused Absent)
     (There (wordAt at))))
 
 -- "after a declined step the reader has not moved"; "all lent slices and records keep their contents"

@@ -4,9 +4,8 @@ use mathlib.Core.Bool.{Bool, true, false}
 use mathlib.Core.List.{List, [], _∷_}
 use lib.Dec.{leb}
 use lib.ListN.{length, getD}
-use Rattle.table.specs.Answers.{codeOf}
+use Rattle.table.specs.Answers.{codeOf, unless, ifDone}
 use Rattle.table.specs.Check.{good?}
-use Rattle.table.specs.Output.{outBy}
 use Rattle.table.specs.declared.answer.Answer.the-variants.{Declined}
 use Rattle.table.specs.declared.answer.Refusal.{Refusal}
 use Rattle.table.specs.declared.answer.Refusal.the-variants.{Torn, ShortSlice}
@@ -16,6 +15,7 @@ use Rattle.reader.specs.declared.walk.Stepped.{Stepped}
 use Rattle.reader.specs.declared.words.Coded.{Coded}
 use Rattle.reader.specs.declared.words.Told.{Told}
 use Rattle.reader.specs.Reading.{stepOf}
+use Rattle.table.specs.Output.{front}
 
 -- how many words a reader's state has
 abbrev pub state : ℕ
@@ -32,10 +32,9 @@ firstOf words = record { dart = getD words 2 0; kind = getD words 3 0 }
 abbrev pub stepped : List ℕ → List ℕ → List ℕ → Tally → Stepped
 stepped t words lengths y = stepOf t (atOf words) (firstOf words) lengths y
 
--- declined, unless the test holds
-abbrev pub toldUnless : Tally → Bool → Refusal → Told → Told
-toldUnless y true r q = q
-toldUnless y false r q = record { answer = Declined r; tally = y }
+-- declined: the tally is as it was
+abbrev pub refused : Tally → Refusal → Told
+refused y r = record { answer = Declined r; tally = y }
 
 -- what a step tells
 abbrev pub told : Stepped → Told
@@ -43,7 +42,7 @@ told q = record { answer = q .answer; tally = q .tally }
 
 -- 1, then 7 where the words are too few to be read, then the refusals of a step
 unfoldable pub wordsTold : List ℕ → List ℕ → List ℕ → Tally → Told
-wordsTold t words lengths y = toldUnless y (good? t) Torn (toldUnless y (leb state (length words)) ShortSlice (told (stepped t words lengths y)))
+wordsTold t words lengths y = unless (good? t) (refused y Torn) (unless (leb state (length words)) (refused y ShortSlice) (told (stepped t words lengths y)))
 
 -- the answer as C gets it
 abbrev pub coded : Told → Coded
@@ -55,4 +54,4 @@ wordsCoded t words lengths y = coded (wordsTold t words lengths y)
 -- "A declined call returns its number alone; all lent slices and records keep their contents." An accepted step writes where the reader then stands.
 unfoldable pub wordsOut : List ℕ → List ℕ → List ℕ → Tally → List ℕ
 wordsOut t words lengths y =
-    outBy (wordsTold t words lengths y .answer) (stepped t words lengths y .at .dart ∷ stepped t words lengths y .at .kind ∷ []) words
+    ifDone (wordsTold t words lengths y .answer) (front (stepped t words lengths y .at .dart ∷ stepped t words lengths y .at .kind ∷ []) words) words

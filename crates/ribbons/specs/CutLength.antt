@@ -1,8 +1,8 @@
 -- The cut length of a ribbon, document 01, "Over and under", and what the call for it answers.
 use Prim.Native.Nat.{ℕ, _+_, _/_}
-use mathlib.Core.Bool.{Bool, true, false, _||_}
+use mathlib.Core.Bool.{Bool, true, false, _||_, not}
 use mathlib.Core.List.{List, [], _∷_}
-use lib.Dec.{ltb}
+use lib.Dec.{ltb, leb}
 use lib.ListN.{length, getD}
 use Rattle.table.specs.Layout.{edges, edgeOf}
 use Rattle.table.specs.Rotation.{rotation}
@@ -15,6 +15,7 @@ use Rattle.weave.specs.declared.call.Named.{Named}
 use Rattle.weave.specs.declared.call.Named.the-variants.{There, Refused}
 use Rattle.weave.specs.Calls.{namedStep}
 use Rattle.weave.specs.Ribbon.{some}
+use Rattle.table.specs.Answers.{unless}
 
 -- the length of the edge that step s is on
 abbrev pub lengthOf : List ℕ → ℕ → ℕ
@@ -29,18 +30,13 @@ unfoldable pub cutLength : List ℕ → List ℕ → ℕ
 cutLength lengths [] = 0
 cutLength lengths (s ∷ l) = lengthOf lengths s + cutLength lengths l
 
--- declined, if the test holds
-abbrev pub declinedIf : Bool → Refusal → Answer → Answer
-declinedIf true r a = Declined r
-declinedIf false r a = a
-
 -- 9, far: "length, point or lift out of range on an edge of the walk"
 unfoldable pub lengthAlong : List ℕ → List ℕ → Answer
-lengthAlong lengths l = declinedIf (some (farLength lengths) l) Far (Done (cutLength lengths l))
+lengthAlong lengths l = unless (not (some (farLength lengths) l)) (Declined Far) (Done (cutLength lengths l))
 
 -- "lent as 1,024 unsigned 32-bit words", one for each edge; "with 7 tested after 4"
 abbrev pub cutLengthBy : List ℕ → List ℕ → Named → Answer
-cutLengthBy t lengths (There s) = declinedIf (ltb (length lengths) edges) ShortSlice (lengthAlong lengths (walk (rotation t) s))
+cutLengthBy t lengths (There s) = unless (leb edges (length lengths)) (Declined ShortSlice) (lengthAlong lengths (walk (rotation t) s))
 cutLengthBy t lengths (Refused r) = Declined r
 
 -- "Cut length of a ribbon, named by any step on it"

@@ -5,11 +5,12 @@ use lib.IntN.{ℤ, pos, negsuc, _+ℤ_}
 use Rattle.table.specs.Rotation.{rotation}
 use Rattle.tracing.specs.Listing.{faceCount}
 use Rattle.surgery.specs.Change.{Change, less, as-many, more}
-use Rattle.edits.specs.Edits.{verdict, edited}
+use Rattle.edits.specs.Edits.{edited}
 use Rattle.edits.specs.Changes.{change}
 use Rattle.edits.specs.declared.edit.Edit.{Edit}
 use Rattle.edits.specs.declared.edit.Verdict.{Verdict}
 use Rattle.edits.specs.declared.edit.Verdict.the-variants.{Passes, Declines}
+use Rattle.edits.specs.Verdicts.{verdict}
 
 -- "each edit gets it as the last one left it": the table after the run
 unfoldable pub run : List ℕ → List Edit → List ℕ

@@ -1,32 +1,10 @@
 // The lines of the job program for records that are declined.
-use table::answer::Refusal;
 use text::number::number;
 use text::window::byte;
 use text::window::bytes;
 ghost use Prim.Native.Nat.{_≤_, _^_};
-ghost use mathlib.Core.Path.{_≡_};
-ghost use Rattle.table.specs.Answers.{numberOf};
 ghost use Rattle.text.specs.laws.Paste.{Pasted};
 ghost use Rattle.runs.specs.Lines.{noLine, stopLine};
-
-// A refusal's number in document 01.
-pub fn number_of(r: Refusal) -> u64
-    ensures { λ n. ⌜ n ≡ numberOf r ⌝ }
-{
-    match r {
-        Refusal::Torn => 1,
-        Refusal::NoSuchName => 2,
-        Refusal::Taken => 3,
-        Refusal::Absent => 4,
-        Refusal::Joined => 5,
-        Refusal::Overturned => 6,
-        Refusal::ShortSlice => 7,
-        Refusal::ManyTurns => 8,
-        Refusal::Far => 9,
-        Refusal::BadMark => 10,
-        Refusal::CutRecord => 11,
-    }
-}
 
 // Writes "no", the number n of a record and the refusal's number from place `at` on. The place after them.
 pub fn no_line(out: &mut [u8], at: usize, n: u64, refusal: u64) -> usize

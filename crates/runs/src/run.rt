@@ -1,11 +1,11 @@
 // Records run over a table, with a line for each that is declined.
 use crate::lines::no_line;
-use crate::lines::number_of;
 use crate::records::Found;
 use crate::records::first_record;
 use edits::apply::apply;
 use edits::edit::Edit;
 use table::answer::Answer;
+use table::answer::number_of;
 ghost use Prim.Native.Nat.{_≤_, _^_};
 ghost use mathlib.Core.Path.{_≡_};
 ghost use lib.Seq.{sets};

@@ -4,14 +4,14 @@
 --     prev-bypass, spin-skip     around a vertex, the edge's darts are passed over
 --     alone-stays, bare-edge, filled, bared     where the edge had the only darts of a vertex, that vertex is alone without it
 use mathlib.Core.Path.{_≡_}
-use mathlib.Core.Bool.{Bool, true, not, _&&_}
+use mathlib.Core.Bool.{Bool, true, not, _&&_, cond}
 use Prim.Native.Nat.{ℕ, _+_, _*_, _%_}
 use lib.Dec.{eqb}
-use Rattle.table.specs.Rotation.{choose, Rotation}
+use Rattle.table.specs.Rotation.{Rotation}
 use Rattle.table.specs.Layout.{edgeOf}
 
 unfoldable pub bypass : (ℕ → ℕ) → ℕ → ℕ → ℕ
-bypass f x d = choose (eqb d x) x (choose (eqb (f d) x) (f x) (f d))
+bypass f x d = cond (eqb d x) x (cond (eqb (f d) x) (f x) (f d))
 
 -- is it a dart of another edge
 unfoldable pub apart : ℕ → ℕ → Bool

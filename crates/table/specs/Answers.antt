@@ -1,6 +1,7 @@
 -- Document 01's numbers for what a call answers.
 use Prim.Native.Nat.{ℕ}
 use lib.IntN.{ℤ, pos, negℤ}
+use mathlib.Core.Bool.{Bool, cond}
 use Rattle.table.specs.declared.answer.Refusal.{Refusal}
 use Rattle.table.specs.declared.answer.Refusal.the-variants.{Torn, NoSuchName, Taken, Absent, Joined, Overturned, ShortSlice, ManyTurns, Far, BadMark, CutRecord}
 use Rattle.table.specs.declared.answer.Answer.{Answer}
@@ -19,6 +20,15 @@ numberOf ManyTurns = 8
 numberOf Far = 9
 numberOf BadMark = 10
 numberOf CutRecord = 11
+
+-- a refusal, unless its test holds. Tests stand in the order in which they are made: "Where several hold: 1, 2, 3, .."
+abbrev pub unless : {A : Type 0} → Bool → A → A → A
+unless holds refusal rest = cond holds rest refusal
+
+-- "A declined call returns its number alone; all lent slices and records keep their contents."
+abbrev pub ifDone : {A : Type 0} → Answer → A → A → A
+ifDone (Done n) new old = new
+ifDone (Declined r) new old = old
 
 -- a host gets the answer, 0 or more, or minus the refusal's number
 abbrev pub refusalCode : Refusal → ℤ

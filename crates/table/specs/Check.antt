@@ -6,6 +6,7 @@ use Rattle.table.specs.declared.answer.Answer.{Answer}
 use Rattle.table.specs.declared.answer.Answer.the-variants.{Done, Declined}
 use Rattle.table.specs.declared.answer.Refusal.the-variants.{Torn}
 use Rattle.table.specs.laws.Decided.{good-dec}
+use Rattle.table.specs.Answers.{unless}
 
 abbrev pub decided : {P : Type 0} → Dec P → Bool
 decided (yes p) = true
@@ -15,9 +16,5 @@ unfoldable pub good? : List ℕ → Bool
 good? t = decided (good-dec t)
 
 -- what the check answers
-abbrev pub checkedAs : Bool → Answer
-checkedAs true = Done 0
-checkedAs false = Declined Torn
-
 abbrev pub checkOf : List ℕ → Answer
-checkOf t = checkedAs (good? t)
+checkOf t = unless (good? t) (Declined Torn) (Done 0)

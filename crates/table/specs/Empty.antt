@@ -8,22 +8,15 @@ use Rattle.table.specs.Layout.{words, edges, vertices, nothing, edgeAt}
 use Rattle.table.specs.declared.answer.Answer.{Answer}
 use Rattle.table.specs.declared.answer.Answer.the-variants.{Done, Declined}
 use Rattle.table.specs.declared.answer.Refusal.the-variants.{Torn}
+use Rattle.table.specs.Answers.{unless, ifDone}
 
 -- three words for each dart, then a word for each edge, then one for each vertex
 unfoldable pub emptyTable : List ℕ
 emptyTable = replicate edgeAt nothing ++ (replicate edges 0 ++ replicate vertices nothing)
 
 -- a fresh fill tests only the size
-abbrev pub emptiedAs : Bool → Answer
-emptiedAs true = Done 0
-emptiedAs false = Declined Torn
-
 abbrev pub emptyOf : List ℕ → Answer
-emptyOf t = emptiedAs (eqb (length t) words)
-
-abbrev pub orElse : Bool → List ℕ → List ℕ → List ℕ
-orElse true a b = a
-orElse false a b = b
+emptyOf t = unless (eqb (length t) words) (Declined Torn) (Done 0)
 
 abbrev pub emptied : List ℕ → List ℕ
-emptied t = orElse (eqb (length t) words) emptyTable t
+emptied t = ifDone (emptyOf t) emptyTable t

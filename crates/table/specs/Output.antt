@@ -10,33 +10,19 @@ use Rattle.table.specs.Check.{good?}
 use Rattle.table.specs.declared.answer.Answer.{Answer}
 use Rattle.table.specs.declared.answer.Answer.the-variants.{Done, Declined}
 use Rattle.table.specs.declared.answer.Refusal.the-variants.{Torn, ShortSlice}
-
--- the size, if there is room for it
-abbrev pub sized : Bool → ℕ → Answer
-sized true n = Done n
-sized false n = Declined ShortSlice
-
--- torn, unless the table is good
-abbrev pub ifGood : Bool → Answer → Answer
-ifGood true a = a
-ifGood false a = Declined Torn
+use Rattle.table.specs.Answers.{unless, ifDone}
 
 -- "An accepted call changes nothing past its output's exact size."
 abbrev pub front : {A : Type 0} → List A → List A → List A
 front text out = text ++ drop (length text) out
 
--- "A declined call returns its number alone; all lent slices and records keep their contents."
-abbrev pub outBy : {A : Type 0} → Answer → List A → List A → List A
-outBy (Done n) text out = front text out
-outBy (Declined r) text out = out
-
 -- what a call answers that writes `text` of table t to a slice of n words
 unfoldable pub outputAnswer : {A : Type 0} → List ℕ → List A → ℕ → Answer
-outputAnswer t text n = ifGood (good? t) (sized (leb (length text) n) (length text))
+outputAnswer t text n = unless (good? t) (Declined Torn) (unless (leb (length text) n) (Declined ShortSlice) (Done (length text)))
 
 -- what it leaves in the slice
 unfoldable pub outputOut : {A : Type 0} → List ℕ → List A → List A → List A
-outputOut t text out = outBy (outputAnswer t text (length out)) text out
+outputOut t text out = ifDone (outputAnswer t text (length out)) (front text out) out
 
 -- what an accepted call of table t answers and leaves: the size of `text`, and `text` at the front of the slice
 pub record Accepted {A : Type 0} (a : Answer) (text out out′ : List A) : Type 0 where

@@ -2,7 +2,7 @@
 -- A dart that is not live is its own next and its own previous, so that the laws hold for every number.
 use Prim.Native.Nat.{ℕ, _<_}
 use mathlib.Core.Path.{_≡_}
-use mathlib.Core.Bool.{Bool, true, false, _&&_, not}
+use mathlib.Core.Bool.{Bool, true, false, _&&_, not, cond}
 use mathlib.Core.List.{List}
 use mathlib.Core.Logic.{_≢_}
 use lib.Dec.{ltb, eqb}
@@ -41,18 +41,14 @@ pub record Lawful (R : Rotation) : Type 0 where
 
 -- a table's rotation system
 
-abbrev pub choose : Bool → ℕ → ℕ → ℕ
-choose true a b = a
-choose false a b = b
-
 unfoldable pub live? : List ℕ → ℕ → Bool
 live? t d = ltb d darts && not (eqb (edgeWord t (edgeOf d)) 0)
 
 unfoldable pub nextDart : List ℕ → ℕ → ℕ
-nextDart t d = choose (live? t d) (nextWord t d) d
+nextDart t d = cond (live? t d) (nextWord t d) d
 
 unfoldable pub prevDart : List ℕ → ℕ → ℕ
-prevDart t d = choose (live? t d) (prevWord t d) d
+prevDart t d = cond (live? t d) (prevWord t d) d
 
 -- 100 is even, so the edge word has the parity of the turns
 unfoldable pub turnsOf : List ℕ → ℕ → ℕ

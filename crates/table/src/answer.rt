@@ -1,6 +1,6 @@
 // What a call answers: a number, or the refusal alone.
 ghost use mathlib.Core.Path.{_≡_};
-ghost use Rattle.table.specs.Answers.{refusalCode, codeOf};
+ghost use Rattle.table.specs.Answers.{numberOf, refusalCode, codeOf};
 
 // Document 01, "When a call declines".
 pub enum Refusal {
@@ -22,23 +22,30 @@ pub enum Answer {
     Declined(Refusal),
 }
 
-// A refusal as C gets it: minus its number in document 01.
+// A refusal's number in document 01.
+pub fn number_of(r: Refusal) -> u64
+    ensures { λ n. ⌜ n ≡ numberOf r ⌝ }
+{
+    match r {
+        Refusal::Torn => 1,
+        Refusal::NoSuchName => 2,
+        Refusal::Taken => 3,
+        Refusal::Absent => 4,
+        Refusal::Joined => 5,
+        Refusal::Overturned => 6,
+        Refusal::ShortSlice => 7,
+        Refusal::ManyTurns => 8,
+        Refusal::Far => 9,
+        Refusal::BadMark => 10,
+        Refusal::CutRecord => 11,
+    }
+}
+
+// A refusal as C gets it: minus its number.
 pub fn refusal_code(r: Refusal) -> i64
     ensures { λ n. ⌜ n ≡ refusalCode r ⌝ }
 {
-    match r {
-        Refusal::Torn => -1,
-        Refusal::NoSuchName => -2,
-        Refusal::Taken => -3,
-        Refusal::Absent => -4,
-        Refusal::Joined => -5,
-        Refusal::Overturned => -6,
-        Refusal::ShortSlice => -7,
-        Refusal::ManyTurns => -8,
-        Refusal::Far => -9,
-        Refusal::BadMark => -10,
-        Refusal::CutRecord => -11,
-    }
+    -(number_of(r) as i64)
 }
 
 // The answer as C gets it: the number, or the refusal's code.

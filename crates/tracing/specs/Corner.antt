@@ -2,7 +2,7 @@
 -- Two corners are on one face exactly if their places are on one orbit of tracing or on mirror orbits; their types agree in the first case alone.
 use Prim.Native.Nat.{ℕ, _-_, _*_, _%_, _<_}
 use mathlib.Core.Path.{_≡_}
-use mathlib.Core.Bool.{Bool, true, false, _||_}
+use mathlib.Core.Bool.{Bool, true, false, _||_, cond}
 use mathlib.Core.List.{List, [], _∷_}
 use lib.Dec.{eqb, ltb}
 use Rattle.table.specs.Layout.{vertices, darts}
@@ -18,17 +18,13 @@ pub data Present (R : Rotation) (c : ℕ) : Type 0 where
   at-dart : c < darts → R .live c ≡ true → Present R c
   at-lone : (v : ℕ) → v < vertices → c ≡ loneCorner v → R .alone v ≡ true → Present R c
 
-abbrev pub either : Bool → Bool → Bool → Bool
-either true a b = a
-either false a b = b
-
 -- "named by the dart d that ends it"; "An isolated vertex v has one corner, named 32,768+v. Other corner words are malformed."
 unfoldable pub wellFormed : ℕ → Bool
-wellFormed c = ltb c darts || either (ltb c loneAt) false (ltb (c - loneAt) vertices)
+wellFormed c = ltb c darts || cond (ltb c loneAt) false (ltb (c - loneAt) vertices)
 
 -- is the corner there: its dart is live, or its vertex isolated
 unfoldable pub present : Rotation → ℕ → Bool
-present R c = either (ltb c loneAt) (R .live c) (R .alone (c - loneAt))
+present R c = cond (ltb c loneAt) (R .live c) (R .alone (c - loneAt))
 
 -- "A corner is on the face whose listed walk meets it": the first of these starts whose walk does
 unfoldable pub faceAmong : Rotation → ℕ → List ℕ → ℕ

@@ -1,7 +1,7 @@
 -- The listed walks, the listing and the face count, document 01, "Corners and walks" and "Counts".
 -- A listed face is named by the corner that its walk starts at: a dart, or 32,768+v for an isolated vertex v.
 use Prim.Native.Nat.{ℕ, zero, suc, _+_, _*_}
-use mathlib.Core.Bool.{Bool, true, false, not}
+use mathlib.Core.Bool.{Bool, true, false, not, cond}
 use mathlib.Core.List.{List, [], _∷_, _++_, map}
 use lib.Dec.{eqb, ltb}
 use lib.ListN.{length}
@@ -25,8 +25,7 @@ gather f (x ∷ l) = f x ++ gather f l
 
 -- x, if the test holds
 abbrev pub only : Bool → ℕ → List ℕ
-only true x = x ∷ []
-only false x = []
+only b x = cond b (x ∷ []) []
 
 -- the corners that the walks from (d, 0) meet, for these darts d
 abbrev pub metBy : Rotation → List ℕ → List ℕ

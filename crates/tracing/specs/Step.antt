@@ -2,8 +2,9 @@
 -- A step is the word 2d+t of the listing: dart d with trace type t. The laws hold for every word, also of a dart that is not live.
 use Prim.Native.Nat.{ℕ, _+_, _-_, _*_, _/_, _%_}
 use lib.Dec.{eqb}
+use mathlib.Core.Bool.{cond}
 use Rattle.table.specs.Layout.{rev}
-use Rattle.table.specs.Rotation.{Rotation, choose}
+use Rattle.table.specs.Rotation.{Rotation}
 
 -- the step words: two types for each dart
 abbrev pub steps : ℕ
@@ -15,7 +16,7 @@ stepType R s = (s + R .turns (s / 2)) % 2
 
 -- around a dart's vertex: "the next dart after" it with type 0, "the one before it" with type 1
 unfoldable pub around : Rotation → ℕ → ℕ → ℕ
-around R t d = choose (eqb t 0) (2 * R .next d) (2 * R .prev d + 1)
+around R t d = cond (eqb t 0) (2 * R .next d) (2 * R .prev d + 1)
 
 -- "go to the next dart after the reverse of d if t' is 0, to the one before it if t' is 1; the new type is t'"
 unfoldable pub step : Rotation → ℕ → ℕ
@@ -23,7 +24,7 @@ step R s = around R (stepType R s) (rev (s / 2))
 
 -- "Step (d, 0) meets corner d; step (d, 1) meets the corner of the dart next after d"
 unfoldable pub corner : Rotation → ℕ → ℕ
-corner R s = choose (eqb (s % 2) 0) (s / 2) (R .next (s / 2))
+corner R s = cond (eqb (s % 2) 0) (s / 2) (R .next (s / 2))
 
 -- the other sense at the same corner: (d, 0) and (previous of d, 1)
 unfoldable pub mirror : Rotation → ℕ → ℕ

@@ -8,27 +8,23 @@ use lib.ListN.{length}
 use Rattle.table.specs.Layout.{darts}
 use Rattle.table.specs.Rotation.{live?}
 use Rattle.table.specs.Check.{good?}
-use Rattle.table.specs.Output.{sized, ifGood, outBy}
 use Rattle.table.specs.declared.answer.Answer.{Answer}
 use Rattle.table.specs.declared.answer.Answer.the-variants.{Done, Declined}
 use Rattle.table.specs.declared.answer.Refusal.{Refusal}
-use Rattle.table.specs.declared.answer.Refusal.the-variants.{Torn, NoSuchName, Absent}
+use Rattle.table.specs.declared.answer.Refusal.the-variants.{Torn, NoSuchName, Absent, ShortSlice}
 use Rattle.tracing.specs.Listing.{bit}
 use Rattle.weave.specs.declared.call.Named.{Named}
 use Rattle.weave.specs.declared.call.Named.the-variants.{There, Refused}
 use Rattle.weave.specs.Letters.{letters, alternates, plain}
-
--- refused, unless the test holds
-abbrev pub unless : Bool → Refusal → Named → Named
-unless true r n = n
-unless false r n = Refused r
+use Rattle.table.specs.Answers.{unless, ifDone}
+use Rattle.table.specs.Output.{front}
 
 -- the step word of dart d and type k, "Where several hold: 1, 2, 3, 4"
 unfoldable pub namedStep : List ℕ → ℕ → ℕ → Named
 namedStep t d k =
-    unless (good? t) Torn
-    (unless (ltb d darts && ltb k 2) NoSuchName
-    (unless (live? t d) Absent
+    unless (good? t) (Refused Torn)
+    (unless (ltb d darts && ltb k 2) (Refused NoSuchName)
+    (unless (live? t d) (Refused Absent)
     (There (2 * d + k))))
 
 -- 1 if the ribbon alternates, and 0 if not
@@ -41,15 +37,15 @@ alternatesOf t d k = alternatesBy t (namedStep t d k)
 
 -- 1 if the weave is plain, and 0 if not
 abbrev pub plainOf : List ℕ → Answer
-plainOf t = ifGood (good? t) (Done (bit (plain t)))
+plainOf t = unless (good? t) (Declined Torn) (Done (bit (plain t)))
 
 -- the number of letters, if n places are enough for them
 abbrev pub lettersBy : List ℕ → ℕ → Named → Answer
-lettersBy t n (There s) = let l = length (letters t s) in sized (leb l n) l
+lettersBy t n (There s) = let l = length (letters t s) in unless (leb l n) (Declined ShortSlice) (Done l)
 lettersBy t n (Refused r) = Declined r
 
 abbrev pub lettersOf : List ℕ → ℕ → ℕ → ℕ → Answer
 lettersOf t d k n = lettersBy t n (namedStep t d k)
 
 abbrev pub lettersOut : List ℕ → ℕ → ℕ → List ℕ → List ℕ
-lettersOut t d k out = outBy (lettersOf t d k (length out)) (letters t (2 * d + k)) out
+lettersOut t d k out = ifDone (lettersOf t d k (length out)) (front (letters t (2 * d + k)) out) out

@@ -1,11 +1,11 @@
 -- The letters of a step and of a ribbon, alternating ribbons and plain weaves, document 01, "Over and under".
 -- A letter is the byte that is written for it.
 use Prim.Native.Nat.{ℕ, zero, suc, _+_, _-_, _*_, _/_, _%_}
-use mathlib.Core.Bool.{Bool, true, not, _&&_}
+use mathlib.Core.Bool.{Bool, true, not, _&&_, cond}
 use mathlib.Core.List.{List, [], _∷_}
 use lib.Dec.{eqb, ltb}
 use Rattle.table.specs.Layout.{darts, edgeOf, edgeWord}
-use Rattle.table.specs.Rotation.{rotation, choose}
+use Rattle.table.specs.Rotation.{rotation}
 use Rattle.tracing.specs.Walk.{walk}
 use Rattle.tracing.specs.Listing.{gather, starts}
 
@@ -33,7 +33,7 @@ crossings w = w - unturned + (unturned - w)
 
 -- "With positive k the strand goes over (O) where the type goes from 0 to 1, else under (U); with negative k the letters are exchanged."
 unfoldable pub letter : Bool → ℕ → ℕ
-letter hand t = choose hand (choose (eqb t 0) over under) (choose (eqb t 0) under over)
+letter hand t = cond hand (cond (eqb t 0) over under) (cond (eqb t 0) under over)
 
 -- "Along a step the type flips at each one": n crossings, the first of them from type t
 unfoldable pub crossed : Bool → ℕ → ℕ → List ℕ

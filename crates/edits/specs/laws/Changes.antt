@@ -24,16 +24,18 @@ use Rattle.surgery.specs.Vertex.{Added}
 use Rattle.surgery.specs.Change.{Changes, turning}
 use Rattle.surgery.specs.laws.Change.{delete-count, insert-count, turn-count, turn-even-count, add-count}
 use Rattle.edits.specs.Turns.{turnsIn, overturned, turnedWord, wordFor}
-use Rattle.edits.specs.laws.Turns.{word-in, hundred}
+use Rattle.edits.specs.laws.Turns.{word-in, hundred, inserted-word}
 use Rattle.edits.specs.Edge.{inserted}
 use Rattle.edits.specs.laws.Deleted.{deleted-without}
 use Rattle.edits.specs.laws.Inserted.{inserted-without, inserted-sits, inserted-own}
-use Rattle.edits.specs.Edits.{verdict, written}
-use Rattle.edits.specs.laws.Passed.{may-add, MayRemove, may-remove, MayInsert, may-insert, may-delete, MayTurn, may-turn, add-good, remove-good, insert-good, delete-good, turn-good, turn-live, inserted-word, present-corner}
+use Rattle.edits.specs.Edits.{written}
+use Rattle.edits.specs.laws.Passed.{add-good, remove-good, insert-good, delete-good, turn-good, turn-live, present-corner}
 use Rattle.edits.specs.declared.edit.Edit.{Edit}
 use Rattle.edits.specs.declared.edit.Edit.the-variants.{AddVertex, RemoveVertex, InsertEdge, DeleteEdge, TurnEdge}
 use Rattle.edits.specs.declared.edit.Verdict.the-variants.{Passes}
 use Rattle.edits.specs.Changes.{oddness, turnChange, change}
+use Rattle.edits.specs.Verdicts.{verdict}
+use Rattle.edits.specs.laws.Verdicts.{may-add, MayRemove, may-remove, MayInsert, may-insert, may-delete, MayTurn, may-turn}
 
 -- parities of turns and of their words
 

@@ -3,14 +3,14 @@ use Prim.Native.Nat.{ℕ, _+_, _-_, _*_, _≤_, _<_}
 use native.Mathlib.Omega.{arith}
 use native.Mathlib.Decide.{ℕ-discrete}
 use mathlib.Core.Path.{_≡_, refl, sym, _∙_, ap, subst}
-use mathlib.Core.Bool.{Bool, true, false}
+use mathlib.Core.Bool.{Bool, true, false, cond}
 use mathlib.Core.List.{List}
 use mathlib.Core.Logic.{_≢_}
 use lib.ListN.{length-set}
 use borrow.Author.Tests.{eq-eqb, ne-eqb, lt-ltb, le-ltb}
 use Rattle.orbits.specs.laws.Truth.{truth, holds, fails}
 use Rattle.table.specs.Layout.{vertices, edges, darts, nothing, isolated, nextWord, prevWord, leaves, edgeWord, vertexWord}
-use Rattle.table.specs.Rotation.{choose, live?, nextDart}
+use Rattle.table.specs.Rotation.{live?, nextDart}
 use Rattle.table.specs.Writes.{setEdge}
 use Rattle.table.specs.laws.Writes.{upd, next-edge, prev-edge, leaves-edge, vertex-edge, leaves-vertex}
 use Rattle.tracing.specs.Listing.{loneAt}
@@ -87,7 +87,7 @@ module _ (t : List ℕ) (L : ℕ → Bool) (H : Held t L) (x : ℕ) where
       (λ e. subst (λ w. Sought (unlink t x) (leaves t x) x (darts - x) w) (sym (to-seek e)) (over (sought (taken t x) (leaves t x) x (darts - x))))
     where
       to-seek : vertexWord t (leaves t x) ≡ x → successor (taken t x) (leaves t x) x (vertexWord t (leaves t x)) ≡ seek (taken t x) (leaves t x) x (darts - x)
-      to-seek e = ap (λ b. choose b (seek (taken t x) (leaves t x) x (darts - x)) (vertexWord t (leaves t x))) (eq-eqb (vertexWord t (leaves t x)) x e)
+      to-seek e = ap (λ b. cond b (seek (taken t x) (leaves t x) x (darts - x)) (vertexWord t (leaves t x))) (eq-eqb (vertexWord t (leaves t x)) x e)
 
       same : (j : ℕ) → j < darts → leaves (unlink t x) j ≡ leaves (taken t x) j
       same j h = leaves-vertex (taken t x) (leaves t x) _ j h

@@ -14,15 +14,16 @@ use Rattle.tracing.specs.Listing.{faceCount}
 use Rattle.edits.specs.declared.edit.Edit.{Edit}
 use Rattle.edits.specs.declared.edit.Edit.the-variants.{InsertEdge, TurnEdge}
 use Rattle.edits.specs.declared.edit.Verdict.the-variants.{Passes, Declines}
-use Rattle.edits.specs.Edits.{verdict, written, edited, answer}
+use Rattle.edits.specs.Verdicts.{verdict}
+use Rattle.edits.specs.Edits.{written, edited, answer}
 
 module _ (t : List ℕ) (E : Edit) where
   pub edited-passes : verdict t E ≡ Passes → edited t E ≡ written t E
-  unfolding edited
+  unfolding edited answer
   edited-passes e = rw e
 
   pub edited-declines : (r : Refusal) → verdict t E ≡ Declines r → edited t E ≡ t
-  unfolding edited
+  unfolding edited answer
   edited-declines r e = rw e
 
   pub answer-passes : verdict t E ≡ Passes → answer t E ≡ Done (faceCount (rotation (written t E)))

@@ -3,7 +3,7 @@ use Prim.Native.Nat.{ℕ, _≤_, _<_}
 use native.Mathlib.Omega.{arith}
 use native.Mathlib.Decide.{ℕ-discrete}
 use mathlib.Core.Path.{_≡_, sym, _∙_, ap}
-use mathlib.Core.Bool.{Bool, true, false}
+use mathlib.Core.Bool.{Bool, true, false, cond}
 use mathlib.Core.List.{List}
 use mathlib.Core.Logic.{_≢_, _↔_}
 use lib.ListN.{length}
@@ -13,7 +13,7 @@ use Rattle.orbits.specs.laws.Reach.{reach-here, reach-step, reach-ind}
 use Rattle.table.specs.Layout.{vertices, edges, darts, words, nothing, isolated, nextWord, prevWord, leaves, edgeWord, vertexWord, edgeOf}
 use Rattle.table.specs.Good.{Good, Bare}
 use Rattle.table.specs.laws.Writes.{same-words}
-use Rattle.table.specs.Rotation.{choose, live?}
+use Rattle.table.specs.Rotation.{live?}
 use Rattle.table.specs.laws.Rotation.{live-yes, yes-live, not-live}
 
 -- d is the smallest dart of L that leaves v
@@ -84,7 +84,7 @@ module _ (t : List ℕ) where
 
 -- the next dart, where L are the live ones; a dart that is not live is its own
 unfoldable pub nextIn : List ℕ → (ℕ → Bool) → ℕ → ℕ
-nextIn t L d = choose (L d) (nextWord t d) d
+nextIn t L d = cond (L d) (nextWord t d) d
 
 pub next-in : (t : List ℕ) (L : ℕ → Bool) (d : ℕ) → L d ≡ true → nextIn t L d ≡ nextWord t d
 unfolding nextIn

@@ -3,14 +3,14 @@ use Prim.Native.Nat.{ℕ, _+_, _*_, _%_, _≤_, _<_}
 use native.Mathlib.Omega.{arith}
 use native.Mathlib.Decide.{ℕ-discrete}
 use mathlib.Core.Path.{_≡_, sym, _∙_, ap, subst, fun-ext}
-use mathlib.Core.Bool.{Bool, true, false, _&&_}
+use mathlib.Core.Bool.{Bool, true, false, _&&_, cond}
 use mathlib.Core.List.{List}
 use mathlib.Core.Logic.{_≢_}
 use borrow.Author.Tests.{eq-eqb, ne-eqb}
 use Rattle.orbits.specs.laws.Truth.{clash, both, both-left, both-right, same-truth}
 use Rattle.table.specs.Layout.{vertices, edges, darts, isolated, nextWord, leaves, edgeWord, vertexWord, edgeOf}
 use Rattle.table.specs.Good.{Good}
-use Rattle.table.specs.Rotation.{choose, rotation, live?, nextDart, turnsOf, there?}
+use Rattle.table.specs.Rotation.{rotation, live?, nextDart, turnsOf, there?}
 use Rattle.table.specs.laws.Rotation.{live-yes, yes-live, not-live, there-yes, there-word, alone-yes}
 use Rattle.table.specs.laws.Writes.{upd-at, upd-off, edge-edge, leaves-edge, vertex-edge}
 use Rattle.tracing.specs.Listing.{loneAt}
@@ -229,8 +229,8 @@ module _ (t : List ℕ) (g : Good t) (e c₁ c₂ w : ℕ) (h : e < edges) (off 
 
       never : c₂ ≡ nextIn full more (2 * e) → Leads → ⊥
       never s (on-to n _ _) = elim (ℕ-discrete c₁ c₂) [
-        | yes q ↦ clash (rw (s ∙ n ∙ ap (λ b. choose b (2 * e + 1) c₁) (eq-eqb c₁ c₂ q)) at o) (free (2 * e + 1) (omega arith))
-        | no m ↦ m (sym (s ∙ n ∙ ap (λ b. choose b (2 * e + 1) c₁) (ne-eqb c₁ c₂ m)))
+        | yes q ↦ clash (rw (s ∙ n ∙ ap (λ b. cond b (2 * e + 1) c₁) (eq-eqb c₁ c₂ q)) at o) (free (2 * e + 1) (omega arith))
+        | no m ↦ m (sym (s ∙ n ∙ ap (λ b. cond b (2 * e + 1) c₁) (ne-eqb c₁ c₂ m)))
       ]
       never s (to-itself v n _ _) = clash (rw (s ∙ n) at o) (free (2 * e) (omega arith))
 
@@ -239,7 +239,7 @@ module _ (t : List ℕ) (g : Good t) (e c₁ c₂ w : ℕ) (h : e < edges) (off 
   inserted-order q = by first-leads
     where
       same : firstCorner e c₁ c₂ ≡ 2 * e + 1
-      same = ap (λ b. choose b (2 * e + 1) c₁) (eq-eqb c₁ c₂ q)
+      same = ap (λ b. cond b (2 * e + 1) c₁) (eq-eqb c₁ c₂ q)
 
       by : Leads → nextDart result (2 * e) ≡ 2 * e + 1
       by (on-to n _ _) = result-next (2 * e) ∙ n ∙ same
@@ -253,7 +253,7 @@ module _ (t : List ℕ) (g : Good t) (e c₁ c₂ w : ℕ) (h : e < edges) (off 
     where
       -- one corner for both
       own-corner : c₁ ≡ c₂ → firstCorner e c₁ c₂ ≡ 2 * e + 1
-      own-corner q = ap (λ b. choose b (2 * e + 1) c₁) (eq-eqb c₁ c₂ q)
+      own-corner q = ap (λ b. cond b (2 * e + 1) c₁) (eq-eqb c₁ c₂ q)
 
       near : c₁ ≡ c₂ → (nextIn full more (2 * e) ≡ 2 * e + 1) × (leaves full (2 * e) ≡ leaves half (2 * e + 1))
       near q = by first-leads
@@ -273,7 +273,7 @@ module _ (t : List ℕ) (g : Good t) (e c₁ c₂ w : ℕ) (h : e < edges) (off 
       apart-from n k = by first-leads k
         where
           same : firstCorner e c₁ c₂ ≡ c₁
-          same = ap (λ b. choose b (2 * e + 1) c₁) (ne-eqb c₁ c₂ n)
+          same = ap (λ b. cond b (2 * e + 1) c₁) (ne-eqb c₁ c₂ n)
 
           by : Leads → Corner t (live? t) c₁ → Sits (rotation result) e (rotation t) (2 * e) c₁
           by (on-to m f p) (at-dart o) = just-before o (result-next (2 * e) ∙ m ∙ same)

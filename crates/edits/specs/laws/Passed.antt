@@ -1,230 +1,38 @@
--- What is known where an edit goes through, and that the table it writes is good.
-use Prim.Native.Nat.{ℕ, _≤_, _<_}
-use native.Mathlib.Omega.{arith}
+-- The table that an accepted edit writes is good, and its words may be followed as they are written.
+use Prim.Native.Nat.{ℕ, _<_}
 use native.Mathlib.Decide.{ℕ-discrete}
 use mathlib.Core.Path.{_≡_, refl, sym, _∙_, ap, subst, fun-ext}
-use mathlib.Core.Bool.{Bool, true, false, not, _||_}
 use mathlib.Core.List.{List}
-use mathlib.Core.Logic.{_≢_, _⊎_, inl, inr, ⊎-elim}
-use lib.Dec.{eqb, leb}
-use lib.ListN.{length-set}
-use lib.IntN.{ℤ, _+ℤ_}
-use borrow.Author.Tests.{leb-false, eqb-true, eqb-false, not-true, not-false}
-use Rattle.orbits.specs.laws.Truth.{clash, same-truth}
-use Rattle.orbits.specs.Reach.{Reach}
-use Rattle.orbits.specs.laws.Reach.{reach-here, reach-step, reach-ind}
-use Rattle.table.specs.Layout.{vertices, edges, darts, nothing, isolated, nextWord, prevWord, leaves, edgeWord, vertexWord, edgeOf, Live}
+use mathlib.Core.Logic.{_≢_, inl, inr}
+use lib.IntN.{ℤ}
+use Rattle.orbits.specs.laws.Truth.{same-truth}
+use Rattle.table.specs.Layout.{edges, nothing, isolated, edgeWord, vertexWord, edgeOf}
 use Rattle.table.specs.Good.{Good}
 use Rattle.table.specs.Rotation.{rotation, live?}
-use Rattle.table.specs.laws.Rotation.{live-yes, yes-live, alone-word, case-yes}
-use Rattle.table.specs.Check.{good?}
-use Rattle.table.specs.laws.Check.{good-case}
-use Rattle.table.specs.laws.Lawful.{good-lawful}
+use Rattle.table.specs.laws.Rotation.{live-yes, yes-live, alone-word}
 use Rattle.table.specs.Writes.{setVertex, setEdge}
-use Rattle.table.specs.laws.Writes.{upd-at, upd-off, next-vertex, prev-vertex, leaves-vertex, edge-vertex, vertex-vertex, edge-edge}
-use Rattle.table.specs.declared.answer.Refusal.{Refusal}
-use Rattle.table.specs.declared.answer.Refusal.the-variants.{Absent, Joined}
-use Rattle.tracing.specs.Corner.{present, Present, at-dart, at-lone}
-use Rattle.tracing.specs.laws.Corner.{present-means}
-use Rattle.edits.specs.Turns.{turnsIn, overturned, turnedWord}
-use Rattle.edits.specs.laws.Turns.{few-range, word-in, hundred}
-use Rattle.edits.specs.Verdicts.{first, vertexThere, addVerdict, removeVerdict, insertVerdict, deleteVerdict, turnVerdict}
+use Rattle.table.specs.laws.Writes.{upd-at, upd-off, edge-edge}
+use Rattle.tracing.specs.Corner.{Present, at-dart, at-lone}
+use Rattle.edits.specs.Turns.{turnedWord}
 use Rattle.edits.specs.laws.Held.{Held, good-held, held-good}
 use Rattle.edits.specs.Edge.{inserted, deleted}
 use Rattle.edits.specs.laws.Edge.{Corner, edge-held}
 use Rattle.edits.specs.laws.Deleted.{deleted-good, delete-ready}
 use Rattle.edits.specs.laws.Inserted.{inserted-good, insert-ready}
 use Rattle.edits.specs.laws.Ready.{InsertReady, DeleteReady}
-use Rattle.edits.specs.Edits.{verdict, written}
+use Rattle.edits.specs.Edits.{written}
 use Rattle.edits.specs.declared.edit.Edit.{Edit}
 use Rattle.edits.specs.declared.edit.Edit.the-variants.{AddVertex, RemoveVertex, InsertEdge, DeleteEdge, TurnEdge}
-use Rattle.edits.specs.declared.edit.Verdict.{Verdict}
 use Rattle.edits.specs.declared.edit.Verdict.the-variants.{Passes}
+use Rattle.edits.specs.laws.Verdicts.{MayAdd, MayRemove, MayInsert, MayDelete, MayTurn, may-add, may-remove, may-insert, may-delete, may-turn}
+use Rattle.edits.specs.Verdicts.{verdict}
+use Rattle.edits.specs.laws.Turns.{turned-some, inserted-word}
+use Rattle.edits.specs.laws.Marked.{marked-good}
 use Rattle.edits.specs.laws.Edge as edge
-
--- a list of tests that lets an edit through: the first test fails, and the rest lets it through
-through : (b : Bool) (r : Refusal) (v : Verdict) → first b r v ≡ Passes → (b ≡ false) × (v ≡ Passes)
-through true r v e = let z : _≡_ {A = ℕ} 0 1 = cc in absurd (omega arith)
-through false r v e = (refl, e)
-
-neither : (a b : Bool) → (a || b) ≡ false → (a ≡ false) × (b ≡ false)
-neither true b e = absurd (clash refl e)
-neither false b e = (refl, e)
-
-was-good : (t : List ℕ) → not (good? t) ≡ false → Good t
-was-good t e = case-yes (good-case t) (not-false (good? t) e)
-
-pub record MayAdd (t : List ℕ) (v : ℕ) : Type 0 where
-  pub good : Good t
-  pub low : v < vertices
-  pub absent : vertexWord t v ≡ nothing
-
-pub may-add : (t : List ℕ) (v : ℕ) → addVerdict t v ≡ Passes → MayAdd t v
-unfolding addVerdict
-may-add t v p =
-    let a = through _ _ _ p in
-    let b = through _ _ _ (a .1) in
-    let c = through _ _ _ (b .1) in
-    record { good = was-good t (a .0); low = leb-false vertices v (b .0); absent = eqb-true (vertexWord t v) nothing (not-false _ (c .0)) }
-
-pub record MayRemove (t : List ℕ) (v : ℕ) : Type 0 where
-  pub good : Good t
-  pub low : v < vertices
-  pub alone : vertexWord t v ≡ isolated
-
-pub may-remove : (t : List ℕ) (v : ℕ) → removeVerdict t v ≡ Passes → MayRemove t v
-unfolding removeVerdict
-may-remove t v p =
-    let a = through _ _ _ p in
-    let b = through _ _ _ (a .1) in
-    let c = through (not (vertexThere t v)) Absent (first (not (eqb (vertexWord t v) isolated)) Joined Passes) (b .1) in
-    let d = through _ _ _ (c .1) in
-    record { good = was-good t (a .0); low = leb-false vertices v (b .0); alone = eqb-true (vertexWord t v) isolated (not-false _ (d .0)) }
-
-pub record MayInsert (t : List ℕ) (e c₁ c₂ : ℕ) (k : ℤ) : Type 0 where
-  pub good : Good t
-  pub low : e < edges
-  pub free : edgeWord t e ≡ 0
-  pub first-there : Present (rotation t) c₁
-  pub second-there : Present (rotation t) c₂
-  pub few : overturned k ≡ false
-
-pub may-insert : (t : List ℕ) (e c₁ c₂ : ℕ) (k : ℤ) → insertVerdict t e c₁ c₂ k ≡ Passes → MayInsert t e c₁ c₂ k
-unfolding insertVerdict
-may-insert t e c₁ c₂ k p =
-    let a = through _ _ _ p in
-    let b = through _ _ _ (a .1) in
-    let c = through _ _ _ (b .1) in
-    let d = through _ _ _ (c .1) in
-    let f = through _ _ _ (d .1) in
-    let g = was-good t (a .0) in
-    let there = neither (not (present (rotation t) c₁)) (not (present (rotation t) c₂)) (d .0) in
-    record {
-      good = g;
-      low = leb-false edges e (neither (leb edges e) _ (b .0) .0);
-      free = eqb-true (edgeWord t e) 0 (not-false _ (c .0));
-      first-there = present-means (rotation t) (good-lawful t g) c₁ (not-false _ (there .0));
-      second-there = present-means (rotation t) (good-lawful t g) c₂ (not-false _ (there .1));
-      few = f .0;
-    }
-
-pub record MayDelete (t : List ℕ) (e : ℕ) : Type 0 where
-  pub good : Good t
-  pub low : e < edges
-  pub there : edgeWord t e ≢ 0
-
-pub may-delete : (t : List ℕ) (e : ℕ) → deleteVerdict t e ≡ Passes → MayDelete t e
-unfolding deleteVerdict
-may-delete t e p =
-    let a = through _ _ _ p in
-    let b = through _ _ _ (a .1) in
-    let c = through _ _ _ (b .1) in
-    record { good = was-good t (a .0); low = leb-false edges e (b .0); there = eqb-false (edgeWord t e) 0 (not-true _ (not-false _ (c .0))) }
-
-pub record MayTurn (t : List ℕ) (e : ℕ) (a : ℤ) : Type 0 where
-  pub good : Good t
-  pub low : e < edges
-  pub there : edgeWord t e ≢ 0
-  pub few : overturned (turnsIn (edgeWord t e) +ℤ a) ≡ false
-
-pub may-turn : (t : List ℕ) (e : ℕ) (k : ℤ) → turnVerdict t e k ≡ Passes → MayTurn t e k
-unfolding turnVerdict
-may-turn t e k p =
-    let a = through _ _ _ p in
-    let b = through _ _ _ (a .1) in
-    let c = through _ _ _ (b .1) in
-    let d = through _ _ _ (c .1) in
-    record { good = was-good t (a .0); low = leb-false edges e (b .0); there = eqb-false (edgeWord t e) 0 (not-true _ (not-false _ (c .0))); few = d .0 }
-
--- a word of turns in range is a live edge's
-pub turned-some : (w : ℕ) (a : ℤ) → overturned (turnsIn w +ℤ a) ≡ false → (turnedWord w a ≢ 0) × (turnedWord w a ≤ 199)
-turned-some w a e =
-    let r = few-range (turnsIn w +ℤ a) e in
-    let q = word-in w a e in
-    let s = r .some in
-    let m = r .most in
-    (λ z. omega (arith, q), omega (arith, q))
-
-pub inserted-word : (k : ℤ) → overturned k ≡ false → (turnedWord 100 k ≢ 0) × (turnedWord 100 k ≤ 199)
-inserted-word k e = turned-some 100 k (ap overturned (hundred k) ∙ e)
 
 pub present-corner : (t : List ℕ) (c : ℕ) → Present (rotation t) c → Corner t (live? t) c
 present-corner t c (at-dart h l) = edge.at-dart l
 present-corner t c (at-lone v h e a) = edge.at-lone v e h (alone-word t v a .1)
-
--- the table with one vertex word changed between nothing and isolated: no live dart leaves that vertex
-module _ (t : List ℕ) (g : Good t) (v w : ℕ) (low : v < vertices) (bare : (d : ℕ) → Live t d → leaves t d ≢ v) (still : (w ≡ nothing) ⊎ (w ≡ isolated)) where
-  abbrev marked : List ℕ
-  marked = setVertex t v w
-
-  edge-same : (e : ℕ) → e < edges → edgeWord marked e ≡ edgeWord t e
-  edge-same e h = edge-vertex t v w e h
-
-  was-live : (d : ℕ) → Live marked d → Live t d
-  was-live d l = let h = l .low in record { low = h; on = rw (edge-same (edgeOf d) (omega arith)) at (l .on) }
-
-  leaves-same : (d : ℕ) → Live marked d → leaves marked d ≡ leaves t d
-  leaves-same d l = leaves-vertex t v w d (l .low)
-
-  live-still : (d : ℕ) → Live t d → Live marked d
-  live-still d l = let h = l .low in record { low = h; on = rw (edge-same (edgeOf d) (omega arith)) (l .on) }
-
-  other-word : (u : ℕ) → u < vertices → u ≢ v → vertexWord marked u ≡ vertexWord t u
-  other-word u h n = vertex-vertex t (g .size) v w u low ∙ upd-off (vertexWord t) v w u n
-
-  own-word : vertexWord marked v ≡ w
-  own-word = vertex-vertex t (g .size) v w v low ∙ upd-at (vertexWord t) v w
-
-  next-same : (d : ℕ) → d < darts → nextWord marked d ≡ nextWord t d
-  next-same d h = next-vertex t v w d h
-
-  prev-same : (d : ℕ) → d < darts → prevWord marked d ≡ prevWord t d
-  prev-same d h = prev-vertex t v w d h
-
-  vertex-apart : (d : ℕ) → Live t d → vertexWord marked (leaves t d) ≡ vertexWord t (leaves t d)
-  vertex-apart d l = other-word (leaves t d) (g .leaves-low d l) (bare d l)
-
-  record Onward (d k : ℕ) : Type 0 where
-    live : Live t k
-    path : Reach (nextWord marked) d k
-
-  reach-kept : (d k : ℕ) → Live t d → Reach (nextWord t) d k → Reach (nextWord marked) d k
-  reach-kept d k l c = reach-ind (nextWord t) (Onward d) d (record { live = l; path = reach-here })
-      (λ i s o. record { live = g .next-live i (o .live); path = rw (← (next-same i (o .live .low))) (reach-step (o .path)) }) k c .path
-
-  pub marked-good : Good marked
-  marked-good = record {
-    size = length-set t _ w ∙ g .size;
-    turns = λ e h. rw (edge-same e h) (g .turns e h);
-    bare = λ d h z.
-        let b = g .bare d h (sym (edge-same (edgeOf d) (omega arith)) ∙ z) in
-        record { next-none = next-same d h ∙ b .next-none; prev-none = prev-same d h ∙ b .prev-none; leaves-none = leaves-vertex t v w d h ∙ b .leaves-none };
-    leaves-low = λ d l. rw (leaves-same d l) (g .leaves-low d (was-live d l));
-    leaves-live = λ d l. rw (leaves-same d l, vertex-apart d (was-live d l)) (g .leaves-live d (was-live d l));
-    next-live = λ d l. rw (next-same d (l .low)) (live-still _ (g .next-live d (was-live d l)));
-    prev-live = λ d l. rw (prev-same d (l .low)) (live-still _ (g .prev-live d (was-live d l)));
-    prev-next = λ d l. let m = was-live d l in rw (next-same d (l .low)) (prev-same _ (g .next-live d m .low) ∙ g .prev-next d m);
-    next-prev = λ d l. let m = was-live d l in rw (prev-same d (l .low)) (next-same _ (g .prev-live d m .low) ∙ g .next-prev d m);
-    next-leaves = λ d l.
-        let m = was-live d l in
-        rw (next-same d (l .low)) (leaves-vertex t v w _ (g .next-live d m .low) ∙ g .next-leaves d m ∙ sym (leaves-same d l));
-    one-cycle = λ d k l m q. reach-kept d k (was-live d l) (g .one-cycle d k (was-live d l) (was-live k m) (sym (leaves-same d l) ∙ q ∙ leaves-same k m));
-    alone = λ u h i d l q. elim (ℕ-discrete u v) [
-      | yes s ↦ bare d (was-live d l) (sym (leaves-same d l) ∙ q ∙ s)
-      | no n ↦ g .alone u h (sym (other-word u h n) ∙ i) d (was-live d l) (sym (leaves-same d l) ∙ q)
-    ];
-    smallest = λ u h n i. elim (ℕ-discrete u v) [
-      | yes s ↦ absurd (⊎-elim (λ z. n (ap (vertexWord marked) s ∙ own-word ∙ z)) (λ z. i (ap (vertexWord marked) s ∙ own-word ∙ z)) still)
-      | no m ↦
-          let same = other-word u h m in
-          let s = g .smallest u h (rw same at n) (rw same at i) in
-          rw same (record {
-            live = live-still _ (s .live);
-            here = leaves-same _ (live-still _ (s .live)) ∙ s .here;
-            least = λ k l q. s .least k (was-live k l) (sym (leaves-same k l) ∙ q);
-          })
-    ];
-  }
 
 -- The table that an accepted edit writes is good.
 module _ (t : List ℕ) where

@@ -2,7 +2,7 @@
 use Prim.Native.Nat.{ℕ, suc, _≤_, _<_, _^_}
 use native.Mathlib.Omega.{arith}
 use mathlib.Core.Path.{_≡_, refl, sym, _∙_, ap, ap₂}
-use mathlib.Core.Bool.{true, false}
+use mathlib.Core.Bool.{true, false, cond}
 use mathlib.Core.Logic.{_≢_}
 use lib.IntN.{ℤ, pos, negsuc, natAbs, _+ℤ_, _-ℤ_, +ℤ-idl}
 use lib.Signed.{ltZ, mag}
@@ -12,7 +12,6 @@ use mir.Facts.{toZ-pos, toZ-ofZ}
 use Rattle.orbits.specs.laws.Truth.{clash, truth, holds, fails}
 use Rattle.table.specs.laws.Signed.{difference, below, above, mag-sum}
 use borrow.Author.Tests.{lt-ltb, le-ltb, ltb-true, ltb-false}
-use Rattle.table.specs.Rotation.{choose}
 use Rattle.edits.specs.Turns.{turnsIn, overturned, wordFor, turnedWord}
 
 -- the tests that the code makes
@@ -86,10 +85,10 @@ settle-hundred y z e r = ap (λ x. toZ w32 (ofZ w32 (x +ℤ pos 100))) e ∙ toZ
 -- the word of turns that pass 99, and of those that do not
 module _ (w : ℕ) (a : ℤ) where
   pub word-over : overturned (turnsIn w +ℤ a) ≡ true → 0 ≡ turnedWord w a
-  word-over e = sym (ap (λ b. choose b 0 (wordFor (turnsIn w +ℤ a))) e)
+  word-over e = sym (ap (λ b. cond b 0 (wordFor (turnsIn w +ℤ a))) e)
 
   pub word-in : overturned (turnsIn w +ℤ a) ≡ false → wordFor (turnsIn w +ℤ a) ≡ turnedWord w a
-  word-in e = sym (ap (λ b. choose b 0 (wordFor (turnsIn w +ℤ a))) e)
+  word-in e = sym (ap (λ b. cond b 0 (wordFor (turnsIn w +ℤ a))) e)
 
   -- a word of 0 says that the turns pass 99
   pub zero-over : turnedWord w a ≡ 0 → overturned (turnsIn w +ℤ a) ≡ true
@@ -104,6 +103,9 @@ module _ (w : ℕ) (a : ℤ) where
     | fails e ↦ e
   ]
 
+  pub few-word : overturned (turnsIn w +ℤ a) ≡ false → turnedWord w a ≢ 0
+  few-word e z = let s = few-range (turnsIn w +ℤ a) e .some in let q = word-in e ∙ z in omega (arith, s, q)
+
 -- an edge with no turns has the word 100
 pub hundred : (k : ℤ) → turnsIn 100 +ℤ k ≡ k
 hundred k = +ℤ-idl k
@@ -111,3 +113,15 @@ hundred k = +ℤ-idl k
 -- an amount that is handed on keeps its value
 pub amount-on : (w : ℕ) (a : ℤ) {r : ℕ} → SFits w16 a → r ≡ turnedWord w (toZ w16 (ofZ w16 a)) → r ≡ turnedWord w a
 amount-on w a f e = e ∙ ap (turnedWord w) (toZ-ofZ {w = w16} f)
+
+-- a word of turns in range is a live edge's
+pub turned-some : (w : ℕ) (a : ℤ) → overturned (turnsIn w +ℤ a) ≡ false → (turnedWord w a ≢ 0) × (turnedWord w a ≤ 199)
+turned-some w a e =
+    let r = few-range (turnsIn w +ℤ a) e in
+    let q = word-in w a e in
+    let s = r .some in
+    let m = r .most in
+    (λ z. omega (arith, q), omega (arith, q))
+
+pub inserted-word : (k : ℤ) → overturned k ≡ false → (turnedWord 100 k ≢ 0) × (turnedWord 100 k ≤ 199)
+inserted-word k e = turned-some 100 k (ap overturned (hundred k) ∙ e)

@@ -12,10 +12,9 @@ use borrow.Author.Tests.{le-leb, lt-leb}
 use mir.Syntax.{w64}
 use mir.Val.{toZ, ofZ}
 use Rattle.orbits.specs.laws.Truth.{truth, holds, fails}
-use Rattle.table.specs.Answers.{codeOf}
+use Rattle.table.specs.Answers.{codeOf, ifDone}
 use Rattle.table.specs.laws.Answers.{handed-on}
 use Rattle.table.specs.Check.{good?}
-use Rattle.table.specs.Output.{outBy}
 use Rattle.table.specs.laws.Output.{sets-front}
 use Rattle.table.specs.declared.answer.Answer.the-variants.{Declined}
 use Rattle.table.specs.declared.answer.Refusal.the-variants.{Torn, ShortSlice}
@@ -25,10 +24,11 @@ use Rattle.reader.specs.declared.words.Told.{Told}
 use Rattle.reader.specs.Reading.{stepBy}
 use Rattle.reader.specs.laws.Reading.{placed-torn, Settled, goes, rests, settled}
 use Rattle.reader.specs.Words.{state, atOf, firstOf, stepped, told, wordsTold, coded, wordsCoded, wordsOut}
+use Rattle.table.specs.Output.{front}
 
 -- the words of a step that goes on, or rests
 stored : (words : List ℕ) (y : Tally) (q : Stepped) → state ≤ length words → Settled (atOf words) y q
-    → set (set words 0 (q .at .dart)) 1 (q .at .kind) ≡ outBy (q .answer) (q .at .dart ∷ q .at .kind ∷ []) words
+    → set (set words 0 (q .at .dart)) 1 (q .at .kind) ≡ ifDone (q .answer) (front (q .at .dart ∷ q .at .kind ∷ []) words) words
 stored words y q h (goes n e) = rw e (sets-front (q .at .dart ∷ q .at .kind ∷ []) words (omega arith))
 stored words y q h (rests r e) = rw (e, set-getD words 0 0) (set-getD words 1 0)
 
@@ -56,7 +56,7 @@ module _ (t words lengths : List ℕ) (y : Tally) where
       rw e (
         told-step h,
         stored words y (stepped t words lengths y) h (settled t (atOf words) (firstOf words) lengths y)
-            ∙ ap (λ r. outBy (r .answer) (stepped t words lengths y .at .dart ∷ stepped t words lengths y .at .kind ∷ []) words) (told-step h),
+            ∙ ap (λ r. ifDone (r .answer) (front (stepped t words lengths y .at .dart ∷ stepped t words lengths y .at .kind ∷ []) words) words) (told-step h),
       )
 
 -- the code of an answer, handed on

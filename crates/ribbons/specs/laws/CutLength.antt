@@ -3,7 +3,7 @@ use Prim.Native.Nat.{ℕ, _<_, _≤_}
 use mathlib.Core.Path.{_≡_, sym, _∙_, ap}
 use mathlib.Core.List.{List}
 use lib.ListN.{length}
-use borrow.Author.Tests.{lt-ltb, le-ltb}
+use borrow.Author.Tests.{lt-leb, le-leb}
 use Rattle.table.specs.Layout.{edges}
 use Rattle.table.specs.Rotation.{rotation}
 use Rattle.table.specs.declared.answer.Answer.{Answer}
@@ -23,7 +23,7 @@ module _ (t : List ℕ) (d k : ℕ) (lengths : List ℕ) {n : Named} (e : n ≡ 
   cut-refused f = sym (ap (cutLengthBy t lengths) (sym e ∙ f))
 
   pub cut-short : {s : ℕ} → n ≡ There s → length lengths < edges → Declined ShortSlice ≡ cutLengthOf t d k lengths
-  cut-short {s} f h = sym (ap (cutLengthBy t lengths) (sym e ∙ f) ∙ rw (lt-ltb (length lengths) edges h))
+  cut-short {s} f h = sym (ap (cutLengthBy t lengths) (sym e ∙ f) ∙ rw (lt-leb edges (length lengths) h))
 
   pub cut-along : {s : ℕ} {a : Answer} → n ≡ There s → edges ≤ length lengths → a ≡ lengthAlong lengths (walk (rotation t) s) → a ≡ cutLengthOf t d k lengths
-  cut-along {s} f h g = g ∙ sym (ap (cutLengthBy t lengths) (sym e ∙ f) ∙ rw (le-ltb (length lengths) edges h))
+  cut-along {s} f h g = g ∙ sym (ap (cutLengthBy t lengths) (sym e ∙ f) ∙ rw (le-leb edges (length lengths) h))

@@ -2,16 +2,16 @@
 use Prim.Native.Nat.{ℕ, _+_, _*_, _<_, _≤_}
 use native.Mathlib.Omega.{arith}
 use mathlib.Core.Path.{_≡_, refl, sym, _∙_, ap}
-use mathlib.Core.Bool.{Bool, true, false}
+use mathlib.Core.Bool.{true, false, not}
 use mathlib.Core.List.{List}
-use lib.Dec.{ltb}
+use lib.Dec.{leb}
 use lib.IntN.{ℤ}
 use lib.Ieee.{Float}
 use lib.ListN.{length}
-use borrow.Author.Tests.{lt-ltb, le-ltb, ltb-false}
+use borrow.Author.Tests.{lt-leb, le-leb, leb-true, not-true}
 use Rattle.table.specs.Rotation.{rotation}
 use Rattle.table.specs.laws.Lawful.{good-lawful}
-use Rattle.table.specs.Output.{front, outBy}
+use Rattle.table.specs.Output.{front}
 use Rattle.table.specs.laws.Output.{done-declined}
 use Rattle.table.specs.declared.answer.Answer.{Answer}
 use Rattle.table.specs.declared.answer.Answer.the-variants.{Done, Declined}
@@ -27,24 +27,25 @@ use Rattle.weave.specs.Calls.{namedStep}
 use Rattle.weave.specs.laws.Calls.{there-steps}
 use Rattle.weave.specs.Ribbon.{some}
 use Rattle.ribbons.specs.declared.survey.Survey.{Survey}
-use Rattle.ribbons.specs.CutLength.{declinedIf}
 use Rattle.ribbons.specs.Path.{pointWords, liftWords, pathFrom, kindsOf, floatsOf, text, manyTurns, farStep}
 use Rattle.ribbons.specs.laws.Places.{Lent}
 use Rattle.ribbons.specs.laws.Survey.{surveyOf}
 use Rattle.ribbons.specs.laws.Laying.{kinds-length, floats-length, path-length, Room}
 use Rattle.ribbons.specs.PathCall.{pathAlong, pathAnswer, kindsOut, coordsOut}
+use Rattle.table.specs.Answers.{ifDone}
+use Rattle.table.specs.laws.Answers.{through}
 
 -- the ends of the measuring
 
 module _ (t : List ℕ) (points lifts : List ℤ) (m c s : ℕ) where
   pub short-points : length points < pointWords → Declined ShortSlice ≡ pathAlong t points lifts m c s
   unfolding pathAlong
-  short-points h = rw (lt-ltb (length points) pointWords h)
+  short-points h = rw (lt-leb pointWords (length points) h)
 
   module _ (p : pointWords ≤ length points) where
     pub short-lifts : length lifts < liftWords → Declined ShortSlice ≡ pathAlong t points lifts m c s
     unfolding pathAlong
-    short-lifts h = rw (le-ltb (length points) pointWords p, lt-ltb (length lifts) liftWords h)
+    short-lifts h = rw (le-leb pointWords (length points) p, lt-leb liftWords (length lifts) h)
 
     module _ (l : liftWords ≤ length lifts) {v : Survey} (e : v ≡ surveyOf t points lifts (walk (rotation t) s)) where
       pieces-are : v .steps + 1 ≡ length (pathFrom t points lifts s)
@@ -67,27 +68,27 @@ module _ (t : List ℕ) (points lifts : List ℤ) (m c s : ℕ) where
 
       pub short-kinds : m < v .steps + 1 → Declined ShortSlice ≡ pathAlong t points lifts m c s
       unfolding pathAlong
-      short-kinds h = rw (le-ltb (length points) pointWords p, le-ltb (length lifts) liftWords l, kinds-are, lt-ltb m (v .steps + 1) h)
+      short-kinds h = rw (le-leb pointWords (length points) p, le-leb liftWords (length lifts) l, kinds-are, lt-leb (v .steps + 1) m h)
 
       module _ (a : v .steps + 1 ≤ m) where
         pub short-coords : c < 3 * (v .steps + 1) → Declined ShortSlice ≡ pathAlong t points lifts m c s
         unfolding pathAlong
-        short-coords h = rw (le-ltb (length points) pointWords p, le-ltb (length lifts) liftWords l, kinds-are, le-ltb m (v .steps + 1) a, floats-are, lt-ltb c (3 * (v .steps + 1)) h)
+        short-coords h = rw (le-leb pointWords (length points) p, le-leb liftWords (length lifts) l, kinds-are, le-leb (v .steps + 1) m a, floats-are, lt-leb (3 * (v .steps + 1)) c h)
 
         module _ (b : 3 * (v .steps + 1) ≤ c) where
           pub many-turns : v .many ≡ true → Declined ManyTurns ≡ pathAlong t points lifts m c s
           unfolding pathAlong
-          many-turns h = rw (le-ltb (length points) pointWords p, le-ltb (length lifts) liftWords l, kinds-are, le-ltb m (v .steps + 1) a, floats-are, le-ltb c (3 * (v .steps + 1)) b, many-is, h)
+          many-turns h = rw (le-leb pointWords (length points) p, le-leb liftWords (length lifts) l, kinds-are, le-leb (v .steps + 1) m a, floats-are, le-leb (3 * (v .steps + 1)) c b, many-is, h)
 
           module _ (x : v .many ≡ false) where
             pub far-away : v .far ≡ true → Declined Far ≡ pathAlong t points lifts m c s
             unfolding pathAlong
-            far-away h = rw (le-ltb (length points) pointWords p, le-ltb (length lifts) liftWords l, kinds-are, le-ltb m (v .steps + 1) a, floats-are, le-ltb c (3 * (v .steps + 1)) b, many-is, x, far-is, h)
+            far-away h = rw (le-leb pointWords (length points) p, le-leb liftWords (length lifts) l, kinds-are, le-leb (v .steps + 1) m a, floats-are, le-leb (3 * (v .steps + 1)) c b, many-is, x, far-is, h)
 
             pub path-sized : v .far ≡ false → Done (v .steps + 1) ≡ pathAlong t points lifts m c s
             unfolding pathAlong
             path-sized h =
-                rw (le-ltb (length points) pointWords p, le-ltb (length lifts) liftWords l, kinds-are, le-ltb m (v .steps + 1) a, floats-are, le-ltb c (3 * (v .steps + 1)) b, many-is, x, far-is, h)
+                rw (le-leb pointWords (length points) p, le-leb liftWords (length lifts) l, kinds-are, le-leb (v .steps + 1) m a, floats-are, le-leb (3 * (v .steps + 1)) c b, many-is, x, far-is, h)
                 (ap Done pieces-are)
 
 -- a walk has at most as many steps as there are step words
@@ -103,33 +104,25 @@ survey-few {t} {s = s} h e =
 
 -- an accepted path has room, and words in range
 
-record Passed (b : Bool) (a : Answer) (n : ℕ) : Type 0 where
-  test : b ≡ false
-  rest : a ≡ Done n
-
-passed : (b : Bool) (r : Refusal) (a : Answer) {n : ℕ} → declinedIf b r a ≡ Done n → Passed b a n
-passed true r a e = absurd (done-declined e)
-passed false r a e = record { test = refl; rest = e }
-
 pub along-room : {t : List ℕ} {s : ℕ} → Stands t s → (points lifts : List ℤ) (m c : ℕ) {n : ℕ} → Done n ≡ pathAlong t points lifts m c s → Room t points lifts s m c
 unfolding pathAlong
 along-room {t} {s} h points lifts m c e =
     let path = pathFrom t points lifts s in
     let steps = walk (rotation t) s in
-    let a = passed (ltb (length points) pointWords) ShortSlice _ (sym e) in
-    let b = passed (ltb (length lifts) liftWords) ShortSlice _ (a .rest) in
-    let d = passed (ltb m (length (text kindsOf path))) ShortSlice _ (b .rest) in
-    let f = passed (ltb c (length (text floatsOf path))) ShortSlice _ (d .rest) in
-    let g = passed (some (manyTurns t) steps) ManyTurns _ (f .rest) in
-    let far = passed (some (farStep t points lifts) steps) Far _ (g .rest) in
+    let a = through (leb pointWords (length points)) done-declined (sym e) in
+    let b = through (leb liftWords (length lifts)) done-declined (a .rest) in
+    let d = through (leb (length (text kindsOf path)) m) done-declined (b .rest) in
+    let f = through (leb (length (text floatsOf path)) c) done-declined (d .rest) in
+    let g = through (not (some (manyTurns t) steps)) done-declined (f .rest) in
+    let far = through (not (some (farStep t points lifts) steps)) done-declined (g .rest) in
     let size = path-length t points lifts s in
-    let kinds = ltb-false m (length (text kindsOf path)) (d .test) in
-    let coords = ltb-false c (length (text floatsOf path)) (f .test) in
+    let kinds = leb-true (length (text kindsOf path)) m (d .held) in
+    let coords = leb-true (length (text floatsOf path)) c (f .held) in
     let x = kinds-length path in
     let y = floats-length path in
     record {
-      lent = record { stands = h; points-size = ltb-false (length points) pointWords (a .test); lifts-size = ltb-false (length lifts) liftWords (b .test) };
-      near = far .test;
+      lent = record { stands = h; points-size = leb-true pointWords (length points) (a .held); lifts-size = leb-true liftWords (length lifts) (b .held) };
+      near = not-true _ (far .held);
       kinds = omega arith;
       coords = omega arith;
     }
@@ -139,8 +132,8 @@ along-room {t} {s} h points lifts m c e =
 -- what is answered and left where the path from step s is asked for
 pub record Left (t : List ℕ) (points lifts : List ℤ) (s : ℕ) (kinds : List ℕ) (coords : List Float) (r : Answer) (kinds′ : List ℕ) (coords′ : List Float) : Type 0 where
   pub answer : r ≡ pathAlong t points lifts (length kinds) (length coords) s
-  pub kinds-left : kinds′ ≡ outBy (pathAlong t points lifts (length kinds) (length coords) s) (text kindsOf (pathFrom t points lifts s)) kinds
-  pub coords-left : coords′ ≡ outBy (pathAlong t points lifts (length kinds) (length coords) s) (text floatsOf (pathFrom t points lifts s)) coords
+  pub kinds-left : kinds′ ≡ ifDone (pathAlong t points lifts (length kinds) (length coords) s) (front (text kindsOf (pathFrom t points lifts s)) kinds) kinds
+  pub coords-left : coords′ ≡ ifDone (pathAlong t points lifts (length kinds) (length coords) s) (front (text floatsOf (pathFrom t points lifts s)) coords) coords
 
 module _ {t : List ℕ} {points lifts : List ℤ} {s : ℕ} {kinds : List ℕ} {coords : List Float} {a : Answer} (e : a ≡ pathAlong t points lifts (length kinds) (length coords) s) where
   pub left-declined : {r : Refusal} → a ≡ Declined r → Left t points lifts s kinds coords (Declined r) kinds coords

@@ -12,11 +12,11 @@ use Rattle.table.specs.Answers.{numberOf}
 use Rattle.table.specs.declared.answer.Answer.{Answer}
 use Rattle.table.specs.declared.answer.Answer.the-variants.{Done, Declined}
 use Rattle.table.specs.declared.answer.Refusal.{Refusal}
-use Rattle.table.specs.declared.answer.Refusal.the-variants.{Torn, NoSuchName, Taken, Absent, Joined, Overturned, ShortSlice, ManyTurns, Far, BadMark, CutRecord}
 use Rattle.edits.specs.Edits.{answer, edited}
 use Rattle.edits.specs.declared.edit.Edit.{Edit}
 use Rattle.runs.specs.Run.{run}
 use Rattle.runs.specs.Lines.{noLine, lineBy, editLine, lines, stopLine}
+use Rattle.table.specs.laws.Answers.{number-low}
 
 pub stop-some : (n r : ℕ) → r ≢ 0 → noLine n r ≡ stopLine n r
 unfolding stopLine
@@ -37,19 +37,6 @@ unfolding lines
 lines-one t n E = append-nil (editLine t n E)
 
 -- a line has at most 27 bytes
-
-number-low : (r : Refusal) → numberOf r ≤ 11
-number-low Torn = omega arith
-number-low NoSuchName = omega arith
-number-low Taken = omega arith
-number-low Absent = omega arith
-number-low Joined = omega arith
-number-low Overturned = omega arith
-number-low ShortSlice = omega arith
-number-low ManyTurns = omega arith
-number-low Far = omega arith
-number-low BadMark = omega arith
-number-low CutRecord = omega arith
 
 number-few : (r : Refusal) → length (decimal (numberOf r)) ≤ 2
 number-few r = let low = number-low r in decimal-short 1 (numberOf r) (omega arith)

@@ -18,7 +18,7 @@ use Rattle.tracing.specs.laws.Met.{present-once, absent-never}
 use Rattle.tracing.specs.laws.Edges.{edge-twice}
 use Rattle.tracing.specs.laws.Stands.{stands-low}
 use Rattle.surgery.specs.Change.{Change, less, as-many, more, Changes}
-use Rattle.edits.specs.Edits.{verdict, edited, answer}
+use Rattle.edits.specs.Edits.{edited, answer}
 use Rattle.edits.specs.laws.Edits.{edited-passes, edited-declines, answer-passes, answer-declines}
 use Rattle.edits.specs.laws.Passed.{written-good}
 use Rattle.edits.specs.Changes.{change}
@@ -33,6 +33,7 @@ use Rattle.weave.specs.laws.Ribbon.{alternates-iff}
 use Rattle.runs.specs.Run.{run, number, calls, called, faceNumber}
 use Rattle.runs.specs.laws.Run.{run-append, run-one}
 use Rattle.runs.specs.RunLaws.{RunLaws}
+use Rattle.edits.specs.Verdicts.{verdict}
 
 -- a verdict is one of two
 data Judged (v : Verdict) : Type 0 where

@@ -2,24 +2,24 @@
 --     verdictOn, editedOn, answerOn     one edit;     runOn, answersOn     a run
 use Prim.Native.Nat.{ℕ, _+_}
 use mathlib.Core.Path.{_≡_, refl, _∙_, ap, ap₂}
-use mathlib.Core.Bool.{not, _||_}
+use mathlib.Core.Bool.{not, Bool, _&&_}
 use mathlib.Core.List.{List, [], _∷_}
-use lib.Dec.{eqb, leb}
+use lib.Dec.{eqb, ltb}
 use lib.ListN.{getD}
 use lib.IntN.{ℤ, _+ℤ_}
-use Rattle.table.specs.Layout.{vertices, edges, nothing, isolated, edgeAt, vertexAt}
+use Rattle.table.specs.Layout.{vertices, edges, nothing, edgeAt, vertexAt}
 use Rattle.table.specs.Rotation.{rotation}
 use Rattle.table.specs.Good.{Good}
 use Rattle.table.specs.laws.Check.{good-yes}
-use Rattle.table.specs.Answers.{codeOf}
+use Rattle.table.specs.Answers.{codeOf, unless}
 use Rattle.table.specs.declared.answer.Answer.{Answer}
 use Rattle.table.specs.declared.answer.Answer.the-variants.{Done, Declined}
-use Rattle.table.specs.declared.answer.Refusal.the-variants.{NoSuchName, Taken, Absent, Joined, Overturned}
+use Rattle.table.specs.declared.answer.Refusal.the-variants.{NoSuchName, Taken, Absent}
 use Rattle.tracing.specs.Listing.{faceCount}
 use Rattle.tracing.specs.Corner.{wellFormed, present}
-use Rattle.edits.specs.Turns.{turnsIn, overturned}
-use Rattle.edits.specs.Verdicts.{first, addVerdict, removeVerdict, insertVerdict, deleteVerdict, turnVerdict}
-use Rattle.edits.specs.Edits.{verdict, edited, answer}
+use Rattle.edits.specs.Turns.{turnsIn}
+use Rattle.edits.specs.Verdicts.{verdict, andThen, isolation, fewTurns, newVertex, oldVertex, newEdge, oldEdge}
+use Rattle.edits.specs.Edits.{edited, answer}
 use Rattle.edits.specs.laws.Edits.{edited-passes, edited-declines, answer-passes, answer-declines}
 use Rattle.edits.specs.declared.edit.Edit.{Edit}
 use Rattle.edits.specs.declared.edit.Edit.the-variants.{AddVertex, RemoveVertex, InsertEdge, DeleteEdge, TurnEdge}
@@ -31,30 +31,31 @@ use Rattle.samples.specs.Samples.{answers}
 use Rattle.samples.specs.laws.Sparse.{Writes, put, read, put-read}
 use Rattle.samples.specs.laws.Reading.{rotationBy, rotation-by, facesOn, faces-read}
 use Rattle.samples.specs.laws.Writing.{writtenOn, written-on}
+use Rattle.table.specs.declared.answer.Refusal.{Refusal}
 
 -- the verdict on a good table whose word at i is g i
-abbrev verdictBy : (ℕ → ℕ) → Edit → Verdict
-verdictBy g (AddVertex v) = first (leb vertices v) NoSuchName (first (not (eqb (g (vertexAt + v)) nothing)) Taken Passes)
-verdictBy g (RemoveVertex v) =
-    first (leb vertices v) NoSuchName
-    (first (not (not (eqb (g (vertexAt + v)) nothing))) Absent
-    (first (not (eqb (g (vertexAt + v)) isolated)) Joined
-    Passes))
-verdictBy g (InsertEdge e c₁ c₂ k) =
-    first (leb edges e || (not (wellFormed c₁) || not (wellFormed c₂))) NoSuchName
-    (first (not (eqb (g (edgeAt + e)) 0)) Taken
-    (first (not (present (rotationBy g) c₁) || not (present (rotationBy g) c₂)) Absent
-    (first (overturned k) Overturned
-    Passes)))
-verdictBy g (DeleteEdge e) = first (leb edges e) NoSuchName (first (not (not (eqb (g (edgeAt + e)) 0))) Absent Passes)
-verdictBy g (TurnEdge e a) =
-    first (leb edges e) NoSuchName
-    (first (not (not (eqb (g (edgeAt + e)) 0))) Absent
-    (first (overturned (turnsIn (g (edgeAt + e)) +ℤ a)) Overturned
-    Passes))
+module _ (g : ℕ → ℕ) where
+  abbrev vertexBy : ℕ → Bool → Refusal → Verdict
+  vertexBy v test r = unless (ltb v vertices) (Declines NoSuchName) (unless test (Declines r) Passes)
+
+  abbrev edgeBy : ℕ → Verdict
+  edgeBy e = unless (ltb e edges) (Declines NoSuchName) (unless (not (eqb (g (edgeAt + e)) 0)) (Declines Absent) Passes)
+
+  abbrev verdictBy : Edit → Verdict
+  verdictBy (AddVertex v) = andThen (vertexBy v (not (not (eqb (g (vertexAt + v)) nothing))) Taken) Passes
+  verdictBy (RemoveVertex v) = andThen (vertexBy v (not (eqb (g (vertexAt + v)) nothing)) Absent) (isolation (g (vertexAt + v)))
+  verdictBy (InsertEdge e c₁ c₂ k) =
+      andThen
+      (unless (ltb e edges && (wellFormed c₁ && wellFormed c₂)) (Declines NoSuchName)
+      (unless (not (not (eqb (g (edgeAt + e)) 0))) (Declines Taken)
+      (unless (present (rotationBy g) c₁ && present (rotationBy g) c₂) (Declines Absent)
+      Passes)))
+      (fewTurns k)
+  verdictBy (DeleteEdge e) = andThen (edgeBy e) Passes
+  verdictBy (TurnEdge e a) = andThen (edgeBy e) (fewTurns (turnsIn (g (edgeAt + e)) +ℤ a))
 
 verdict-by : (t : List ℕ) (E : Edit) → Good t → verdict t E ≡ verdictBy (λ i. getD t i 0) E
-unfolding addVerdict removeVerdict insertVerdict deleteVerdict turnVerdict
+unfolding newVertex oldVertex newEdge oldEdge
 verdict-by t (AddVertex v) g = rw (← good-yes t g)
 verdict-by t (RemoveVertex v) g = rw (← good-yes t g)
 verdict-by t (InsertEdge e c₁ c₂ k) g = rw (← good-yes t g, rotation-by t)

@@ -6,14 +6,14 @@ use Prim.Native.Nat.{ℕ, _+_, _*_, _/_, _%_, _<_, _≤_}
 use native.Mathlib.Omega.{arith}
 use native.Mathlib.Decide.{decLt}
 use mathlib.Core.Path.{_≡_, refl, _∙_, ap}
-use mathlib.Core.Bool.{Bool, false, not, _&&_}
+use mathlib.Core.Bool.{Bool, false, not, _&&_, cond}
 use mathlib.Core.List.{List, map}
 use lib.Dec.{eqb, ltb}
 use lib.ListN.{getD}
 use lib.IntN.{ℤ}
 use borrow.Author.Tests.{lt-ltb, le-ltb}
 use Rattle.table.specs.Layout.{words, vertices, darts, nothing, isolated, prevAt, leavesAt, edgeAt, vertexAt, edgeOf}
-use Rattle.table.specs.Rotation.{Rotation, rotation, choose, live?, nextDart, prevDart, turnsOf, there?, alone?}
+use Rattle.table.specs.Rotation.{Rotation, rotation, live?, nextDart, prevDart, turnsOf, there?, alone?}
 use Rattle.tracing.specs.Walk.{walk}
 use Rattle.tracing.specs.Listing.{gather, starts, faceCount}
 use Rattle.surface.specs.Labels.{orientable}
@@ -31,8 +31,8 @@ liveBy g d = ltb d darts && not (eqb (g (edgeAt + edgeOf d)) 0)
 abbrev pub rotationBy : (ℕ → ℕ) → Rotation
 rotationBy g = record {
   live = liveBy g;
-  next = λ d. choose (liveBy g d) (g d) d;
-  prev = λ d. choose (liveBy g d) (g (prevAt + d)) d;
+  next = λ d. cond (liveBy g d) (g d) d;
+  prev = λ d. cond (liveBy g d) (g (prevAt + d)) d;
   turns = λ d. g (edgeAt + edgeOf d);
   from = λ d. g (leavesAt + d);
   there = λ v. ltb v vertices && not (eqb (g (vertexAt + v)) nothing);

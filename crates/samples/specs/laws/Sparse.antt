@@ -6,14 +6,13 @@ use Prim.Native.Nat.{ℕ, suc, _+_, _-_, _<_, _≤_, max}
 use native.Mathlib.Omega.{arith}
 use native.Mathlib.Decide.{ℕ-discrete, decLt}
 use mathlib.Core.Path.{_≡_, refl, sym, _∙_, ap, fun-ext}
-use mathlib.Core.Bool.{true, false}
+use mathlib.Core.Bool.{true, false, cond}
 use mathlib.Core.List.{List, [], _∷_}
 use lib.Dec.{eqb, ltb}
 use lib.ListN.{length, getD, set, length-set, List·getD-eq-default}
 use lib.Seq.{getD-set-same, getD-set-other}
 use borrow.Author.Tests.{eq-eqb, ne-eqb, lt-ltb, le-ltb}
 use Rattle.table.specs.Layout.{words}
-use Rattle.table.specs.Rotation.{choose}
 use Rattle.table.specs.Empty.{emptyTable}
 use Rattle.table.specs.laws.Empty.{emptyWord, empty-word, empty-size}
 
@@ -59,7 +58,7 @@ put-read ws = fun-ext (read-at ws)
 -- one more than the last of the places from a on, below b, that are written, counted from a
 unfoldable pub span : ℕ → ℕ → Writes → ℕ
 span a b [] = 0
-span a b (w ∷ ws) = max (choose (ltb (w .0) b) (suc (w .0) - a) 0) (span a b ws)
+span a b (w ∷ ws) = max (cond (ltb (w .0) b) (suc (w .0) - a) 0) (span a b ws)
 
 pub span-room : (a b : ℕ) (ws : Writes) → span a b ws ≤ b - a
 unfolding span

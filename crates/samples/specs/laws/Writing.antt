@@ -4,13 +4,12 @@ use Prim.Native.Nat.{ℕ, zero, suc, _+_, _-_, _*_}
 use native.Mathlib.Omega.{arith}
 use native.Mathlib.Decide.{ℕ-discrete, decLt}
 use mathlib.Core.Path.{_≡_, refl, sym, _∙_, ap}
-use mathlib.Core.Bool.{true, false}
+use mathlib.Core.Bool.{true, false, cond}
 use mathlib.Core.List.{List, _∷_}
 use lib.Dec.{eqb, ltb}
 use lib.ListN.{getD, set}
 use borrow.Author.Tests.{eq-eqb, ne-eqb, lt-ltb, le-ltb}
 use Rattle.table.specs.Layout.{darts, nothing, isolated, leaves, prevAt, leavesAt, edgeAt, vertexAt}
-use Rattle.table.specs.Rotation.{choose}
 use Rattle.tracing.specs.Listing.{loneAt}
 use Rattle.edits.specs.Turns.{turnedWord}
 use Rattle.edits.specs.Edge.{splice, cut, lesser, seek, successor, unlink, link, firstCorner}
@@ -64,7 +63,7 @@ cutOn ws x n p = (leavesAt + x, nothing) ∷ (prevAt + x, nothing) ∷ (x, nothi
 
 -- then v's word, which was w, is found anew
 unfoldable pub refoundOn : Writes → ℕ → ℕ → ℕ → Writes
-refoundOn ws x v w = (vertexAt + v, choose (eqb w x) (seekBy (read ws) v x (darts - x)) w) ∷ ws
+refoundOn ws x v w = (vertexAt + v, cond (eqb w x) (seekBy (read ws) v x (darts - x)) w) ∷ ws
 
 unfoldable pub unlinkOn : Writes → ℕ → Writes
 unlinkOn ws x = refoundOn (cutOn ws x (read ws x) (read ws (prevAt + x))) x (read ws (leavesAt + x)) (read ws (vertexAt + read ws (leavesAt + x)))
@@ -76,7 +75,7 @@ cut-on ws x n p = refl
 refound-on : (ws : Writes) (x v w : ℕ) → set (put ws) (vertexAt + v) (successor (put ws) v x w) ≡ put (refoundOn ws x v w)
 unfolding put refoundOn
 refound-on ws x v w =
-    ap (λ k. set (put ws) (vertexAt + v) (choose (eqb w x) k w)) (seek-by (put ws) v x (darts - x) ∙ ap (λ g. seekBy g v x (darts - x)) (put-read ws))
+    ap (λ k. set (put ws) (vertexAt + v) (cond (eqb w x) k w)) (seek-by (put ws) v x (darts - x) ∙ ap (λ g. seekBy g v x (darts - x)) (put-read ws))
 
 unlink-on : (ws : Writes) (x : ℕ) → unlink (put ws) x ≡ put (unlinkOn ws x)
 unfolding unlinkOn

@@ -6,10 +6,10 @@ use Prim.Native.Nat.{ℕ, suc, _+_, _*_, _%_, _<_}
 use native.Mathlib.Omega.{arith}
 use native.Mathlib.Decide.{decLe}
 use mathlib.Core.Path.{_≡_, sym, _∙_, ap}
-use mathlib.Core.Bool.{Bool, true, false, _&&_, _||_, and-or-distrib-left, true-or, or-true}
+use mathlib.Core.Bool.{Bool, true, false, _&&_, _||_, and-or-distrib-left, true-or, or-true, cond}
 use mathlib.Core.Logic.{_⊎_, inl, inr}
 use Rattle.table.specs.Layout.{vertices, edges, rev}
-use Rattle.table.specs.Rotation.{Rotation, Lawful, choose}
+use Rattle.table.specs.Rotation.{Rotation, Lawful}
 use Rattle.orbits.specs.laws.Truth.{Truth, truth, holds, fails, both-right, same-truth, false-unless}
 use Rattle.orbits.specs.Count.{count}
 use Rattle.orbits.specs.laws.Count.{count-split}
@@ -113,7 +113,7 @@ module _ {R R′ : Rotation} {e : ℕ} (L : Lawful R) (L′ : Lawful R′) (W : 
     shift = R .turns (2 * e) + a .mark (R .from (2 * e)) + b .mark (R .from (2 * e + 1))
 
     glued : ℕ → ℕ
-    glued w = choose (A w) (a .mark w) (b .mark w + shift)
+    glued w = cond (A w) (a .mark w) (b .mark w + shift)
 
     glued-first : (w : ℕ) → A w ≡ true → glued w ≡ a .mark w
     unfolding glued

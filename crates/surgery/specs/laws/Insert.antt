@@ -6,12 +6,12 @@
 --     insert-less, insert-more, insert-same     in a part that has them
 use mathlib.Core.Path.{_≡_, refl, sym, _∙_}
 use mathlib.Core.Logic.{_↔_}
-use mathlib.Core.Bool.{Bool}
+use mathlib.Core.Bool.{Bool, cond}
 use Prim.Native.Nat.{ℕ, suc, _+_, _-_, _*_, _/_, _%_, _<_}
 use native.Mathlib.Omega.{arith}
 use lib.Dec.{eqb}
 use borrow.Author.Tests.{eq-eqb, ne-eqb}
-use Rattle.table.specs.Rotation.{Rotation, Lawful, choose}
+use Rattle.table.specs.Rotation.{Rotation, Lawful}
 use Rattle.orbits.specs.Iterate.{Inj}
 use Rattle.orbits.specs.Reach.{Reach}
 use Rattle.orbits.specs.laws.Reach.{reach-one, reach-trans, reach-sym}
@@ -35,7 +35,7 @@ use Rattle.surgery.specs.laws.Past.{facesOf, Parts, Inside, level-in, ne
 
 -- the place itself for type 0, its mirror for type 1
 unfoldable pub bend : Rotation → ℕ → ℕ → ℕ
-bend R t s = choose (eqb t 0) s (flip R s)
+bend R t s = cond (eqb t 0) s (flip R s)
 
 pub bend-zero : (R : Rotation) {t : ℕ} (s : ℕ) → t ≡ 0 → bend R t s ≡ s
 unfolding bend

@@ -6,13 +6,13 @@
 --     turned-part          an edge turned: the same places
 --     added-kept, added-parts, added-in     a vertex added
 use mathlib.Core.Path.{_≡_, sym, _∙_, ap, fun-ext}
-use mathlib.Core.Bool.{Bool, true, false, _&&_}
+use mathlib.Core.Bool.{Bool, true, false, _&&_, cond}
 use Prim.Native.Nat.{ℕ, _+_, _-_, _*_, _/_, _%_, _<_, _≤_}
 use native.Mathlib.Omega.{arith}
 use lib.Dec.{ltb}
 use borrow.Author.Tests.{lt-ltb, le-ltb}
 use Rattle.table.specs.Layout.{rev}
-use Rattle.table.specs.Rotation.{Rotation, Lawful, choose}
+use Rattle.table.specs.Rotation.{Rotation, Lawful}
 use Rattle.orbits.specs.laws.Truth.{truth, holds, fails, both-left}
 use Rattle.orbits.specs.Orbits.{On}
 use Rattle.tracing.specs.Step.{steps}
@@ -32,7 +32,7 @@ use Rattle.surgery.specs.laws.Vertex.{VertexParts, vertex-whole, stillAt
 use Rattle.surgery.specs.laws.Past.{Parts, Inside, Outside, inside-whole}
 
 unfoldable pub vertexAt : Rotation → ℕ → ℕ
-vertexAt R s = choose (ltb s steps) (R .from (s / 2)) ((s - steps) / 2)
+vertexAt R s = cond (ltb s steps) (R .from (s / 2)) ((s - steps) / 2)
 
 unfoldable pub placesIn : Rotation → (ℕ → Bool) → ℕ → Bool
 placesIn R Q s = on R s && Q (vertexAt R s)

@@ -6,14 +6,14 @@
 --     skip-around, reach-around, skip-bare     around a vertex past the edge's darts, where others are left, and where none is
 use mathlib.Core.Path.{_≡_, sym, _∙_, ap}
 use mathlib.Core.Logic.{_≢_}
-use mathlib.Core.Bool.{Bool, true, false, _&&_, _||_, or-true}
+use mathlib.Core.Bool.{Bool, true, false, _&&_, _||_, or-true, cond}
 use Prim.Native.Nat.{ℕ, _+_, _-_, _*_, _/_, _%_, _<_, _≤_}
 use native.Mathlib.Decide.{ℕ-discrete}
 use native.Mathlib.Omega.{arith}
 use lib.Dec.{eqb, ltb}
 use borrow.Author.Tests.{eq-eqb, ne-eqb, lt-ltb, le-ltb}
 use Rattle.table.specs.Layout.{edgeOf}
-use Rattle.table.specs.Rotation.{Rotation, Lawful, choose}
+use Rattle.table.specs.Rotation.{Rotation, Lawful}
 use Rattle.orbits.specs.laws.Truth.{truth, holds, fails, clash}
 use Rattle.orbits.specs.Reach.{Reach}
 use Rattle.orbits.specs.laws.Reach.{reach-here, reach-one, reach-trans}
@@ -30,10 +30,10 @@ use Rattle.surgery.specs.laws.Through.{through, through-own}
 
 -- the dart of edge e that leaves v, the first if both do
 unfoldable pub dartAt : Rotation → ℕ → ℕ → ℕ
-dartAt R e v = choose (eqb (R .from (2 * e)) v) (2 * e) (2 * e + 1)
+dartAt R e v = cond (eqb (R .from (2 * e)) v) (2 * e) (2 * e + 1)
 
 unfoldable pub seat : Rotation → ℕ → ℕ → ℕ
-seat R e s = choose (ltb s steps) s (choose (R .alone ((s - steps) / 2)) s (2 * dartAt R e ((s - steps) / 2) + s % 2))
+seat R e s = cond (ltb s steps) s (cond (R .alone ((s - steps) / 2)) s (2 * dartAt R e ((s - steps) / 2) + s % 2))
 
 -- is something seated there: not at the steps of the edge, but for those that a vertex took
 unfoldable pub taken : Rotation → ℕ → Rotation → ℕ → Bool

@@ -4,13 +4,13 @@
 --     spin-reach           the live darts of a vertex are one cycle of it
 --     trace-spin, flip-spin     tracing and the mirror, by the spin
 use mathlib.Core.Path.{_≡_, sym, _∙_, ap, fun-ext}
-use mathlib.Core.Bool.{true}
+use mathlib.Core.Bool.{true, cond}
 use Prim.Native.Nat.{ℕ, _+_, _-_, _*_, _/_, _%_, _<_}
 use native.Mathlib.Omega.{arith}
 use lib.Dec.{eqb}
 use borrow.Author.Tests.{eq-eqb, ne-eqb}
 use Rattle.table.specs.Layout.{rev}
-use Rattle.table.specs.Rotation.{Rotation, Lawful, choose}
+use Rattle.table.specs.Rotation.{Rotation, Lawful}
 use Rattle.orbits.specs.Reach.{Reach}
 use Rattle.orbits.specs.laws.Reach.{reach-here, reach-one, reach-trans, reach-ind}
 use Rattle.tracing.specs.Step.{steps, stepType, step, around, mirror}
@@ -18,7 +18,7 @@ use Rattle.tracing.specs.laws.Step.{Type?, is-zero, is-one, type?, around-next,
 use Rattle.tracing.specs.laws.Place.{trace, flip, trace-step, flip-step}
 
 unfoldable pub spin : Rotation → ℕ → ℕ → ℕ
-spin R t d = choose (eqb t 0) (R .next d) (R .prev d)
+spin R t d = cond (eqb t 0) (R .next d) (R .prev d)
 
 pub other-type : {t : ℕ} → Type? t → Type? (1 - t)
 other-type (is-zero e) = is-one (omega arith)

@@ -7,12 +7,12 @@
 --     through-exchanged    it is tracing, exchanged at the two sides
 use mathlib.Core.Path.{_≡_, sym, _∙_, ap}
 use mathlib.Core.Logic.{_≢_}
-use mathlib.Core.Bool.{true}
+use mathlib.Core.Bool.{true, cond}
 use Prim.Native.Nat.{ℕ, _+_, _-_, _*_, _/_, _%_, _<_}
 use native.Mathlib.Decide.{ℕ-discrete}
 use native.Mathlib.Omega.{arith}
 use Rattle.table.specs.Layout.{edgeOf, rev}
-use Rattle.table.specs.Rotation.{Rotation, Lawful, choose}
+use Rattle.table.specs.Rotation.{Rotation, Lawful}
 use Rattle.tracing.specs.Step.{steps, stepType, step, around, back}
 use Rattle.tracing.specs.laws.Step.{Type?, type?, is-zero, is-one, step-word, mirror-step}
 use Rattle.tracing.specs.laws.Place.{places, trace, flip, trace-step, flip-step}
@@ -57,7 +57,7 @@ pub near-far : (R : Rotation) (e : ℕ) → near e ≢ far R e
 near-far R e = omega arith
 
 unfoldable pub through : Rotation → ℕ → ℕ → ℕ
-through R e s = choose (apart e (s / 2)) (trace R s) (around R (s % 2) (s / 2))
+through R e s = cond (apart e (s / 2)) (trace R s) (around R (s % 2) (s / 2))
 
 pub through-own : (R : Rotation) (e s : ℕ) → edgeOf (s / 2) ≡ e → through R e s ≡ around R (s % 2) (s / 2)
 unfolding through

@@ -8,14 +8,14 @@ use lib.ListN.{length, getD, set, replicate, length-append, length-replicate, le
 use lib.Seq.{ext-getD, getD-append-add, getD-set-same, getD-set-other}
 use lib.Dec.{ltb}
 use borrow.Author.Tests.{lt-ltb, le-ltb}
+use mathlib.Core.Bool.{cond}
 use Rattle.table.specs.Layout.{words, edges, vertices, nothing, edgeWord, vertexWord, edgeOf, edgeAt, vertexAt, Live}
 use Rattle.table.specs.Good.{Good}
-use Rattle.table.specs.Rotation.{choose}
 use Rattle.table.specs.Empty.{emptyTable}
 
 -- word i of the empty mesh
 abbrev pub emptyWord : ℕ → ℕ
-emptyWord i = choose (ltb i edgeAt) nothing (choose (ltb i vertexAt) 0 nothing)
+emptyWord i = cond (ltb i edgeAt) nothing (cond (ltb i vertexAt) 0 nothing)
 
 module _ (a b c x y z i : ℕ) where
   first-run : i < a → getD (replicate a x ++ (replicate b y ++ replicate c z)) i 0 ≡ x

@@ -14,7 +14,8 @@ use Rattle.table.specs.Check.{good?}
 use Rattle.table.specs.declared.answer.Answer.the-variants.{Done, Declined}
 use Rattle.table.specs.declared.answer.Refusal.{Refusal}
 use Rattle.table.specs.declared.answer.Refusal.the-variants.{Torn, ShortSlice}
-use Rattle.table.specs.Output.{sized, ifGood, front, outBy, outputAnswer, outputOut, Accepted}
+use Rattle.table.specs.Output.{front, outputAnswer, outputOut, Accepted}
+use Rattle.table.specs.Answers.{unless, ifDone}
 
 -- text that is stored word by word
 
@@ -50,7 +51,8 @@ done-declined e = let z : _≡_ {A = ℕ} 0 1 = cc in omega arith
 pub declined-accepted : {A : Type 0} (r : Refusal) (text out : List A) → Accepted (Declined r) text out out
 declined-accepted r text out = record { size = λ n e. absurd (done-declined e); words = λ n e. absurd (done-declined e) }
 
-pub sized-accepted : {A : Type 0} (b : Bool) (text out : List A) → Accepted (sized b (length text)) text out (outBy (sized b (length text)) text out)
+-- a call that is left with the test of its output's size
+pub sized-accepted : {A : Type 0} (b : Bool) (text out : List A) → let a = unless b (Declined ShortSlice) (Done (length text)) in Accepted a text out (ifDone a (front text out) out)
 sized-accepted true text out = record { size = λ n e. done-same e; words = λ n e. refl }
 sized-accepted false text out = declined-accepted ShortSlice text out
 
@@ -58,6 +60,6 @@ pub output-accepted : {A : Type 0} (t : List ℕ) (text out : List A) → Accept
 unfolding outputAnswer outputOut
 output-accepted t text out = by (good? t)
   where
-    by : (b : Bool) → let a = ifGood b (sized (leb (length text) (length out)) (length text)) in Accepted a text out (outBy a text out)
+    by : (b : Bool) → let a = unless b (Declined Torn) (unless (leb (length text) (length out)) (Declined ShortSlice) (Done (length text))) in Accepted a text out (ifDone a (front text out) out)
     by true = sized-accepted (leb (length text) (length out)) text out
     by false = declined-accepted Torn text out

@@ -9,13 +9,13 @@ use lib.Dec.{eqb}
 use lib.ListN.{length, getD, set}
 use lib.Seq.{getD-set-same, getD-set-other, ext-getD}
 use borrow.Author.Tests.{eq-eqb, ne-eqb}
+use mathlib.Core.Bool.{cond}
 use Rattle.table.specs.Layout.{words, darts, edges, vertices, prevAt, leavesAt, edgeAt, vertexAt, nextWord, prevWord, leaves, edgeWord, vertexWord}
-use Rattle.table.specs.Rotation.{choose}
 use Rattle.table.specs.Writes.{setNext, setPrev, setLeaves, setEdge, setVertex}
 
 -- a function with one value changed
 unfoldable pub upd : (ℕ → ℕ) → ℕ → ℕ → ℕ → ℕ
-upd f i w j = choose (eqb j i) w (f j)
+upd f i w j = cond (eqb j i) w (f j)
 
 pub upd-at : (f : ℕ → ℕ) (i w : ℕ) → upd f i w i ≡ w
 unfolding upd

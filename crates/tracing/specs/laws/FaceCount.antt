@@ -4,13 +4,13 @@ use Prim.Native.Nat.{ℕ, _+_, _-_, _*_, _/_, _<_, _≤_}
 use native.Mathlib.Omega.{arith}
 use native.Mathlib.Decide.{decLt}
 use mathlib.Core.Path.{_≡_, refl, sym, _∙_, ap, ap₂}
-use mathlib.Core.Bool.{Bool, true, _&&_}
+use mathlib.Core.Bool.{Bool, true, _&&_, cond}
 use mathlib.Core.List.{List, [], _∷_, map}
 use lib.Dec.{ltb}
 use lib.ListN.{length}
 use borrow.Author.Tests.{lt-ltb, le-ltb}
 use Rattle.table.specs.Layout.{vertices, darts}
-use Rattle.table.specs.Rotation.{Rotation, Lawful, choose}
+use Rattle.table.specs.Rotation.{Rotation, Lawful}
 use Rattle.orbits.specs.laws.Truth.{both, both-left, both-right}
 use Rattle.orbits.specs.Count.{count, Partner}
 use Rattle.orbits.specs.laws.Count.{count-same, count-sum}
@@ -22,7 +22,6 @@ use Rattle.orbits.specs.laws.Faces.{face-flip, face-trans, face-partition, face
 use Rattle.tracing.specs.Step.{steps, corner}
 use Rattle.tracing.specs.laws.Step.{type?, is-zero, is-one, corner-live}
 use Rattle.tracing.specs.laws.Place.{places, trace, flip, on, place, is-step, is-still, flip-still, on-step, on-still}
-use Rattle.tracing.specs.Corner.{either}
 use Rattle.tracing.specs.Listing.{has, starts, alones, loneAt, loneCorner, faces, faceCount}
 use Rattle.tracing.specs.laws.Listing.{has-here}
 use Rattle.tracing.specs.laws.Has.{has-parts, left, right, has-tail, has-mapped, countIn-append, countIn-map}
@@ -33,7 +32,7 @@ use Rattle.tracing.specs.laws.Cover.{covered, starts-one, lone-apart, lo
 
 -- the place at which a corner has type 0: (d, 0), or an isolated vertex's first place
 unfoldable pub placeOf : ℕ → ℕ
-placeOf c = choose (ltb c loneAt) (2 * c) (steps + 2 * (c - loneAt))
+placeOf c = cond (ltb c loneAt) (2 * c) (steps + 2 * (c - loneAt))
 
 pub place-dart : (d : ℕ) → d < loneAt → placeOf d ≡ 2 * d
 unfolding placeOf
@@ -49,7 +48,7 @@ facesIn R P = countIn (λ c. P (placeOf c)) (faces R)
 
 -- which of a corner's numbers name a listed walk: dart d for a start, 2048+v for an isolated vertex
 unfoldable named : Rotation → (ℕ → Bool) → ℕ → Bool
-named R P j = either (ltb j darts) (start? R j) (R .alone (j - darts)) && P (2 * j)
+named R P j = cond (ltb j darts) (start? R j) (R .alone (j - darts)) && P (2 * j)
 
 module _ (R : Rotation) where
   named-dart : (P : ℕ → Bool) (d : ℕ) → d < darts → named R P d ≡ (start? R d && P (2 * d))

@@ -3,16 +3,15 @@
 use Prim.Native.Nat.{ℕ, _+_, _-_, _*_, _/_, _<_, _≤_}
 use native.Mathlib.Omega.{arith}
 use mathlib.Core.Path.{_≡_, _∙_, ap}
-use mathlib.Core.Bool.{Bool}
+use mathlib.Core.Bool.{Bool, cond}
 use mathlib.Core.Logic.{_≢_}
 use lib.Dec.{ltb}
 use borrow.Author.Tests.{lt-ltb, le-ltb, ltb-true, ltb-false}
 use Rattle.table.specs.Layout.{rev}
-use Rattle.table.specs.Rotation.{Rotation, Lawful, choose}
+use Rattle.table.specs.Rotation.{Rotation, Lawful}
 use Rattle.orbits.specs.laws.Truth.{truth, holds, fails}
 use Rattle.tracing.specs.Step.{steps, step, mirror}
 use Rattle.tracing.specs.laws.Step.{is-zero, is-one, type?, step-word, mirror-word, step-live, mirror-live, mirror-mirror, mirror-other, step-other, step-turn}
-use Rattle.tracing.specs.Corner.{either}
 
 -- 4,096 step words, then two still places for each of 512 vertices
 abbrev pub places : ℕ
@@ -20,15 +19,15 @@ places = 5120
 
 -- a step goes on; "an isolated vertex gives one empty walk", which stays where it is
 unfoldable pub trace : Rotation → ℕ → ℕ
-trace R s = choose (ltb s steps) (step R s) s
+trace R s = cond (ltb s steps) (step R s) s
 
 -- the other sense at the same corner
 unfoldable pub flip : Rotation → ℕ → ℕ
-flip R s = choose (ltb s steps) (mirror R s) (rev s)
+flip R s = cond (ltb s steps) (mirror R s) (rev s)
 
 -- the dart is live, or the vertex is isolated
 unfoldable pub on : Rotation → ℕ → Bool
-on R s = either (ltb s steps) (R .live (s / 2)) (R .alone ((s - steps) / 2))
+on R s = cond (ltb s steps) (R .live (s / 2)) (R .alone ((s - steps) / 2))
 
 pub data Place (s : ℕ) : Type 0 where
   is-step : s < steps → Place s

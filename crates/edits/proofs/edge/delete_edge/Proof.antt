@@ -1,6 +1,6 @@
 -- `edits::edge::delete_edge` meets its contract. Deletes edge e. Answers the new face count.
 -- Assumes nothing.
-use Rattle.edits.specs.laws.Passed.{may-delete, delete-good, may-delete-ready}
+use Rattle.edits.specs.laws.Passed.{delete-good, may-delete-ready}
 use Rattle.edits.specs.declared.edit.Edit.the-variants.{DeleteEdge}
 use Rattle.edits.specs.laws.Edits.{went-through, was-declined}
 use Rattle.table.specs.Good.{Good}
@@ -8,6 +8,7 @@ use denote.Ref.{now}
 use mathlib.Core.Path.{sym, subst, _∙_}
 use borrow.Author.Needs.{needs}
 use Rattle.edits.proofs.edge.delete_edge.Statement.{statement}
+use Rattle.edits.specs.laws.Verdicts.{may-delete}
 use Rattle.edits.proofs.edge.delete_edge.Tie as tie
 
 delete-verdict-requires : tie.Need-delete-verdict-requires

@@ -1,10 +1,10 @@
 -- `edits::edge::turn_edge` meets its contract. Turns edge e by an amount. Answers the new face count.
 -- Assumes nothing.
-use Rattle.edits.specs.laws.Passed.{may-turn, turn-good}
+use Rattle.edits.specs.laws.Passed.{turn-good}
 use Rattle.edits.specs.declared.edit.Edit.the-variants.{TurnEdge}
 use Rattle.edits.specs.laws.Edits.{went-through, was-declined}
 use Rattle.edits.specs.laws.Turns.{amount-on}
-use Rattle.edits.specs.laws.Verdicts.{turn-on}
+use Rattle.edits.specs.laws.Verdicts.{turn-on, may-turn}
 use Rattle.table.specs.Writes.{setEdge}
 use Rattle.table.specs.Layout.{edgeWord}
 use Rattle.table.specs.Good.{Good}

@@ -1,56 +1,60 @@
--- `edits::verdict::remove_verdict` meets its contract. To remove vertex v.
--- Assumes nothing.
-use Rattle.edits.specs.Verdicts.{removeVerdict}
-use Rattle.table.specs.laws.Check.{seen-good, seen-torn}
-use denote.Ref.{now}
-use borrow.Author.Tests.{lt-leb, le-leb, eq-eqb, ne-eqb}
+-- `verdict::remove_verdict` meets its contract: what it names, then whether the vertex is isolated.
+use Rattle.edits.specs.laws.Verdicts.{vertex-there, then-declines, then-passes}
+use mathlib.Core.Path.{sym, _∙_}
 use native.Mathlib.Omega.{arith}
 use borrow.Author.Needs.{needs}
 use Rattle.edits.proofs.verdict.remove_verdict.Statement.{statement}
 use Rattle.edits.proofs.verdict.remove_verdict.Tie as tie
 
-is-good-requires : tie.Need-is-good-requires
-is-good-requires c κs = search needs
+old-vertex-requires : tie.Need-old-vertex-requires
+old-vertex-requires c κs = search needs
+
+enum-known-r : tie.Need-enum-known-r
+enum-known-r c = search needs
+
+enum-told : tie.Need-enum-told
+enum-told c = search needs
+
+add-isolation-of : tie.Need-add-isolation-of
+add-isolation-of c = search needs
+
+mul-isolation-of : tie.Need-mul-isolation-of
+mul-isolation-of c = search needs
+
+shared-slice-read-isolation-of : tie.Need-shared-slice-read-isolation-of
+shared-slice-read-isolation-of c =
+    let old-vertex = c .before .before .before .old-vertex in
+    let enum-told = c .before .enum-told in
+    let there = vertex-there _ _ (sym (old-vertex .ensures) ∙ enum-told .given .1) in
+    let size = there .good .size in
+    let low = there .low in
+    omega arith
+
+isolation-of-requires : tie.Need-isolation-of-requires
+isolation-of-requires c κs = search needs
 
 returns : tie.Need-returns
-unfolding removeVerdict
-returns c = simp (seen-torn (now (c .before .before .before .args .t)) (c .before .is-good .ensures) (c .if1 .taken))
+returns c =
+    let old-vertex = c .before .before .before .old-vertex in
+    let r = c .before .r in
+    then-declines _ (sym (old-vertex .ensures) ∙ r .given .1)
 
 returns-2 : tie.Need-returns-2
-unfolding removeVerdict
-returns-2 c = let g = seen-good (now (c .before .before .before .before .args .t)) (c .before .before .is-good .ensures) (c .before .if1 .left) in simp (g .0, le-leb _ _ (c .if2 .taken))
-
-add-w : tie.Need-add-w
-add-w c = search needs
-
-mul-w : tie.Need-mul-w
-mul-w c = search needs
-
-shared-slice-read-w : tie.Need-shared-slice-read-w
-shared-slice-read-w c = let s = seen-good (now (c .before .before .before .before .before .args .t)) (c .before .before .before .is-good .ensures) (c .before .before .if1 .left) .1 .size in omega arith
-
-returns-3 : tie.Need-returns-3
-unfolding removeVerdict
-returns-3 c = let g = seen-good (now (c .before .before .before .before .before .before .args .t)) (c .before .before .before .before .is-good .ensures) (c .before .before .before .if1 .left) in simp (g .0, lt-leb _ _ (c .before .before .if2 .left), eq-eqb _ _ (c .if3 .taken))
-
-returns-4 : tie.Need-returns-4
-unfolding removeVerdict
-returns-4 c = let g = seen-good (now (c .before .before .before .before .before .before .before .args .t)) (c .before .before .before .before .before .is-good .ensures) (c .before .before .before .before .if1 .left) in simp (g .0, lt-leb _ _ (c .before .before .before .if2 .left), ne-eqb _ _ (c .before .if3 .left), ne-eqb _ _ (c .if4 .taken))
-
-returns-5 : tie.Need-returns-5
-unfolding removeVerdict
-returns-5 c = let g = seen-good (now (c .before .before .before .before .before .before .before .args .t)) (c .before .before .before .before .before .is-good .ensures) (c .before .before .before .before .if1 .left) in simp (g .0, lt-leb _ _ (c .before .before .before .if2 .left), ne-eqb _ _ (c .before .if3 .left), eq-eqb _ _ (c .if4 .left))
+returns-2 c =
+    let old-vertex = c .before .before .before .before .old-vertex in
+    let enum-told = c .before .before .enum-told in
+    then-passes (sym (old-vertex .ensures) ∙ enum-told .given .1) (c .isolation-of .ensures)
 
 pub remove-verdict-spec : {M : Type 1} → statement M
 remove-verdict-spec =
     tie.close
     (tie.spec
-    is-good-requires
+    old-vertex-requires
+    enum-known-r
+    enum-told
+    add-isolation-of
+    mul-isolation-of
+    shared-slice-read-isolation-of
+    isolation-of-requires
     returns
-    returns-2
-    add-w
-    mul-w
-    shared-slice-read-w
-    returns-3
-    returns-4
-    returns-5)
+    returns-2)

@@ -1,69 +1,71 @@
--- `edits::verdict::turn_verdict` meets its contract. To turn edge e by an amount.
--- Assumes nothing.
-use Rattle.edits.specs.laws.Turns.{amount-on, zero-over, some-few}
-use Rattle.table.specs.Layout.{edgeWord}
-use Rattle.edits.specs.Verdicts.{turnVerdict}
-use Rattle.table.specs.laws.Check.{seen-good, seen-torn}
-use denote.Ref.{now}
-use borrow.Author.Tests.{lt-leb, le-leb, eq-eqb, ne-eqb}
-use native.Mathlib.Omega.{arith}
+-- `verdict::turn_verdict` meets its contract: what it names, then whether the turns would pass 99.
+use Rattle.edits.specs.laws.Verdicts.{edge-there, room-is, then-declines, then-passes}
+use Rattle.edits.specs.laws.Turns.{amount-on}
 use mathlib.Core.Path.{sym, _∙_}
+use native.Mathlib.Omega.{arith}
+use denote.Ref.{now}
+use Rattle.table.specs.Layout.{edgeWord}
 use borrow.Author.Needs.{needs}
 use Rattle.edits.proofs.verdict.turn_verdict.Statement.{statement}
 use Rattle.edits.proofs.verdict.turn_verdict.Tie as tie
 
-is-good-requires : tie.Need-is-good-requires
-is-good-requires c κs = search needs
+old-edge-requires : tie.Need-old-edge-requires
+old-edge-requires c κs = search needs
 
-returns : tie.Need-returns
-unfolding turnVerdict
-returns c = simp (seen-torn (now (c .before .before .before .args .t)) (c .before .is-good .ensures) (c .if1 .taken))
+enum-known-r : tie.Need-enum-known-r
+enum-known-r c = search needs
 
-returns-2 : tie.Need-returns-2
-unfolding turnVerdict
-returns-2 c = let g = seen-good (now (c .before .before .before .before .args .t)) (c .before .before .is-good .ensures) (c .before .if1 .left) in simp (g .0, le-leb _ _ (c .if2 .taken))
+enum-told : tie.Need-enum-told
+enum-told c = search needs
 
-add-w : tie.Need-add-w
-add-w c = search needs
+add-turned-word : tie.Need-add-turned-word
+add-turned-word c = search needs
 
-mul-w : tie.Need-mul-w
-mul-w c = search needs
+mul-turned-word : tie.Need-mul-turned-word
+mul-turned-word c = search needs
 
-shared-slice-read-w : tie.Need-shared-slice-read-w
-shared-slice-read-w c = let s = seen-good (now (c .before .before .before .before .before .args .t)) (c .before .before .before .is-good .ensures) (c .before .before .if1 .left) .1 .size in omega arith
-
-returns-3 : tie.Need-returns-3
-unfolding turnVerdict
-returns-3 c = let g = seen-good (now (c .before .before .before .before .before .before .args .t)) (c .before .before .before .before .is-good .ensures) (c .before .before .before .if1 .left) in simp (g .0, lt-leb _ _ (c .before .before .if2 .left), eq-eqb _ _ (c .if3 .taken))
+shared-slice-read-turned-word : tie.Need-shared-slice-read-turned-word
+shared-slice-read-turned-word c =
+    let old-edge = c .before .before .before .old-edge in
+    let enum-told = c .before .enum-told in
+    let there = edge-there _ _ (sym (old-edge .ensures) ∙ enum-told .given .1) in
+    let size = there .good .size in
+    let low = there .low in
+    omega arith
 
 turned-word-requires : tie.Need-turned-word-requires
 turned-word-requires c κs = search needs
 
-returns-4 : tie.Need-returns-4
-unfolding turnVerdict
-returns-4 c = let g = seen-good (now (c .before .before .before .before .before .before .before .before .args .t)) (c .before .before .before .before .before .before .is-good .ensures) (c .before .before .before .before .before .if1 .left) in
-    let w = edgeWord (now (c .before .before .before .before .before .before .before .before .args .t)) (c .before .before .before .before .before .before .before .before .args .e) in
-    let r = amount-on w (c .before .before .before .before .before .before .before .before .args .amount) (c .before .before .before .before .before .before .before .before .fits .amount) (c .before .turned-word .ensures) in
-    simp (g .0, lt-leb _ _ (c .before .before .before .before .if2 .left), ne-eqb _ _ (c .before .before .if3 .left), zero-over w (c .before .before .before .before .before .before .before .before .args .amount) (sym r ∙ c .if4 .taken))
+room-for-requires : tie.Need-room-for-requires
+room-for-requires c κs = search needs
 
-returns-5 : tie.Need-returns-5
-unfolding turnVerdict
-returns-5 c = let g = seen-good (now (c .before .before .before .before .before .before .before .before .args .t)) (c .before .before .before .before .before .before .is-good .ensures) (c .before .before .before .before .before .if1 .left) in
-    let w = edgeWord (now (c .before .before .before .before .before .before .before .before .args .t)) (c .before .before .before .before .before .before .before .before .args .e) in
-    let r = amount-on w (c .before .before .before .before .before .before .before .before .args .amount) (c .before .before .before .before .before .before .before .before .fits .amount) (c .before .turned-word .ensures) in
-    simp (g .0, lt-leb _ _ (c .before .before .before .before .if2 .left), ne-eqb _ _ (c .before .before .if3 .left), some-few w (c .before .before .before .before .before .before .before .before .args .amount) (λ z. c .if4 .left (r ∙ z)))
+returns : tie.Need-returns
+returns c =
+    let old-edge = c .before .before .before .old-edge in
+    let r = c .before .r in
+    then-declines _ (sym (old-edge .ensures) ∙ r .given .1)
+
+returns-2 : tie.Need-returns-2
+returns-2 c =
+    let old-edge = c .before .before .before .before .before .old-edge in
+    let enum-told = c .before .before .before .enum-told in
+    let start = c .before .before .before .before .before .before .before in
+    let turned-word = c .before .turned-word in
+    let w = edgeWord (now (start .args .t)) (start .args .e) in
+    then-passes (sym (old-edge .ensures) ∙ enum-told .given .1)
+    (room-is w (start .args .amount) (amount-on w (start .args .amount) (start .fits .amount) (turned-word .ensures)) (c .room-for .ensures))
 
 pub turn-verdict-spec : {M : Type 1} → statement M
 turn-verdict-spec =
     tie.close
     (tie.spec
-    is-good-requires
-    returns
-    returns-2
-    add-w
-    mul-w
-    shared-slice-read-w
-    returns-3
+    old-edge-requires
+    enum-known-r
+    enum-told
+    add-turned-word
+    mul-turned-word
+    shared-slice-read-turned-word
     turned-word-requires
-    returns-4
-    returns-5)
+    room-for-requires
+    returns
+    returns-2)

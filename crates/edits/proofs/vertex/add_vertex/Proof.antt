@@ -1,6 +1,6 @@
 -- `edits::vertex::add_vertex` meets its contract. Adds vertex v. Answers the new face count.
 -- Assumes nothing.
-use Rattle.edits.specs.laws.Passed.{may-add, add-good}
+use Rattle.edits.specs.laws.Passed.{add-good}
 use Rattle.edits.specs.declared.edit.Edit.the-variants.{AddVertex}
 use Rattle.edits.specs.laws.Edits.{went-through, was-declined}
 use denote.Ref.{now}
@@ -8,6 +8,7 @@ use native.Mathlib.Omega.{arith}
 use mathlib.Core.Path.{sym, _∙_, refl}
 use borrow.Author.Needs.{needs}
 use Rattle.edits.proofs.vertex.add_vertex.Statement.{statement}
+use Rattle.edits.specs.laws.Verdicts.{may-add}
 use Rattle.edits.proofs.vertex.add_vertex.Tie as tie
 
 add-verdict-requires : tie.Need-add-verdict-requires

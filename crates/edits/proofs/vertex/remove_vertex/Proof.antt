@@ -1,6 +1,6 @@
 -- `edits::vertex::remove_vertex` meets its contract. Removes the isolated vertex v. Answers the new face count.
 -- Assumes nothing.
-use Rattle.edits.specs.laws.Passed.{may-remove, remove-good}
+use Rattle.edits.specs.laws.Passed.{remove-good}
 use Rattle.edits.specs.declared.edit.Edit.the-variants.{RemoveVertex}
 use Rattle.edits.specs.laws.Edits.{went-through, was-declined}
 use denote.Ref.{now}
@@ -8,6 +8,7 @@ use native.Mathlib.Omega.{arith}
 use mathlib.Core.Path.{sym, _∙_, refl}
 use borrow.Author.Needs.{needs}
 use Rattle.edits.proofs.vertex.remove_vertex.Statement.{statement}
+use Rattle.edits.specs.laws.Verdicts.{may-remove}
 use Rattle.edits.proofs.vertex.remove_vertex.Tie as tie
 
 remove-verdict-requires : tie.Need-remove-verdict-requires

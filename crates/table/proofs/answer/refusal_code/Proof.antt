@@ -1,100 +1,20 @@
--- `table::answer::refusal_code` meets its contract. A refusal as C gets it: minus its number in document 01.
--- Assumes nothing.
-use Rattle.table.specs.Answers.{refusalCode}
-use mathlib.Core.Path.{sym, ap}
+-- `table::answer::refusal_code` meets its contract: a refusal's number is small, so that minus it fits.
+use Rattle.table.specs.laws.Answers.{number-fits, minus-fits, minus-is}
 use borrow.Author.Needs.{needs}
 use Rattle.table.proofs.answer.refusal_code.Statement.{statement}
 use Rattle.table.proofs.answer.refusal_code.Tie as tie
 
-enum-told : tie.Need-enum-told
-enum-told c = search needs
+number-of-requires : tie.Need-number-of-requires
+number-of-requires c κs = search needs
 
-enum-told-2 : tie.Need-enum-told-2
-enum-told-2 c = search needs
+cast-result : tie.Need-cast-result
+cast-result c = number-fits (c .before .args .r) (c .number-of .ensures)
 
-enum-told-3 : tie.Need-enum-told-3
-enum-told-3 c = search needs
-
-enum-told-4 : tie.Need-enum-told-4
-enum-told-4 c = search needs
-
-enum-told-5 : tie.Need-enum-told-5
-enum-told-5 c = search needs
-
-enum-told-6 : tie.Need-enum-told-6
-enum-told-6 c = search needs
-
-enum-told-7 : tie.Need-enum-told-7
-enum-told-7 c = search needs
-
-enum-told-8 : tie.Need-enum-told-8
-enum-told-8 c = search needs
-
-enum-told-9 : tie.Need-enum-told-9
-enum-told-9 c = search needs
-
-enum-told-10 : tie.Need-enum-told-10
-enum-told-10 c = search needs
-
-enum-told-11 : tie.Need-enum-told-11
-enum-told-11 c = search needs
+sub-result : tie.Need-sub-result
+sub-result c = minus-fits (c .before .args .r) (c .number-of .ensures)
 
 returns : tie.Need-returns
-returns c = sym (ap refusalCode (c .enum-told .given .1))
-
-returns-2 : tie.Need-returns-2
-returns-2 c = sym (ap refusalCode (c .enum-told2 .given .1))
-
-returns-3 : tie.Need-returns-3
-returns-3 c = sym (ap refusalCode (c .enum-told3 .given .1))
-
-returns-4 : tie.Need-returns-4
-returns-4 c = sym (ap refusalCode (c .enum-told4 .given .1))
-
-returns-5 : tie.Need-returns-5
-returns-5 c = sym (ap refusalCode (c .enum-told5 .given .1))
-
-returns-6 : tie.Need-returns-6
-returns-6 c = sym (ap refusalCode (c .enum-told6 .given .1))
-
-returns-7 : tie.Need-returns-7
-returns-7 c = sym (ap refusalCode (c .enum-told7 .given .1))
-
-returns-8 : tie.Need-returns-8
-returns-8 c = sym (ap refusalCode (c .enum-told8 .given .1))
-
-returns-9 : tie.Need-returns-9
-returns-9 c = sym (ap refusalCode (c .enum-told9 .given .1))
-
-returns-10 : tie.Need-returns-10
-returns-10 c = sym (ap refusalCode (c .enum-told10 .given .1))
-
-returns-11 : tie.Need-returns-11
-returns-11 c = sym (ap refusalCode (c .enum-told11 .given .1))
+returns c = minus-is (c .before .args .r) (c .number-of .ensures)
 
 pub refusal-code-spec : {M : Type 1} → statement M
-refusal-code-spec =
-    tie.close
-    (tie.spec
-    enum-told
-    enum-told-2
-    enum-told-3
-    enum-told-4
-    enum-told-5
-    enum-told-6
-    enum-told-7
-    enum-told-8
-    enum-told-9
-    enum-told-10
-    enum-told-11
-    returns
-    returns-2
-    returns-3
-    returns-4
-    returns-5
-    returns-6
-    returns-7
-    returns-8
-    returns-9
-    returns-10
-    returns-11)
+refusal-code-spec = tie.close (tie.spec number-of-requires cast-result sub-result returns)

@@ -1,6 +1,8 @@
 -- `table::whole::check` meets its contract. The check, as a call: 0 for a good table, and torn for every other slice.
 -- Assumes nothing.
-use Rattle.table.specs.Check.{checkedAs}
+use Rattle.table.specs.Answers.{unless}
+use Rattle.table.specs.declared.answer.Answer.the-variants.{Done, Declined}
+use Rattle.table.specs.declared.answer.Refusal.the-variants.{Torn}
 use mathlib.Core.Path.{sym, ap, _∙_}
 use borrow.Author.Needs.{needs}
 use Rattle.table.proofs.whole.check.Statement.{statement}
@@ -10,10 +12,10 @@ is-good-requires : tie.Need-is-good-requires
 is-good-requires c κs = search needs
 
 returns : tie.Need-returns
-returns c = sym (ap checkedAs (sym (c .before .is-good .ensures) ∙ c .if1 .taken))
+returns c = sym (ap (λ b. unless b (Declined Torn) (Done 0)) (sym (c .before .is-good .ensures) ∙ c .if1 .taken))
 
 returns-2 : tie.Need-returns-2
-returns-2 c = sym (ap checkedAs (sym (c .before .is-good .ensures) ∙ c .if1 .left))
+returns-2 c = sym (ap (λ b. unless b (Declined Torn) (Done 0)) (sym (c .before .is-good .ensures) ∙ c .if1 .left))
 
 pub check-spec : {M : Type 1} → statement M
 check-spec = tie.close (tie.spec is-good-requires returns returns-2)

@@ -92,7 +92,7 @@ impl<'a> Citations<'a> {
                     self.end_run(&mut run);
                     let there = self.tree.spec(&spec.name, &spec.file).is_some();
                     if !there {
-                        self.fault(span.line, format!("there is no crates/{}/specs/{}.antt", spec.name, spec.file));
+                        self.file_is_missing(span, &spec);
                     }
                     self.folder = Some(spec.name.clone());
                     (list, listing) = (Some(spec).filter(|_| there), true);
@@ -207,8 +207,24 @@ impl<'a> Citations<'a> {
         if declared.names.contains(name) {
             return;
         }
-        let hint = if declared.fields.contains(name) { " (a field is cited with its dot)" } else { "" };
+        let hint = if declared.fields.contains(name) {
+            " (a field is cited with its dot)".to_string()
+        } else {
+            let others = self.tree.declaring(name);
+            if others.is_empty() {
+                String::new()
+            } else {
+                format!(" ({} does)", others.join(", "))
+            }
+        };
         self.fault(span.line, format!("{of}/{file} declares no `{name}`{hint}"));
+    }
+
+    fn file_is_missing(&mut self, span: &Span, spec: &Spec) {
+        let Spec { name, file } = spec;
+        let law = self.tree.has(&format!("crates/{name}/specs/laws/{file}.antt"));
+        let hint = if law { " (it is a law)" } else { "" };
+        self.fault(span.line, format!("there is no crates/{name}/specs/{file}.antt{hint}"));
     }
 
     fn read_field(&mut self, span: &Span, spec: Option<&Spec>, field: &str) {
@@ -261,7 +277,7 @@ fn joins(between: &str) -> bool {
     if let Some(after) = text.strip_prefix(" (").and_then(|rest| rest.split_once(')')).map(|(_, after)| after) {
         text = after.to_string();
     }
-    matches!(text.as_str(), " " | ", " | ": " | " and " | ", and " | ", by ")
+    matches!(text.as_str(), " " | ", " | ": " | " and " | ", and " | " by " | ", by ")
 }
 
 fn ends_with_contract(before: &str) -> bool {

@@ -93,7 +93,7 @@ fn contains(text: &str, expression: &str) -> bool {
         let whole = |at: &usize| {
             let before = rest[..*at].chars().next_back();
             let after = rest[at + piece.len()..].chars().next();
-            let part_of_word = |c: Option<char>| c.map_or(false, |c| c.is_alphanumeric() || "-_?′.".contains(c));
+            let part_of_word = |c: Option<char>| c.is_some_and(|c| c.is_alphanumeric() || "-_?′.".contains(c));
             !part_of_word(before) && !part_of_word(after)
         };
         match rest.match_indices(piece).map(|(at, _)| at).find(whole) {

@@ -31,11 +31,15 @@ fn stripped(text: &str) -> String {
         rest = comment.split_once("*/").map_or("", |(_, after)| after);
     }
     kept.push_str(rest);
-    let mut for_cpp = false;
+    // A preprocessor's line that ends in \ goes on in the next one.
+    let (mut for_cpp, mut goes_on) = (false, false);
     let mut lines = Vec::new();
     for line in kept.lines() {
         if line.starts_with('#') {
             for_cpp = line.starts_with("#ifdef __cplusplus");
+            goes_on = line.ends_with('\\');
+        } else if goes_on {
+            goes_on = line.ends_with('\\');
         } else if !for_cpp {
             lines.push(line);
         }
@@ -86,7 +90,7 @@ fn read_prototype(item: &str) -> Option<Prototype> {
 /// A type and the name after it; the star stands with the type.
 fn typed(text: &str) -> Option<(String, String)> {
     let words = text.split_whitespace().collect::<Vec<_>>().join(" ");
-    let at = words.rfind(|c: char| c == ' ' || c == '*')?;
+    let at = words.rfind([' ', '*'])?;
     let (kind, name) = words.split_at(at + 1);
     let plain = !name.is_empty() && name.chars().all(|c| c.is_ascii_alphanumeric() || c == '_');
     plain.then(|| (kind.trim().to_string(), name.to_string()))

@@ -70,7 +70,7 @@ fn compare_function(prototype: &header::Prototype, function: &Function, lent: &m
             None => faults.push(format!("{EXPORTS}: {name}: cannot read the type of `{argument}: {kind}`")),
         }
     }
-    if number(&function.answer).map_or(true, |answer| answer != prototype.answer) {
+    if number(&function.answer) != Some(prototype.answer.as_str()) {
         faults.push(format!("{name}: answers {} in the header, {} in the sources", prototype.answer, function.answer));
     }
     let given = &prototype.arguments;

@@ -45,6 +45,22 @@ impl Tree {
         files.iter().filter_map(|file| self.spec(name, file)).flat_map(|found| found.names).collect()
     }
 
+    /// The spec files that declare a name, as crate/File; a law's is crate/laws/File.
+    pub fn declaring(&self, name: &str) -> Vec<String> {
+        let mut found = Vec::new();
+        for of in self.listed("crates", "") {
+            for folder in ["", "laws/"] {
+                for file in self.listed(&format!("crates/{of}/specs/{folder}"), ".antt") {
+                    let declared = self.spec(&of, &format!("{folder}{file}")).unwrap_or_default();
+                    if declared.names.contains(name) {
+                        found.push(format!("{of}/{folder}{file}"));
+                    }
+                }
+            }
+        }
+        found
+    }
+
     pub fn functions(&self, path: &str) -> Option<Vec<rattle::Function>> {
         self.read(path).map(|text| rattle::functions(&text))
     }

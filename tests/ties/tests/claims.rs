@@ -67,6 +67,7 @@ fn nothing_where_all_is_well() {
 fn a_name_that_its_file_does_not_declare() {
     after("name", GOOD, "unfoldable pub good-case", "unfoldable pub good-cases", &["declares no `good-case`"]);
     after("inner", GOOD, "  pub inner", "  inner", &["declares no `inner`"]);
+    after("elsewhere", CLAIMS, "`passed-on` as", "`flat` as", &["declares no `flat` (table/Good does)"]);
     after("local", CLAIMS, "`inner`;", "`inner`, `local`;", &["table/Good declares no `local`"]);
     after("comment", CLAIMS, "`inner`;", "`inner`, `comment`;", &["table/Good declares no `comment`"]);
     after("constructor", GOOD, "  flat :", "  round :", &["declares no `flat`"]);
@@ -103,6 +104,14 @@ fn a_file_that_is_not_there() {
 
 #[test]
 fn a_law() {
+    after("law-file", CLAIMS, "`table/Passing` `passed-on`", "`table/Deep`", &["specs/Deep.antt (it is a law)"]);
+    after(
+        "law-name",
+        CLAIMS,
+        "`inner`;",
+        "`inner`, `deep`;",
+        &["table/Good declares no `deep` (table/laws/Deep does)"],
+    );
     after("law", CLAIMS, "`table/Passing` `passed-on`", "`table/laws/Deep`", &["cites a law"]);
     after("law-path", README, "`Passing.antt`", "`crates/table/specs/laws/Deep.antt`", &["cites a law"]);
 }

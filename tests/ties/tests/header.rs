@@ -10,7 +10,7 @@ const TALLY: &str = "crates/reader/src/tally.rt";
 const FILES: [(&str, &str); 3] = [
     (
         HEADER,
-        "/* int64_t planner_no(int x); */\n#include <stdint.h>\n#ifdef __cplusplus\nextern \"C\" {\n#endif\n#define A 1\n\
+        "/* int64_t planner_no(int x); */\n#include <stdint.h>\n#ifdef __cplusplus\nextern \"C\" {\n#endif\n#define A 1\n#define B(x) \\\n    (x)\n\
          int64_t planner_insert(uint16_t *table, size_t words, uint16_t e, uint16_t c1, uint16_t c2, int16_t k);\n\
          int64_t planner_path(const uint16_t *table, size_t words, uint16_t dart, uint16_t type, const int32_t *points,\n\
          \x20                    size_t n_points, float *out, size_t out_words);\n\

@@ -15,9 +15,10 @@ impl Tree {
         Tree { root: root.to_path_buf() }
     }
 
-    /// The repository that this package stands in.
-    pub fn here() -> Tree {
-        Tree::new(&Path::new(env!("CARGO_MANIFEST_DIR")).join("../.."))
+    /// The repository that this package stands in, or the one that the program's first argument names.
+    pub fn given() -> Tree {
+        let here = Path::new(env!("CARGO_MANIFEST_DIR")).join("../..");
+        Tree::new(&std::env::args_os().nth(1).map_or(here, PathBuf::from))
     }
 
     pub fn has(&self, path: &str) -> bool {

@@ -3,5 +3,5 @@
 use std::process::ExitCode;
 
 fn main() -> ExitCode {
-    ties::told("claims", &ties::claims::faults(&ties::tree::Tree::here()))
+    ties::told("claims", &ties::claims::faults(&ties::tree::Tree::given()))
 }

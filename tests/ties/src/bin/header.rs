@@ -3,5 +3,5 @@
 use std::process::ExitCode;
 
 fn main() -> ExitCode {
-    ties::told("header", &ties::matching::faults(&ties::tree::Tree::here()))
+    ties::told("header", &ties::matching::faults(&ties::tree::Tree::given()))
 }

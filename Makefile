@@ -2,12 +2,7 @@
 PREFIX ?= /usr/local
 VERSION := 1.0.0
 
-# Where the files go; DESTDIR stands before it for packagers.
-BIN := $(DESTDIR)$(PREFIX)/bin
-LIB := $(DESTDIR)$(PREFIX)/lib
-INCLUDE := $(DESTDIR)$(PREFIX)/include
-
-.PHONY: all check install uninstall
+.PHONY: all check uninstall install
 
 all:
 	rt staticlib planner
@@ -17,14 +12,15 @@ all:
 check:
 	.ci/run
 
-# Installs what `make all` built: the job program, the archive, the header, and a file for pkg-config.
-install:
-	install -d $(BIN) $(LIB)/pkgconfig $(INCLUDE)
-	install -m 755 target/bin/job $(BIN)/planner-job
-	install -m 644 target/staticlib/libplanner.a $(LIB)/libplanner.a
-	install -m 644 include/planner.h $(INCLUDE)/planner.h
-	sed -e 's|@PREFIX@|$(PREFIX)|' -e 's|@VERSION@|$(VERSION)|' planner.pc.in > $(LIB)/pkgconfig/planner.pc
-
 # Takes away every file that `make install` put there. The folders stay: others may use them.
 uninstall:
-	rm -f $(BIN)/planner-job $(LIB)/libplanner.a $(INCLUDE)/planner.h $(LIB)/pkgconfig/planner.pc
+	rm -f $(DESTDIR)$(PREFIX)/bin/planner-job $(DESTDIR)$(PREFIX)/lib/libplanner.a $(DESTDIR)$(PREFIX)/include/planner.h
+	rm -f $(DESTDIR)$(PREFIX)/lib/pkgconfig/planner.pc
+
+# Installs what `make all` built: the job program, the archive, the header, and a file for pkg-config.
+install:
+	install -d $(DESTDIR)$(PREFIX)/bin $(DESTDIR)$(PREFIX)/lib/pkgconfig $(DESTDIR)$(PREFIX)/include
+	install -m 755 target/bin/job $(DESTDIR)$(PREFIX)/bin/planner-job
+	install -m 644 target/staticlib/libplanner.a $(DESTDIR)$(PREFIX)/lib/libplanner.a
+	install -m 644 include/planner.h $(DESTDIR)$(PREFIX)/include/planner.h
+	sed -e 's|@PREFIX@|$(PREFIX)|' -e 's|@VERSION@|$(VERSION)|' planner.pc.in > $(DESTDIR)$(PREFIX)/lib/pkgconfig/planner.pc

@@ -1,16 +1,26 @@
-# Build the library and the job program, and install the library for hosts written in C.
+# Build the library and the job program, check everything, and install both.
 PREFIX ?= /usr/local
 VERSION := 1.0.0
 
-.PHONY: all install
+.PHONY: all check uninstall install
 
 all:
 	rt staticlib planner
 	rt check job
 
-# Installs what `make all` built: the archive, the header, and a file for pkg-config.
+# The gate.
+check:
+	.ci/run
+
+# Takes away every file that `make install` put there. The folders stay: others may use them.
+uninstall:
+	rm -f $(DESTDIR)$(PREFIX)/bin/planner-job $(DESTDIR)$(PREFIX)/lib/libplanner.a $(DESTDIR)$(PREFIX)/include/planner.h
+	rm -f $(DESTDIR)$(PREFIX)/lib/pkgconfig/planner.pc
+
+# Installs what `make all` built: the job program, the archive, the header, and a file for pkg-config.
 install:
-	install -d $(DESTDIR)$(PREFIX)/lib/pkgconfig $(DESTDIR)$(PREFIX)/include
+	install -d $(DESTDIR)$(PREFIX)/bin $(DESTDIR)$(PREFIX)/lib/pkgconfig $(DESTDIR)$(PREFIX)/include
+	install -m 755 target/bin/job $(DESTDIR)$(PREFIX)/bin/planner-job
 	install -m 644 target/staticlib/libplanner.a $(DESTDIR)$(PREFIX)/lib/libplanner.a
 	install -m 644 include/planner.h $(DESTDIR)$(PREFIX)/include/planner.h
 	sed -e 's|@PREFIX@|$(PREFIX)|' -e 's|@VERSION@|$(VERSION)|' planner.pc.in > $(DESTDIR)$(PREFIX)/lib/pkgconfig/planner.pc

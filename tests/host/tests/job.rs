@@ -1,47 +1,12 @@
-//! The job program, target/bin/job (or the file that the environment variable PLANNER_JOB names), run as a process: what
-//! it prints is what the reference prints, for whole, damaged and cut jobs, for noise, and for long jobs.
+//! The job program: what it prints is what the reference prints, for whole, damaged and cut jobs, for noise, and for long
+//! jobs. How it reads and writes is in job_streams.rs.
 
+use host::program::printed;
 use reference::job::job;
 use reference::table::{empty_mesh, EDGES, VERTICES};
 use reference::trial::edits::{random_edit, Window, WINDOWS};
 use reference::trial::jobs::{random_edits, random_job, record};
 use reference::trial::random::Random;
-use std::env;
-use std::io::{ErrorKind, Write};
-use std::path::PathBuf;
-use std::process::{Command, Stdio};
-use std::thread;
-use std::time::Duration;
-
-fn program() -> PathBuf {
-    let built = PathBuf::from(env!("CARGO_MANIFEST_DIR")).join("../../target/bin/job");
-    let path = env::var_os("PLANNER_JOB").map_or(built, PathBuf::from);
-    assert!(path.is_file(), "{} is not there: make it with `rt check job`", path.display());
-    path
-}
-
-/// What the program prints for these bytes, which come to it in pieces of so many bytes.
-fn printed(input: &[u8], piece: usize) -> String {
-    let mut child = Command::new(program()).stdin(Stdio::piped()).stdout(Stdio::piped()).spawn().unwrap();
-    let mut to = child.stdin.take().unwrap();
-    let bytes = input.to_vec();
-    let writer = thread::spawn(move || {
-        for part in bytes.chunks(piece) {
-            // After a bad mark the program reads no more.
-            match to.write_all(part) {
-                Err(e) if e.kind() == ErrorKind::BrokenPipe => return,
-                written => written.unwrap(),
-            }
-            if piece < 100 {
-                thread::sleep(Duration::from_micros(50));
-            }
-        }
-    });
-    let output = child.wait_with_output().unwrap();
-    writer.join().unwrap();
-    assert!(output.status.success(), "{:?}", output.status);
-    String::from_utf8(output.stdout).unwrap()
-}
 
 fn compare(input: &[u8]) {
     assert_eq!(printed(input, input.len().max(100)), job(input), "{input:02x?}");

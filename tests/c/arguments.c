@@ -1,0 +1,221 @@
+/* Arguments of one type, told apart: C goes by their places, so an exchange of two is seen by no compiler. Every value below is worked
+   out by hand from document 01, in the comment before it. Written so that a C++ compiler takes it too. */
+
+#include "check.h"
+#include "planner.h"
+
+#include <stddef.h>
+#include <stdint.h>
+#include <string.h>
+
+enum { WORDS = PLANNER_TABLE_WORDS, LONE = PLANNER_LONE_CORNER };
+
+static uint16_t table[WORDS];
+
+/* Begins again with the vertices from..to, isolated. */
+static int begin(uint16_t from, uint16_t to) {
+    int fine = planner_empty(table, WORDS) == 0;
+    uint16_t v;
+    for (v = from; v <= to; v++) {
+        fine = fine && planner_add_vertex(table, WORDS, v) == v - from + 1;
+    }
+    return fine;
+}
+
+static int64_t insert(uint16_t e, int c1, int c2, int16_t k) {
+    return planner_insert_edge(table, WORDS, e, (uint16_t)c1, (uint16_t)c2, k);
+}
+
+static uint16_t next(int d) {
+    return table[PLANNER_NEXT_AT + d];
+}
+
+static uint16_t leaves(int d) {
+    return table[PLANNER_LEAVES_AT + d];
+}
+
+static uint16_t edge(int e) {
+    return table[PLANNER_EDGE_AT + e];
+}
+
+static uint16_t vertex(int v) {
+    return table[PLANNER_VERTEX_AT + v];
+}
+
+/* v, e, c1, c2, k, amount. */
+static void try_the_edits(void) {
+    check(begin(0, 1) && vertex(0) == PLANNER_ISOLATED && vertex(1) == PLANNER_ISOLATED && vertex(2) == PLANNER_NOTHING,
+          "vertices 0 and 1 are added, and no other");
+    /* Dart 6 = 2*3 goes into c1, the corner of vertex 0; dart 7 into c2, that of vertex 1. Turns 2 are the word 102. */
+    check(insert(3, LONE + 0, LONE + 1, 2) == 1, "edge 3 joins two faces");
+    check(leaves(6) == 0 && leaves(7) == 1 && vertex(0) == 6 && vertex(1) == 7, "dart 2e is at c1, dart 2e+1 at c2");
+    check(edge(3) == 102 && edge(2) == 0, "edge 3 has two turns");
+    /* e = 2 and k = 3; corner 6 is at vertex 0 and corner 7 at vertex 1. Dart 4 goes just before 6, dart 5 just before 7. */
+    check(insert(2, 6, 7, 3) >= 0 && edge(2) == 103 && edge(3) == 102, "e and k: edge 2 has three turns, not edge 3 two");
+    check(leaves(4) == 0 && next(4) == 6 && next(6) == 4 && leaves(5) == 1 && next(5) == 7 && next(7) == 5, "c1 and c2 again, among darts");
+    /* With c1 = c2 = 4 the order is old, 2e, 2e+1, d: 6, 0, 1, 4. */
+    check(insert(0, 4, 4, 0) >= 0 && next(6) == 0 && next(0) == 1 && next(1) == 4, "one corner: 2e comes before 2e+1");
+    /* e = 3 and amount = 2: the word of edge 3 goes from 102 to 104, that of edge 2 stays 103 and would be 106. */
+    check(planner_turn_edge(table, WORDS, 3, 2) >= 0 && edge(3) == 104 && edge(2) == 103, "e and amount");
+    check(planner_delete_edge(table, WORDS, 2) >= 0 && edge(2) == 0 && edge(3) == 104, "edge 2 is deleted, and no other");
+    check(planner_add_vertex(table, WORDS, 5) >= 0 && planner_add_vertex(table, WORDS, 6) >= 0 && planner_remove_vertex(table, WORDS, 5) >= 0,
+          "vertices 5 and 6 come and 5 goes");
+    check(vertex(5) == PLANNER_NOTHING && vertex(6) == PLANNER_ISOLATED, "vertex 6 stays");
+}
+
+/* The words that the counts and the parts write, all different.
+   At 9: a chain over the vertices 9 to 13, 4 edges and one face; a twisted loop (one corner, its type twice is even, k odd: 0 faces more);
+   two flat loops (one more each). V 5, E 7, F 3, V-E+F 1; not orientable, for a twisted loop has one vertex at its ends.
+   At 20: an isolated vertex, V 1, E 0, F 1, V-E+F 2, orientable. */
+static void try_the_counts(void) {
+    static const int32_t five[] = {6, 7, 4, 2, 3};
+    static const int32_t rows[] = {9, 5, 7, 3, 1, 0, 20, 1, 0, 1, 2, 1};
+    int32_t out[12];
+    int fine = begin(9, 13) && insert(0, LONE + 9, LONE + 10, 0) == 4 && insert(1, 1, LONE + 11, 0) == 3 && insert(2, 3, LONE + 12, 0) == 2 &&
+               insert(3, 5, LONE + 13, 0) == 1;
+    check(fine, "a chain of five vertices");
+    check(insert(4, 0, 0, 1) == 1 && insert(5, 0, 0, 0) == 2 && insert(6, 0, 0, 0) == 3, "three loops");
+    check(planner_add_vertex(table, WORDS, 20) == 4, "a vertex alone");
+    check(planner_counts(table, WORDS, out, 5) == 5 && memcmp(out, five, sizeof five) == 0, "V 6, E 7, F 4, 2 parts, Euler number 3");
+    check(planner_parts(table, WORDS, out, 12) == 12 && memcmp(out, rows, sizeof rows) == 0, "vertex, V, E, F, Euler number, mark of each part");
+}
+
+/* Steps (0, 1) and (1, 0) on two ribbons. Loops 0 and 1 of one turn at vertex 0: around it stand 0, 3, 1, 2. Edge 2 of turns -2 goes from
+   corner 2 to vertex 1: 0, 3, 1, 4, 2.
+   From (0, 1): type 0, next after 1 is 4; (4, 0): type stays, next after 5 is 5; (5, 0): next after 4 is 2; (2, 0): type 1, before 3 is 0; (0, 1).
+   From (1, 0): type 1, before 0 is 2; (2, 1): type 0, next after 3 is 1; (1, 0).
+   Letters of (0, 1): U; (4, 0) with turns -2: U O; (5, 0): U O; (2, 0): O. Letters of (1, 0): O; (2, 1): U. */
+static void try_dart_and_type(void) {
+    static uint32_t lengths[PLANNER_EDGES];
+    static int32_t points[3 * PLANNER_VERTICES], lifts[3 * PLANNER_EDGES];
+    uint8_t letters[6];
+    uint16_t kinds[5];
+    float coords[15];
+    check(begin(0, 1) && insert(0, LONE, LONE, 1) == 2 && insert(1, 0, 1, 1) == 3 && insert(2, 2, LONE + 1, -2) == 2, "two ribbons");
+    check(planner_alternates(table, WORDS, 0, 1) == 0 && planner_alternates(table, WORDS, 1, 0) == 1, "alternates: dart and type");
+    check(planner_letters(table, WORDS, 0, 1, letters, 6) == 6 && memcmp(letters, "UUOUOO", 6) == 0, "letters of dart 0, type 1");
+    check(planner_letters(table, WORDS, 1, 0, letters, 6) == 2 && memcmp(letters, "OU", 2) == 0, "letters of dart 1, type 0");
+    lengths[0] = 1;
+    lengths[1] = 10;
+    lengths[2] = 100;
+    check(planner_cut_length(table, WORDS, 0, 1, lengths, PLANNER_EDGES) == 1 + 100 + 100 + 10, "cut length of dart 0, type 1");
+    check(planner_cut_length(table, WORDS, 1, 0, lengths, PLANNER_EDGES) == 1 + 10, "cut length of dart 1, type 0");
+    check(planner_float_path(table, WORDS, 0, 1, points, 1536, lifts, 3072, kinds, 5, coords, 15) == -PLANNER_MANY_TURNS &&
+              planner_float_path(table, WORDS, 1, 0, points, 1536, lifts, 3072, kinds, 5, coords, 15) == 3,
+          "float path: dart and type");
+}
+
+/* A chain of edge 0 with one turn from vertex 0 to 1, edge 1 with none to 2, edge 2 with turns -1 to 3. Around vertex 1 stand 1 and 2, around
+   vertex 2 stand 3 and 4. The walk from (0, 0), and its letters:
+   (0, 0) type 1, before 1 is 2: O. (2, 1) before 3 is 4. (4, 1) type 0, next after 5 is 5: with negative turns O. (5, 0) type 1, before 4 is 3: U.
+   (3, 1) before 2 is 1. (1, 1) type 0, next after 0 is 0: U. */
+static int build_the_chain(void) {
+    return begin(0, 3) && insert(0, LONE, LONE + 1, 1) == 3 && insert(1, 1, LONE + 2, 0) == 2 && insert(2, 3, LONE + 3, -1) == 1;
+}
+
+/* Points and lifts, and kinds of a piece. In sixteenths, times 32: a+b+2l over, a+b-2l under, a+b flat.
+   Edge 0: a+b = (32, 64, 96), 2l = (32, 16, -32): over (64, 80, 64), under (0, 48, 128).
+   Edge 1: a+b = (128, 224, 128), flat, whatever its lift is.
+   Edge 2: a+b = (256, 192, -32), 2l = (-64, 32, 96): over (192, 224, 64), under (320, 160, -128). */
+static void try_points_and_lifts(void) {
+    static const int32_t at[] = {0, 0, 0, 32, 64, 96, 96, 160, 32, 160, 32, -64};
+    static const int32_t lift[] = {16, 8, -16, 5, 6, 7, -32, 16, 48};
+    static const uint16_t expected_kinds[] = {PLANNER_OVER, PLANNER_FLAT, PLANNER_OVER, PLANNER_UNDER, PLANNER_FLAT, PLANNER_UNDER, PLANNER_CLOSE};
+    static const float expected[] = {2.0f,  2.5f, 2.0f,  4.0f, 7.0f, 4.0f, 6.0f, 7.0f, 2.0f, 10.0f, 5.0f,
+                                     -4.0f, 4.0f, 7.0f,  4.0f, 0.0f, 1.5f, 4.0f, 0.0f, 0.0f, 0.0f};
+    /* Both slices are long enough for either, so that an exchange is no short slice. */
+    static int32_t points[3 * PLANNER_EDGES], lifts[3 * PLANNER_EDGES];
+    uint16_t kinds[7];
+    float coords[21];
+    memcpy(points, at, sizeof at);
+    memcpy(lifts, lift, sizeof lift);
+    check(build_the_chain(), "the chain");
+    check(planner_float_path(table, WORDS, 0, 0, points, 3072, lifts, 3072, kinds, 7, coords, 21) == 7, "seven pieces");
+    check(PLANNER_FLAT == 0 && PLANNER_OVER == 1 && PLANNER_UNDER == 2 && PLANNER_CLOSE == 3, "0 flat, 1 over, 2 under, 3 close");
+    check(memcmp(kinds, expected_kinds, sizeof kinds) == 0, "over, flat, over, under, flat, under, close");
+    check(memcmp(coords, expected, sizeof coords) == 0, "the middles of the ends, with the lift added or taken away");
+    /* Points reach to 65,536 and lifts to 4,096: 4,097 is a point and no lift. */
+    points[0] = 4097;
+    check(planner_float_path(table, WORDS, 0, 0, points, 3072, lifts, 3072, kinds, 7, coords, 21) == 7, "4,097 is a point");
+    lifts[0] = 4097;
+    check(planner_float_path(table, WORDS, 0, 0, points, 3072, lifts, 3072, kinds, 7, coords, 21) == -PLANNER_FAR, "4,097 is no lift");
+    /* 1,536 points and 3,072 lifts are enough, one fewer of either is not. */
+    lifts[0] = 0;
+    check(planner_float_path(table, WORDS, 0, 0, points, 1536, lifts, 3072, kinds, 7, coords, 21) == 7 &&
+              planner_float_path(table, WORDS, 0, 0, points, 3072, lifts, 1536, kinds, 7, coords, 21) == -PLANNER_SHORT_SLICE,
+          "1,536 points are enough, 1,536 lifts are not");
+}
+
+/* The words of a reader: where it stands, and where its walk began. */
+static uint16_t reader[4];
+static struct planner_tally tally;
+static uint32_t lengths[PLANNER_EDGES];
+
+static int64_t step(void) {
+    return planner_walk_step(table, WORDS, reader, 4, lengths, PLANNER_EDGES, &tally);
+}
+
+static void stand(uint16_t dart, uint16_t type, uint16_t start_dart, uint16_t start_type) {
+    reader[0] = dart;
+    reader[1] = type;
+    reader[2] = start_dart;
+    reader[3] = start_type;
+}
+
+static int stands(uint16_t dart, uint16_t type, uint16_t start_dart, uint16_t start_type) {
+    return reader[0] == dart && reader[1] == type && reader[2] == start_dart && reader[3] == start_type;
+}
+
+static void count_from(uint32_t steps, uint32_t overs, uint32_t unders, uint32_t length) {
+    tally.steps = steps;
+    tally.overs = overs;
+    tally.unders = unders;
+    tally.length = length;
+}
+
+static int counted(uint32_t steps, uint32_t overs, uint32_t unders, uint32_t length) {
+    return tally.steps == steps && tally.overs == overs && tally.unders == unders && tally.length == length;
+}
+
+/* The walk of the chain, step by step, with lengths 100, 1,000 and 10,000; the tally begins at four different numbers. */
+static void try_the_reader(void) {
+    const uint32_t most = 4294967295u;
+    lengths[0] = 100;
+    lengths[1] = 1000;
+    lengths[2] = 10000;
+    check(build_the_chain(), "the chain again");
+    stand(4, 1, 3, 1);
+    count_from(5, 70, 900, 11000);
+    check(step() == 0 && stands(5, 0, 3, 1) && counted(6, 71, 900, 21000), "step (4, 1) goes over on edge 2, and (5, 0) comes next");
+    check(step() == 1 && stands(3, 1, 3, 1) && counted(7, 71, 901, 31000), "step (5, 0) goes under, and the walk ends there");
+    check(step() == 0 && stands(1, 1, 3, 1) && counted(8, 71, 901, 32000), "step (3, 1) is flat");
+    /* The step and the start, exchanged: after (2, 1) comes (4, 1), and after (4, 1) comes (5, 0). */
+    stand(2, 1, 4, 1);
+    check(step() == 1, "a reader at (2, 1) that began at (4, 1) ends");
+    stand(4, 1, 2, 1);
+    check(step() == 0, "a reader at (4, 1) that began at (2, 1) goes on");
+    /* Dart and type of the start: (0, 1) comes after (1, 0), which type 1 leaves by the dart before 0. */
+    stand(1, 0, 0, 1);
+    check(step() == 1 && stands(0, 1, 0, 1), "a reader at (1, 0) that began at (0, 1) ends");
+    stand(1, 0, 1, 0);
+    check(step() == 0 && stands(0, 1, 1, 0), "a reader at (1, 0) that began there goes on");
+    /* Step (4, 1) adds 1 to the steps and the overs, 0 to the unders and 10,000 to the length: one field at a time has no room for it. */
+    stand(4, 1, 4, 1);
+    count_from(most, 0, 0, 0);
+    check(step() == -PLANNER_OVERTURNED && counted(most, 0, 0, 0), "no room for the steps");
+    count_from(0, most, 0, 0);
+    check(step() == -PLANNER_OVERTURNED && counted(0, most, 0, 0) && stands(4, 1, 4, 1), "no room for the overs");
+    count_from(0, 0, 0, most - 9999);
+    check(step() == -PLANNER_OVERTURNED, "no room for the length");
+    count_from(0, 0, most, most - 10000);
+    check(step() == 0 && counted(1, 1, most, most), "the unders need none");
+}
+
+int main(void) {
+    try_the_edits();
+    try_the_counts();
+    try_dart_and_type();
+    try_points_and_lifts();
+    try_the_reader();
+    return verdict();
+}

@@ -1,0 +1,356 @@
+/* Every call with every slice in a block of exactly its size, run under valgrind by tests/run: a stray read or write shows, and a decision
+   by a word that nobody wrote. Accepted and declined with each refusal; outputs of the exact size, and one shorter. With the argument
+   "stray" the table's block is one word shorter than the call is told, which valgrind has to see. Written so that a C++ compiler takes it too. */
+
+#include "check.h"
+#include "planner.h"
+
+#include <stddef.h>
+#include <stdint.h>
+#include <stdlib.h>
+#include <string.h>
+
+enum { WORDS = PLANNER_TABLE_WORDS, LONE = PLANNER_LONE_CORNER, POINTS = 3 * PLANNER_VERTICES, LIFTS = 3 * PLANNER_EDGES, BLOCKS = 6 };
+
+/* The mesh, and how many of its words are lent; `stray` are words that its block then lacks. */
+static uint16_t mesh[WORDS + 1];
+static size_t words = WORDS, stray = 0;
+
+/* The other slices' contents, and how many elements of each are lent. */
+static uint32_t lengths[PLANNER_EDGES];
+static int32_t points[POINTS], lifts[LIFTS];
+static size_t n_lengths = PLANNER_EDGES, n_points = POINTS, n_lifts = LIFTS;
+
+/* The blocks that the call is lent, and what they held before it. */
+static void *blocks[BLOCKS], *before[BLOCKS];
+static size_t sizes[BLOCKS];
+static int lent = 0;
+
+static void *copy(const void *from, size_t bytes) {
+    void *block = malloc(bytes);
+    if (bytes > 0) {
+        memcpy(block, from, bytes);
+    }
+    return block;
+}
+
+static void *lend(const void *from, size_t bytes) {
+    blocks[lent] = copy(from, bytes);
+    before[lent] = copy(from, bytes);
+    sizes[lent] = bytes;
+    return blocks[lent++];
+}
+
+static uint16_t *lend_mesh(void) {
+    return (uint16_t *)lend(mesh, (words - stray) * sizeof mesh[0]);
+}
+
+/* An output that holds a pattern. */
+static void *lend_output(size_t bytes) {
+    static unsigned char pattern[64];
+    memset(pattern, 0xa5, sizeof pattern);
+    return lend(pattern, bytes);
+}
+
+/* Gives the blocks back. A call that was declined has changed none of them; one that was accepted has not changed those that it reads, which
+   stand before the one of this number. */
+static int64_t back(int64_t answer, int first_written) {
+    int i, kept = 1;
+    for (i = 0; i < lent; i++) {
+        if (sizes[i] > 0 && (answer < 0 || i < first_written) && memcmp(blocks[i], before[i], sizes[i]) != 0) {
+            kept = 0;
+        }
+        free(blocks[i]);
+        free(before[i]);
+    }
+    lent = 0;
+    return kept ? answer : -99;
+}
+
+/* An edit's table is the mesh from then on. */
+static int64_t edited(int64_t answer) {
+    if (answer >= 0) {
+        memcpy(mesh, blocks[0], sizes[0]);
+    }
+    return back(answer, 0);
+}
+
+static int64_t empty(void) {
+    uint16_t *t = lend_mesh();
+    return edited(planner_empty(t, words));
+}
+
+static int64_t add(uint16_t v) {
+    uint16_t *t = lend_mesh();
+    return edited(planner_add_vertex(t, words, v));
+}
+
+static int64_t removal(uint16_t v) {
+    uint16_t *t = lend_mesh();
+    return edited(planner_remove_vertex(t, words, v));
+}
+
+static int64_t insert(uint16_t e, int c1, int c2, int16_t k) {
+    uint16_t *t = lend_mesh();
+    return edited(planner_insert_edge(t, words, e, (uint16_t)c1, (uint16_t)c2, k));
+}
+
+static int64_t deletion(uint16_t e) {
+    uint16_t *t = lend_mesh();
+    return edited(planner_delete_edge(t, words, e));
+}
+
+static int64_t turn(uint16_t e, int16_t amount) {
+    uint16_t *t = lend_mesh();
+    return edited(planner_turn_edge(t, words, e, amount));
+}
+
+static int64_t checked(void) {
+    uint16_t *t = lend_mesh();
+    return back(planner_check(t, words), 1);
+}
+
+static int64_t listing(size_t n) {
+    uint16_t *t = lend_mesh();
+    uint16_t *out = (uint16_t *)lend_output(n * sizeof *out);
+    return back(planner_listing(t, words, out, n), 1);
+}
+
+static int64_t counts(size_t n) {
+    uint16_t *t = lend_mesh();
+    int32_t *out = (int32_t *)lend_output(n * sizeof *out);
+    return back(planner_counts(t, words, out, n), 1);
+}
+
+static int64_t parts(size_t n) {
+    uint16_t *t = lend_mesh();
+    int32_t *out = (int32_t *)lend_output(n * sizeof *out);
+    return back(planner_parts(t, words, out, n), 1);
+}
+
+static int64_t plain(void) {
+    uint16_t *t = lend_mesh();
+    return back(planner_plain(t, words), 1);
+}
+
+static int64_t alternates(uint16_t dart, uint16_t type) {
+    uint16_t *t = lend_mesh();
+    return back(planner_alternates(t, words, dart, type), 1);
+}
+
+static int64_t letters(uint16_t dart, uint16_t type, size_t n) {
+    uint16_t *t = lend_mesh();
+    uint8_t *out = (uint8_t *)lend_output(n);
+    return back(planner_letters(t, words, dart, type, out, n), 1);
+}
+
+static int64_t cut_length(uint16_t dart, uint16_t type) {
+    uint16_t *t = lend_mesh();
+    uint32_t *l = (uint32_t *)lend(lengths, n_lengths * sizeof *l);
+    return back(planner_cut_length(t, words, dart, type, l, n_lengths), 2);
+}
+
+static int64_t float_path(uint16_t dart, uint16_t type, size_t n_kinds, size_t n_coords) {
+    uint16_t *t = lend_mesh();
+    int32_t *p = (int32_t *)lend(points, n_points * sizeof *p);
+    int32_t *l = (int32_t *)lend(lifts, n_lifts * sizeof *l);
+    uint16_t *kinds = (uint16_t *)lend_output(n_kinds * sizeof *kinds);
+    float *coords = (float *)lend_output(n_coords * sizeof *coords);
+    return back(planner_float_path(t, words, dart, type, p, n_points, l, n_lifts, kinds, n_kinds, coords, n_coords), 3);
+}
+
+static uint16_t reader[4];
+static size_t n_reader = 4;
+static struct planner_tally tally;
+
+static int64_t walk_step(void) {
+    uint16_t *t = lend_mesh();
+    uint32_t *l = (uint32_t *)lend(lengths, n_lengths * sizeof *l);
+    uint16_t *r = (uint16_t *)lend(reader, n_reader * sizeof *r);
+    struct planner_tally *y = (struct planner_tally *)lend(&tally, sizeof tally);
+    int64_t answer = planner_walk_step(t, words, r, n_reader, l, n_lengths, y);
+    if (answer >= 0) {
+        memcpy(reader, r, sizeof reader);
+        tally = *y;
+    }
+    return back(answer, 2);
+}
+
+/* The reader stands at a step, which is its start too. */
+static int64_t step_at(uint16_t dart, uint16_t type) {
+    reader[0] = reader[2] = dart;
+    reader[1] = reader[3] = type;
+    return walk_step();
+}
+
+/* Every call declines the mesh as torn, the table being tested before everything else. */
+static int all_torn(void) {
+    int torn = checked() == -1 && listing(0) == -1 && counts(0) == -1 && parts(0) == -1 && plain() == -1;
+    torn = torn && alternates(65535, 65535) == -1 && letters(0, 0, 0) == -1 && cut_length(0, 0) == -1 && float_path(0, 0, 0, 0) == -1;
+    torn = torn && step_at(0, 0) == -1 && add(65535) == -1 && removal(0) == -1 && insert(0, 0, 0, 0) == -1 && deletion(0) == -1;
+    return torn && turn(0, 0) == -1;
+}
+
+/* Edge 0 with one turn from vertex 0 to 1, edge 1023 with none from there to 511, and the isolated vertex 510: one ribbon, of the steps
+   (0, 0), (2046, 1), (2047, 1), (1, 1), and an empty walk. The last words of every slice count. */
+static int build(void) {
+    int fine = empty() == 0 && add(0) == 1 && add(1) == 2 && add(510) == 3 && add(511) == 4;
+    return fine && insert(0, LONE, LONE + 1, 1) == 3 && insert(1023, 1, LONE + 511, 0) == 2;
+}
+
+static void try_the_edits(void) {
+    check(add(512) == -2 && add(65535) == -2 && add(0) == -3 && add(511) == -3, "a vertex added: 2 and 3");
+    check(removal(512) == -2 && removal(65535) == -2 && removal(509) == -4 && removal(511) == -5, "a vertex removed: 2, 4 and 5");
+    check(removal(510) == 1 && add(510) == 2, "a vertex goes and comes");
+    check(insert(1024, 0, 0, 0) == -2 && insert(65535, 0, 0, 0) == -2 && insert(2, 2048, 0, 0) == -2 && insert(2, 0, 32767, 0) == -2 &&
+              insert(2, 0, 65535, 0) == -2 && insert(2, LONE + 512, 0, 0) == -2,
+          "an edge inserted: 2");
+    check(insert(0, 0, 0, 0) == -3 && insert(2, 4, 0, 0) == -4 && insert(2, 0, 2045, 0) == -4 && insert(2, LONE, 0, 0) == -4 &&
+              insert(2, 0, LONE + 509, 0) == -4,
+          "an edge inserted: 3 and 4");
+    check(insert(2, 0, 0, 100) == -6 && insert(2, 0, 0, -32768) == -6, "an edge inserted: 6");
+    check(insert(1022, LONE + 510, LONE + 510, -99) == 2 && deletion(1022) == 2, "a loop comes and goes");
+    check(deletion(1023) == 3 && insert(1023, 1, LONE + 511, 0) == 2, "the last edge goes and comes");
+    check(deletion(1024) == -2 && deletion(65535) == -2 && deletion(1022) == -4, "an edge deleted: 2 and 4");
+    check(turn(1024, 0) == -2 && turn(65535, 1) == -2 && turn(1022, 1) == -4 && turn(0, 99) == -6 && turn(0, -32768) == -6, "an edge turned: 2, 4, 6");
+    check(turn(0, 98) == 2 && turn(0, -98) == 2, "an edge turned and back");
+}
+
+/* The listing: four steps and their number, and two words for the empty walk. V 4, E 2, F 2, two parts. */
+static void try_the_outputs(void) {
+    check(listing(7) == 7 && listing(6) == -7 && listing(0) == -7, "the listing: exact, one shorter, none");
+    check(counts(5) == 5 && counts(4) == -7 && counts(0) == -7, "the counts");
+    check(parts(12) == 12 && parts(11) == -7 && parts(0) == -7, "the parts");
+    check(letters(0, 0, 2) == 2 && letters(0, 0, 1) == -7 && letters(2047, 1, 2) == 2 && letters(2047, 1, 0) == -7, "the letters");
+    check(plain() == 1 && alternates(0, 0) == 1 && alternates(2047, 1) == 1, "an alternating ribbon");
+}
+
+/* Darts 2 and 2045 are not live; 2048 and 65535 are no darts. */
+static void try_the_names(void) {
+    static const uint16_t bad[][2] = {{2048, 0}, {65535, 0}, {0, 2}, {0, 65535}, {65535, 65535}};
+    static const uint16_t absent[] = {2, 2045};
+    size_t i;
+    int fine = 1;
+    for (i = 0; i < sizeof bad / sizeof bad[0]; i++) {
+        const uint16_t d = bad[i][0], k = bad[i][1];
+        fine = fine && alternates(d, k) == -2 && letters(d, k, 0) == -2 && cut_length(d, k) == -2 && float_path(d, k, 0, 0) == -2 && step_at(d, k) == -2;
+    }
+    check(fine, "no such step: 2");
+    for (i = 0; i < sizeof absent / sizeof absent[0]; i++) {
+        const uint16_t d = absent[i];
+        fine = fine && alternates(d, 1) == -4 && letters(d, 1, 0) == -4 && cut_length(d, 1) == -4 && float_path(d, 1, 0, 0) == -4 && step_at(d, 1) == -4;
+    }
+    check(fine, "a step that is absent: 4");
+}
+
+static void fill_lengths(uint32_t length) {
+    int e;
+    for (e = 0; e < PLANNER_EDGES; e++) {
+        lengths[e] = length;
+    }
+}
+
+static void try_the_lengths(void) {
+    fill_lengths(65535);
+    check(cut_length(0, 0) == 4 * 65535 && cut_length(2046, 1) == 4 * 65535, "a cut length");
+    n_lengths = PLANNER_EDGES - 1;
+    check(cut_length(0, 0) == -7 && step_at(0, 0) == -7, "1,023 lengths: 7");
+    n_lengths = 0;
+    check(cut_length(0, 0) == -7 && step_at(0, 0) == -7, "no lengths: 7");
+    n_lengths = PLANNER_EDGES;
+    lengths[1023] = 65536;
+    check(cut_length(0, 0) == -9 && step_at(2046, 0) == -9 && step_at(0, 0) == 0, "a length too long: 9, for its own step alone");
+    lengths[1023] = 0;
+    check(cut_length(0, 0) == -9 && step_at(2046, 0) == -9, "a length of 0: 9");
+    fill_lengths(1);
+}
+
+/* Four steps and Close: five kinds and fifteen floats. */
+static void try_the_path(void) {
+    check(float_path(0, 0, 5, 15) == 5 && float_path(2047, 1, 5, 15) == 5, "a float path, exact");
+    check(float_path(0, 0, 4, 15) == -7 && float_path(0, 0, 5, 14) == -7 && float_path(0, 0, 0, 0) == -7, "one kind or one float too few: 7");
+    n_points = POINTS - 1;
+    check(float_path(0, 0, 5, 15) == -7, "1,535 points: 7");
+    n_points = 0;
+    check(float_path(0, 0, 5, 15) == -7, "no points: 7");
+    n_points = POINTS;
+    n_lifts = LIFTS - 1;
+    check(float_path(0, 0, 5, 15) == -7, "3,071 lifts: 7");
+    n_lifts = LIFTS;
+    points[POINTS - 1] = 65537;
+    check(float_path(0, 0, 5, 15) == -9, "a point too far: 9");
+    points[POINTS - 1] = -65536;
+    lifts[LIFTS - 1] = -4097;
+    check(float_path(0, 0, 5, 15) == -9, "a lift too far: 9");
+    lifts[LIFTS - 1] = 4096;
+    points[6] = lifts[6] = 2147483647;
+    check(float_path(0, 0, 5, 15) == 5, "what is far elsewhere is not looked at");
+    check(turn(1023, 2) == 2 && float_path(0, 0, 5, 15) == -8 && turn(1023, -2) == 2, "two turns: 8");
+}
+
+static void try_the_reader(void) {
+    int steps = 0;
+    memset(&tally, 0, sizeof tally);
+    check(step_at(0, 0) == 0, "a first step");
+    while (steps < 4 && walk_step() == 0) {
+        steps++;
+    }
+    check(steps == 2 && tally.steps == 4 && tally.overs == 1 && tally.unders == 1 && tally.length == 4, "and three more, to the end");
+    n_reader = 3;
+    check(walk_step() == -7, "a reader of three words: 7");
+    n_reader = 0;
+    check(walk_step() == -7, "a reader of none: 7");
+    n_reader = 4;
+    reader[2] = 2048;
+    check(walk_step() == -2, "a start that is no dart: 2");
+    reader[2] = 2045;
+    check(walk_step() == -4, "a start that is absent: 4");
+    tally.steps = 4294967295u;
+    check(step_at(0, 0) == -6, "a tally that is full: 6");
+    memset(&tally, 0, sizeof tally);
+}
+
+/* Tables that are no tables: other sizes, and words that lead outside. */
+static void try_the_torn(void) {
+    static const size_t places[] = {PLANNER_NEXT_AT,     PLANNER_NEXT_AT + 2047,   PLANNER_PREV_AT, PLANNER_PREV_AT + 2047,
+                                    PLANNER_LEAVES_AT,   PLANNER_LEAVES_AT + 2047, PLANNER_EDGE_AT, PLANNER_EDGE_AT + 1023,
+                                    PLANNER_VERTEX_AT,   PLANNER_VERTEX_AT + 511,  PLANNER_NEXT_AT + 2045, PLANNER_LEAVES_AT + 2,
+                                    PLANNER_EDGE_AT + 1, PLANNER_VERTEX_AT + 2};
+    static const uint16_t wrong[] = {512, 1024, 2048, 7679, 7680, 32767, 32768, 65533};
+    static const size_t others[] = {0, 1, WORDS - 1, WORDS + 1};
+    size_t i, j;
+    int fine = 1;
+    for (i = 0; i < sizeof others / sizeof others[0]; i++) {
+        words = others[i];
+        fine = fine && all_torn() && empty() == -1;
+    }
+    words = WORDS;
+    check(fine, "0, 1, 7,679 and 7,681 words: 1, by every call");
+    for (i = 0; i < sizeof places / sizeof places[0]; i++) {
+        const uint16_t right = mesh[places[i]];
+        for (j = 0; j < sizeof wrong / sizeof wrong[0]; j++) {
+            mesh[places[i]] = wrong[j];
+            fine = fine && all_torn();
+        }
+        mesh[places[i]] = right;
+    }
+    check(fine, "a word that leads outside: 1, by every call");
+    check(checked() == 0, "and the mesh is as it was");
+}
+
+int main(int argc, char **argv) {
+    check(checked() == -1 && build() && checked() == 0, "the mesh");
+    if (argc > 1 && strcmp(argv[1], "stray") == 0) {
+        stray = 1;
+        checked();
+        return 0;
+    }
+    try_the_edits();
+    try_the_outputs();
+    try_the_names();
+    try_the_lengths();
+    try_the_path();
+    try_the_reader();
+    try_the_torn();
+    return verdict();
+}

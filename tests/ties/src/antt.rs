@@ -1,0 +1,95 @@
+//! What a spec file declares. A name stands in a file if it is declared at the left margin, or further in as `pub`, or is a
+//! constructor of a data type there, or is passed on by `pub use M.{..}`. Local definitions do not count.
+
+use std::collections::BTreeSet;
+
+#[derive(Default)]
+pub struct Declared {
+    pub names: BTreeSet<String>,
+    /// Fields of records, without their dot.
+    pub fields: BTreeSet<String>,
+}
+
+enum Body {
+    Record,
+    Data,
+}
+
+pub fn declared(text: &str) -> Declared {
+    let mut found = Declared::default();
+    // The record or data type whose body is being read, and the column at which it was declared.
+    let mut body: Option<(Body, usize)> = None;
+    let mut passed_on: Option<String> = None;
+    for line in text.lines() {
+        let (column, line) = (line.len() - line.trim_start().len(), line.trim());
+        if line.is_empty() || line.starts_with("--") {
+            continue;
+        }
+        if let Some(names) = passed_on.as_mut() {
+            names.push_str(line);
+        } else if line.starts_with("pub use ") {
+            passed_on = Some(line.to_string());
+        } else {
+            if matches!(body, Some((_, at)) if column <= at) {
+                body = None;
+            }
+            match &body {
+                Some((kind, at)) if column == at + 2 => note_member(&mut found, kind, line),
+                Some(_) => {}
+                None => body = note_declaration(&mut found, column, line),
+            }
+        }
+        if matches!(&passed_on, Some(names) if names.contains('}')) {
+            note_passed_on(&mut found, &passed_on.take().unwrap());
+        }
+    }
+    found
+}
+
+/// A field of a record, or a constructor of a data type.
+fn note_member(found: &mut Declared, kind: &Body, line: &str) {
+    let line = line.strip_prefix("pub ").unwrap_or(line);
+    if let Some(name) = signed(line) {
+        match kind {
+            Body::Record => found.fields.insert(name),
+            Body::Data => found.names.insert(name),
+        };
+    }
+}
+
+fn note_declaration(found: &mut Declared, column: usize, line: &str) -> Option<(Body, usize)> {
+    let (mut rest, mut public) = (line, false);
+    while let Some((word, after)) = rest.split_once(' ') {
+        match word {
+            "pub" => public = true,
+            "abbrev" | "unfoldable" => {}
+            _ => break,
+        }
+        rest = after;
+    }
+    if column > 0 && !public {
+        return None;
+    }
+    for (keyword, body) in [("record ", Body::Record), ("data ", Body::Data)] {
+        if let Some(after) = rest.strip_prefix(keyword) {
+            found.names.extend(after.split_whitespace().next().map(String::from));
+            return Some((body, column));
+        }
+    }
+    found.names.extend(signed(rest));
+    None
+}
+
+/// The name of a signature `name : type`.
+fn signed(line: &str) -> Option<String> {
+    let (name, rest) = line.split_once(' ')?;
+    (rest == ":" || rest.starts_with(": ")).then(|| name.to_string())
+}
+
+/// `pub use M.{a, b}` passes a and b on.
+fn note_passed_on(found: &mut Declared, line: &str) {
+    if let Some((_, names)) = line.split_once('{') {
+        let names = names.split('}').next().unwrap_or("");
+        found.names.extend(names.split(',').map(|name| name.trim().to_string()).filter(|name| !name.is_empty()));
+    }
+}

@@ -1,0 +1,25 @@
+//! What ties the documents and the C header to the code. `claims` checks the citations of docs/CLAIMS.md and of the README;
+//! `matching` compares include/planner.h with the exported signatures. The others read the files: `antt` the specs, `rattle`
+//! the sources, `header` the C header, `markdown` the documents, `citations` what a document cites; `tree` finds the files.
+//! The tests in tests/ run both on small made-up trees (`small`) with one fault each.
+
+pub mod antt;
+pub mod citations;
+pub mod claims;
+pub mod header;
+pub mod markdown;
+pub mod matching;
+pub mod rattle;
+pub mod small;
+pub mod tree;
+
+use std::process::ExitCode;
+
+/// Print a line for each fault, or that there is none.
+pub fn told(what: &str, faults: &[String]) -> ExitCode {
+    for fault in faults {
+        println!("{fault}");
+    }
+    println!("tests/{what}: {} faults", faults.len());
+    ExitCode::from(u8::from(!faults.is_empty()))
+}

@@ -1,0 +1,104 @@
+//! What a Rattle source declares: its functions with their contracts, and its structs. It relies on the layout that
+//! `rt fmt` keeps: a body's opening brace ends its line, and after a contract stands alone on it.
+
+pub struct Function {
+    pub name: String,
+    /// Exported to C under its own name.
+    pub exported: bool,
+    pub arguments: Vec<(String, String)>,
+    pub answer: String,
+    /// The declaration without its body: signature and contract.
+    pub text: String,
+}
+
+pub struct Struct {
+    pub name: String,
+    /// Laid out as C does.
+    pub repr_c: bool,
+    pub fields: Vec<(String, String)>,
+}
+
+/// The lines of a source without its comments.
+fn code(text: &str) -> Vec<&str> {
+    text.lines().map(|line| line.split("//").next().unwrap_or("").trim_end()).collect()
+}
+
+pub fn functions(text: &str) -> Vec<Function> {
+    let lines = code(text);
+    let mut found = Vec::new();
+    for (i, line) in lines.iter().enumerate() {
+        if let Some(at) = function_at(line) {
+            let text = declaration(&lines[i..]);
+            let exported = line.contains("extern \"C\"") && i > 0 && lines[i - 1].trim() == "#[no_mangle]";
+            found.push(read_function(&text, &line[at..], exported));
+        }
+    }
+    found
+}
+
+/// Where the name begins in a line that declares a function.
+fn function_at(line: &str) -> Option<usize> {
+    let start = line.trim_start();
+    let declares = ["fn ", "pub fn ", "pub extern \"C\" fn "].iter().any(|front| start.starts_with(front));
+    declares.then(|| line.find("fn ").unwrap() + 3)
+}
+
+/// The lines up to the one whose brace opens the body.
+fn declaration(lines: &[&str]) -> String {
+    let mut text = String::new();
+    for line in lines {
+        text.push_str(line.strip_suffix(" {").unwrap_or(line));
+        text.push('\n');
+        if line.trim() == "{" || line.ends_with(" {") {
+            break;
+        }
+    }
+    text
+}
+
+fn read_function(text: &str, from_name: &str, exported: bool) -> Function {
+    let name: String = from_name.chars().take_while(|c| c.is_alphanumeric() || *c == '_').collect();
+    let rest = text.split_once(&format!("fn {name}")).map_or("", |(_, rest)| rest);
+    let (arguments, after) = rest.split_once('(').and_then(|(_, rest)| rest.split_once(')')).unwrap_or(("", ""));
+    let answer = after.trim_start().strip_prefix("->").unwrap_or("").split_whitespace().next().unwrap_or("");
+    Function { name, exported, arguments: pairs(arguments), answer: answer.to_string(), text: text.to_string() }
+}
+
+impl Function {
+    pub fn has_contract(&self) -> bool {
+        self.text.contains("ensures {")
+    }
+}
+
+pub fn structs(text: &str) -> Vec<Struct> {
+    let lines = code(text);
+    let mut found = Vec::new();
+    for (i, line) in lines.iter().enumerate() {
+        let start = line.trim();
+        if let Some(rest) = start.strip_prefix("pub struct ").or_else(|| start.strip_prefix("struct ")) {
+            let name = rest.chars().take_while(|c| c.is_alphanumeric()).collect();
+            let body: Vec<&str> =
+                lines[i + 1..].iter().map(|line| line.trim()).take_while(|line| *line != "}").collect();
+            let repr_c = i > 0 && lines[i - 1].trim() == "#[repr(C)]";
+            found.push(Struct { name, repr_c, fields: pairs(&body.join(" ")) });
+        }
+    }
+    found
+}
+
+/// `a: T, b: U`, as arguments and fields are written.
+fn pairs(text: &str) -> Vec<(String, String)> {
+    let words = text.split_whitespace().collect::<Vec<_>>().join(" ");
+    let parts = words.split(',').map(|part| part.trim().trim_start_matches("pub "));
+    parts
+        .filter(|part| !part.is_empty())
+        .map(|part| part.split_once(": ").unwrap_or((part, "")))
+        .map(|(name, kind)| (name.to_string(), kind.to_string()))
+        .collect()
+}
+
+/// Where the source takes a name from: `use a::b::Name;` gives a::b.
+pub fn used_from(text: &str, name: &str) -> Option<String> {
+    let end = format!("::{name};");
+    text.lines().find_map(|line| line.strip_prefix("use ")?.strip_suffix(&end).map(String::from))
+}

@@ -1,0 +1,90 @@
+//! The files of the repository, under a root.
+
+use crate::antt::{declared, Declared};
+use crate::{header, rattle};
+use std::collections::BTreeSet;
+use std::fs;
+use std::path::{Path, PathBuf};
+
+pub struct Tree {
+    root: PathBuf,
+}
+
+impl Tree {
+    pub fn new(root: &Path) -> Tree {
+        Tree { root: root.to_path_buf() }
+    }
+
+    /// The repository that this package stands in, or the one that the program's first argument names.
+    pub fn given() -> Tree {
+        let here = Path::new(env!("CARGO_MANIFEST_DIR")).join("../..");
+        Tree::new(&std::env::args_os().nth(1).map_or(here, PathBuf::from))
+    }
+
+    pub fn has(&self, path: &str) -> bool {
+        self.root.join(path).exists()
+    }
+
+    pub fn read(&self, path: &str) -> Option<String> {
+        fs::read_to_string(self.root.join(path)).ok()
+    }
+
+    /// The names in a folder that have this ending, without it, in order.
+    fn listed(&self, folder: &str, ending: &str) -> BTreeSet<String> {
+        let entries = fs::read_dir(self.root.join(folder)).into_iter().flatten().flatten();
+        entries.filter_map(|entry| entry.file_name().to_str()?.strip_suffix(ending).map(String::from)).collect()
+    }
+
+    /// What crates/CRATE/specs/FILE.antt declares. Laws stand in a folder below and are not looked at.
+    pub fn spec(&self, name: &str, file: &str) -> Option<Declared> {
+        self.read(&format!("crates/{name}/specs/{file}.antt")).map(|text| declared(&text))
+    }
+
+    /// What all of a crate's specs declare, laws left out.
+    pub fn specs(&self, name: &str) -> BTreeSet<String> {
+        let files = self.listed(&format!("crates/{name}/specs"), ".antt");
+        files.iter().filter_map(|file| self.spec(name, file)).flat_map(|found| found.names).collect()
+    }
+
+    /// The spec files that declare a name, as crate/File; a law's is crate/laws/File.
+    pub fn declaring(&self, name: &str) -> Vec<String> {
+        let mut found = Vec::new();
+        for of in self.listed("crates", "") {
+            for folder in ["", "laws/"] {
+                for file in self.listed(&format!("crates/{of}/specs/{folder}"), ".antt") {
+                    let declared = self.spec(&of, &format!("{folder}{file}")).unwrap_or_default();
+                    if declared.names.contains(name) {
+                        found.push(format!("{of}/{folder}{file}"));
+                    }
+                }
+            }
+        }
+        found
+    }
+
+    pub fn functions(&self, path: &str) -> Option<Vec<rattle::Function>> {
+        self.read(path).map(|text| rattle::functions(&text))
+    }
+
+    /// The functions of all of a crate's sources.
+    pub fn functions_of(&self, name: &str) -> Vec<rattle::Function> {
+        let files = self.listed(&format!("crates/{name}/src"), ".rt");
+        files.iter().filter_map(|file| self.functions(&format!("crates/{name}/src/{file}.rt"))).flatten().collect()
+    }
+
+    /// Every must-fail edit, as crate/name.
+    pub fn edits(&self) -> BTreeSet<String> {
+        let crates = self.listed("crates", "");
+        let edits = |name: &String| {
+            let files = self.listed(&format!("crates/{name}/must-fail"), ".edit");
+            files.into_iter().map(|file| format!("{name}/{file}")).collect::<Vec<_>>()
+        };
+        crates.iter().flat_map(edits).collect()
+    }
+
+    /// The names of the functions that include/planner.h declares, in its order.
+    pub fn header_functions(&self) -> Vec<String> {
+        let text = self.read("include/planner.h").unwrap_or_default();
+        header::read(&text).prototypes.into_iter().map(|prototype| prototype.name).collect()
+    }
+}

@@ -1,0 +1,203 @@
+//! `tests/header` on a small tree: nothing is found where all is well, and each kind of difference is found.
+
+use ties::matching::faults;
+use ties::small::{assert_faults, Small};
+
+const HEADER: &str = "include/planner.h";
+const EXPORTS: &str = "crates/planner/src/lib.rt";
+const TALLY: &str = "crates/reader/src/tally.rt";
+
+const FILES: [(&str, &str); 3] = [
+    (
+        HEADER,
+        "/* int64_t planner_no(int x); */\n#include <stdint.h>\n#ifdef __cplusplus\nextern \"C\" {\n#endif\n#define A 1\n#define B(x) \\\n    (x)\n\
+         int64_t planner_insert(uint16_t *table, size_t words, uint16_t e, uint16_t c1, uint16_t c2, int16_t k);\n\
+         int64_t planner_path(const uint16_t *table, size_t words, uint16_t dart, uint16_t type, const int32_t *points,\n\
+         \x20                    size_t n_points, float *out, size_t out_words);\n\
+         struct planner_tally {\n    uint32_t steps, overs;\n    uint16_t start_type;\n};\n\
+         int64_t planner_step(struct planner_tally *tally, const struct planner_tally *from);\n\
+         #ifdef __cplusplus\n}\n#endif\n",
+    ),
+    (
+        EXPORTS,
+        "use reader::tally::Tally;\nuse table::answer::code;\n// pub extern \"C\" fn planner_no(x: i16) -> i64\n\n\
+         #[no_mangle]\npub extern \"C\" fn planner_insert(words: &mut [u16], e: u16, c1: u16, c2: u16, k: i16) -> i64\n\
+         \x20   ensures { λ r. ⌜ r ≡ insert (now (words .entry)) e c1 c2 k ⌝ }\n{\n    code(insert(words, e, c1, c2, k))\n}\n\n\
+         #[no_mangle]\npub extern \"C\" fn planner_path(\n    words: &[u16],\n    dart: u16,\n    kind: u16,\n    points: &[i32],\n\
+         \x20   out: &mut [f32],\n) -> i64\n    ensures { λ r. ⌜ r ≡ path ⌝ }\n{\n    0\n}\n\n\
+         #[no_mangle]\npub extern \"C\" fn planner_step(tally: &mut Tally, from: &Tally) -> i64\n    ensures { λ r. ⌜ r ≡ 0 ⌝ }\n{\n    0\n}\n\n\
+         fn own(x: u16) -> bool {\n    true\n}\n",
+    ),
+    (TALLY, "// A tally.\n#[repr(C)]\npub struct Tally {\n    pub steps: u32,\n    // over\n    pub overs: u32,\n    pub start_kind: u16,\n}\n"),
+];
+
+fn whole(name: &str) -> Small {
+    Small::new(name, &FILES)
+}
+
+/// The differences after one text of a file is changed for another.
+fn after(name: &str, path: &str, old: &str, new: &str, expected: &[&str]) {
+    assert_faults(&faults(&whole(name).change(path, old, new).tree()), expected);
+}
+
+#[test]
+fn nothing_where_both_are_alike() {
+    assert_faults(&faults(&whole("alike").tree()), &[]);
+}
+
+#[test]
+fn exchanged_arguments() {
+    let expected = [
+        "planner_insert: argument 4 is `uint16_t c2`, not `uint16_t c1`",
+        "planner_insert: argument 5 is `uint16_t c1`, not `uint16_t c2`",
+    ];
+    after("corners", HEADER, "uint16_t c1, uint16_t c2", "uint16_t c2, uint16_t c1", &expected);
+    let other_way =
+        ["argument 4 is `uint16_t c1`, not `uint16_t c2`", "argument 5 is `uint16_t c2`, not `uint16_t c1`"];
+    after("declared", EXPORTS, "e: u16, c1: u16, c2: u16", "e: u16, c2: u16, c1: u16", &other_way);
+    after(
+        "step",
+        EXPORTS,
+        "dart: u16,\n    kind: u16",
+        "kind: u16,\n    dart: u16",
+        &[
+            "planner_path: argument 3 is `uint16_t dart`, not `uint16_t type`",
+            "planner_path: argument 4 is `uint16_t type`, not `uint16_t dart`",
+        ],
+    );
+}
+
+#[test]
+fn a_changed_type() {
+    after("signed", HEADER, "int16_t k", "uint16_t k", &["argument 6 is `uint16_t k`, not `int16_t k`"]);
+    after("wide", EXPORTS, "e: u16", "e: u32", &["argument 3 is `uint16_t e`, not `uint32_t e`"]);
+    after(
+        "constant",
+        HEADER,
+        "(uint16_t *table",
+        "(const uint16_t *table",
+        &["`const uint16_t * table`, not `uint16_t * table`"],
+    );
+    after("written", EXPORTS, "points: &[i32]", "points: &mut [i32]", &["not `int32_t * points`"]);
+    after("float", EXPORTS, "out: &mut [f32]", "out: &mut [f64]", &["not `double * out`"]);
+    after(
+        "record",
+        EXPORTS,
+        "from: &Tally",
+        "from: Tally",
+        &["argument 2 is `const struct planner_tally * from`, not"],
+    );
+    after(
+        "answer",
+        HEADER,
+        "int64_t planner_step",
+        "int32_t planner_step",
+        &["planner_step: answers int32_t in the header, i64"],
+    );
+    after(
+        "unknown",
+        EXPORTS,
+        "e: u16",
+        "e: Option<u16>",
+        &[
+            "planner_insert: cannot read the type of `e: Option<u16>`",
+            "planner_insert: 6 arguments in the header, 5 in the sources",
+            "argument 3",
+            "argument 4",
+            "argument 5",
+        ],
+    );
+}
+
+#[test]
+fn another_name() {
+    after("pointer", HEADER, "*points", "*lifts", &["argument 5 is `const int32_t * lifts`, not"]);
+    after(
+        "size",
+        HEADER,
+        "n_points",
+        "n_lifts",
+        &["argument 6 is `size_t n_lifts`, not `size_t n_points or points_words or"],
+    );
+    after(
+        "table-size",
+        HEADER,
+        "(uint16_t *table, size_t words",
+        "(uint16_t *table, size_t n",
+        &["argument 2 is `size_t n`"],
+    );
+}
+
+#[test]
+fn an_argument_more() {
+    after(
+        "more",
+        HEADER,
+        "int16_t k)",
+        "int16_t k, int16_t l)",
+        &["planner_insert: 7 arguments in the header, 6 in the sources"],
+    );
+}
+
+#[test]
+fn a_function_on_one_side_alone() {
+    let prototype = "int64_t planner_step(struct planner_tally *tally, const struct planner_tally *from);\n";
+    after(
+        "header",
+        HEADER,
+        prototype,
+        "",
+        &["include/planner.h: planner_step is missing", "no exported function is lent a struct"],
+    );
+    after("twice", HEADER, prototype, &prototype.repeat(2), &["planner_step is declared twice"]);
+    after(
+        "exports",
+        EXPORTS,
+        "fn planner_insert",
+        "fn planner_inserts",
+        &["include/planner.h: planner_inserts is missing", "lib.rt: planner_insert is missing"],
+    );
+    after(
+        "mangled",
+        EXPORTS,
+        "#[no_mangle]\npub extern \"C\" fn planner_step",
+        "pub extern \"C\" fn planner_step",
+        &["planner_step is not exported"],
+    );
+}
+
+#[test]
+fn fields_of_a_record() {
+    let exchanged =
+        ["field 1 is `uint32_t overs`, not `uint32_t steps`", "field 2 is `uint32_t steps`, not `uint32_t overs`"];
+    after("fields", HEADER, "steps, overs", "overs, steps", &exchanged);
+    after(
+        "field-type",
+        TALLY,
+        "start_kind: u16",
+        "start_kind: u32",
+        &["field 3 is `uint16_t start_type`, not `uint32_t start_type`"],
+    );
+    after(
+        "field-more",
+        TALLY,
+        "pub overs: u32,",
+        "pub overs: u32,\n    pub unders: u32,",
+        &["3 fields in the header, 4 in", "field 3"],
+    );
+    after("layout", TALLY, "#[repr(C)]\n", "", &["struct Tally is not #[repr(C)]"]);
+    after("struct", TALLY, "pub struct Tally", "pub struct Tallies", &["tally.rt: struct Tally is not there"]);
+    after(
+        "record-gone",
+        HEADER,
+        "struct planner_tally {",
+        "struct planner_tale {",
+        &["include/planner.h: struct planner_tally is missing", "no exported function is lent a struct planner_tale"],
+    );
+}
+
+#[test]
+fn what_cannot_be_read() {
+    after("typedef", HEADER, "#define A 1\n", "typedef int number;\n", &["cannot read `typedef int number;`"]);
+    after("unnamed", HEADER, "uint16_t e,", "uint16_t,", &["cannot read", "planner_insert is missing"]);
+}

@@ -18,4 +18,4 @@ install:
 # Draws the pictures of docs/GUIDE.md.
 .PHONY: figures
 figures:
-	CARGO_TARGET_DIR=target/cargo cargo run --quiet --offline --locked --release --manifest-path figures/Cargo.toml -- docs/figures
+	@CARGO_TARGET_DIR=target/cargo cargo run --quiet --offline --locked --release --manifest-path figures/Cargo.toml -- docs/figures

@@ -13,7 +13,10 @@ use std::path::PathBuf;
 use std::{env, fs, io};
 use svg::Picture;
 
-const FIGURES: [(&str, fn() -> Picture); 14] = [
+/// Draws one picture.
+type Draw = fn() -> Picture;
+
+const FIGURES: [(&str, Draw); 14] = [
     ("strips", strips::strips),
     ("darts", poles::darts),
     ("corners", poles::corners),

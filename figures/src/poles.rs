@@ -3,6 +3,7 @@
 use crate::plane::{arc, p, polar, P};
 use crate::svg::{pen, Anchor, Pen, Picture, BLACK, GREY, LIGHT, WHITE};
 use crate::tables::{add, around, edits, insert, lone, made, DOME};
+use reference::faces::VERTEX_CORNER;
 use reference::table::*;
 
 const DART: Pen = pen(2.6, BLACK);
@@ -35,18 +36,25 @@ fn after(angles: &[(Dart, f64)], d: Dart, from: f64) -> f64 {
     from + if rest == 0.0 { 360.0 } else { rest }
 }
 
+type Neighbour = fn(&[u16], Dart) -> Dart;
+
 pub fn darts() -> Picture {
     let edge = made(&[add(0), add(1), insert(3, lone(0), lone(1), 0)]);
     let dome = made(&edits(DOME));
+    let [first, second] = darts_of(3);
+    let angles = even(&dome, vertex_word(&dome, 0), 90.0);
     let mut picture = Picture::new(
         760.0,
         390.0,
         "Darts, next and previous",
-        "Left: edge 3 joins two poles; its dart 6 leaves the first end, its dart 7 the second. Right: pole 0 of the dome with its \
-         five darts. A solid arrow leads from each dart counterclockwise to the next one, a dashed arrow clockwise to the \
-         previous one.",
+        &format!(
+            "Left: edge {} joins two poles; its dart {first} leaves the first end, its dart {second} the second. Right: pole 0 of the \
+             dome with its {} darts. A solid arrow leads from each dart counterclockwise to the next one, a dashed arrow clockwise to \
+             the previous one.",
+            edge_of(first),
+            angles.len()
+        ),
     );
-    let [first, second] = darts_of(3);
     let (a, b) = (p(60.0, 150.0), p(270.0, 150.0));
     picture.line(a, b, pen(26.0, "#e4e4e4"));
     for (d, at, to) in [(first, a, b), (second, b, a)] {
@@ -71,8 +79,8 @@ pub fn darts() -> Picture {
     picture.text(p(165.0, 274.0), Anchor::Middle, 13.0, &words);
 
     let centre = p(540.0, 165.0);
-    picture.text(p(540.0, 24.0), Anchor::Middle, 15.0, "Pole 0 of the dome, with its five darts");
-    let angles = even(&dome, vertex_word(&dome, 0), 90.0);
+    let words = format!("Pole 0 of the dome, with its {} darts", angles.len());
+    picture.text(p(540.0, 24.0), Anchor::Middle, 15.0, &words);
     for &(d, degrees) in &angles {
         dart(&mut picture, centre, degrees, 98.0, d, DART);
         let to = after(&angles, next(&dome, d), degrees);
@@ -83,8 +91,7 @@ pub fn darts() -> Picture {
     pole(&mut picture, centre, 0);
     let y = 318.0;
     let columns = |i: usize| 500.0 + 36.0 * i as f64;
-    let rows: [(&str, fn(&[u16], Dart) -> Dart); 3] =
-        [("dart", |_, d| d), ("next, solid", next), ("previous, dashed", previous)];
+    let rows: [(&str, Neighbour); 3] = [("dart", |_, d| d), ("next, solid", next), ("previous, dashed", previous)];
     for (row, (name, of)) in rows.iter().enumerate() {
         let y = y + 24.0 * row as f64;
         picture.text(p(480.0, y), Anchor::End, 13.0, name);
@@ -120,9 +127,12 @@ pub fn corners() -> Picture {
         780.0,
         350.0,
         "Corners and their names",
-        "A corner is named by the dart that ends it, counterclockwise. Left: pole 2 of the dome has three darts and three corners. \
-         Middle: a pole with one dart has one corner, all the way round. Right: an isolated pole has one corner, named 32768 plus \
-         its number.",
+        &format!(
+            "A corner is named by the dart that ends it, counterclockwise. Left: pole 2 of the dome has {} darts and as many corners. \
+             Middle: a pole with one dart has one corner, all the way round. Right: an isolated pole has one corner, named \
+             {VERTEX_CORNER} plus its number.",
+            around(&dome, vertex_word(&dome, 2)).len()
+        ),
     );
     let arcs = pen(1.8, BLACK);
     let centre = p(160.0, 160.0);
@@ -159,7 +169,7 @@ pub fn corners() -> Picture {
     pole(&mut picture, centre, v);
     picture.label(centre - p(0.0, 64.0), 13.0, &format!("corner {}", lone(v)));
     picture.text(p(660.0, 290.0), Anchor::Middle, 13.0, &format!("pole {v} has one corner,"));
-    picture.text(p(660.0, 310.0), Anchor::Middle, 13.0, &format!("named 32768 + {v} = {}", lone(v)));
+    picture.text(p(660.0, 310.0), Anchor::Middle, 13.0, &format!("named {VERTEX_CORNER} + {v} = {}", lone(v)));
     picture
 }
 
@@ -169,13 +179,20 @@ pub fn insertion() -> Picture {
     let base: Vec<_> = start.into_iter().chain(three).collect();
     let with = |c1: u16, c2: u16| made(&base.iter().copied().chain([insert(3, c1, c2, 1)]).collect::<Vec<_>>());
     let named = 2;
+    let order = |table: &[u16]| around(table, 0).iter().map(|d| d.to_string()).collect::<Vec<_>>().join(", ");
     let (before, one, both) = (made(&base), with(named, lone(4)), with(named, named));
     let mut picture = Picture::new(
         780.0,
         350.0,
         "Where an inserted edge goes",
-        "Left: a pole with darts 0, 2 and 4; corner 2 lies between 0 and 2. Middle: edge 3 put into corner 2 with its first end \
-         alone; dart 6 stands just before dart 2. Right: both ends put into corner 2; the order is 0, 6, 7, 2.",
+        &format!(
+            "Left: a pole with the darts {}; corner {named} lies between {} and {named}. Middle: edge 3 put into corner {named} with \
+             its first end alone; the order is {}. Right: both ends put into corner {named}; the order is {}.",
+            order(&before),
+            previous(&before, named),
+            order(&one),
+            order(&both)
+        ),
     );
     let [first, second] = darts_of(3);
     // The old darts stay where they are; new ones share the corner evenly.
@@ -191,15 +208,15 @@ pub fn insertion() -> Picture {
                 from + (after(&old, named, from) - from) * place / (new + 1.0)
             }
         };
-        let order = around(table, 0);
-        let placed: Vec<f64> = order.iter().copied().map(angle).collect();
-        order.into_iter().zip(placed).collect()
+        let darts = around(table, 0);
+        let placed: Vec<f64> = darts.iter().copied().map(angle).collect();
+        darts.into_iter().zip(placed).collect()
     };
     let record = |c1: u16, c2: u16| format!("IE 3 {c1} {c2} 1");
     let panels = [
         (130.0, &before, "Before".to_string(), String::new()),
-        (390.0, &one, "One end into corner 2".to_string(), record(named, lone(4))),
-        (650.0, &both, "Both ends into corner 2".to_string(), record(named, named)),
+        (390.0, &one, format!("One end into corner {named}"), record(named, lone(4))),
+        (650.0, &both, format!("Both ends into corner {named}"), record(named, named)),
     ];
     for (x, table, title, typed) in panels {
         let centre = p(x, 190.0);
@@ -219,8 +236,7 @@ pub fn insertion() -> Picture {
             picture.path(&arc(centre, 96.0, at(first) + 4.0, at(second) - 4.0), pen(1.6, GREY).dashed("3 3"));
         }
         pole(&mut picture, centre, 0);
-        let order: Vec<String> = around(table, 0).iter().map(|d| d.to_string()).collect();
-        picture.text(p(x, 318.0), Anchor::Middle, 14.0, &format!("counterclockwise: {}", order.join(", ")));
+        picture.text(p(x, 318.0), Anchor::Middle, 14.0, &format!("counterclockwise: {}", order(table)));
     }
     picture.text(p(390.0, 340.0), Anchor::Middle, 12.0, "Thick: the darts of the new edge 3. Dotted: it is a loop.");
     picture

@@ -8,7 +8,8 @@ use crate::strips::printed;
 use crate::svg::{pen, Anchor, Pen, Picture, BLACK, GREY, LIGHT};
 use crate::tables::{add, around, edits, flat, insert, lone, made, pavilion, run_lines, DOME, TENT};
 use reference::counts::counts;
-use reference::faces::{Faces, Walk};
+use reference::edit::Edit;
+use reference::faces::{corner, Corner, Faces, Walk};
 use reference::length::cut_length;
 use reference::table::*;
 use reference::trace::{corner_met, Step};
@@ -238,10 +239,14 @@ pub fn dome_darts() -> Picture {
 pub fn dome() -> Picture {
     let shell = Shell::new(made(&edits(DOME)), wheel(p(330.0, 305.0), 215.0, 5));
     let walks = ribbons(&shell.table);
+    for e in live_edges(&shell.table) {
+        let [a, b] = Faces::of(&shell.table).sides(e).map(|side| step_letters(&shell.table, side.step));
+        assert!(a.len() == 1 && b.len() == 1 && a != b, "strip {e} is passed once over and once under");
+    }
     let mut picture = Picture::new(
         660.0,
         705.0,
-        "The dome and its one ribbon",
+        "The dome and its ribbon",
         &format!(
             "The dome of examples/dome.txt is woven of {} ribbon of {} steps. It passes every strip twice, once over and once under; \
              where it goes under it is drawn broken. The steps are numbered in the order of travel.",
@@ -269,7 +274,7 @@ pub fn closing() -> Picture {
         500.0,
         "The dome's frame without turns, and small shells that do and do not close",
         &format!(
-            "Left: the dome with no turns has {} walks, one around each opening and one around the rim. Right: four small shells with \
+            "Left: the dome with no turns has {} walks, one around each opening and one around the rim. Right: five small shells with \
              their numbers of poles, strips and walks, V - E + F, and whether they are orientable.",
             walks.len()
         ),
@@ -305,6 +310,15 @@ pub fn closing() -> Picture {
         picture.line(p(470.0, y + 54.0), p(740.0, y + 54.0), pen(1.0, LIGHT));
     }
     picture
+}
+
+/// The poles that a declined insertion was to join, as its corner words name them.
+fn missing_ends(table: &[u16], record: usize) -> [Vertex; 2] {
+    let Edit::InsertEdge { c1, c2, .. } = edits(TENT)[record - 1] else { panic!("the record inserts an edge") };
+    [c1, c2].map(|c| match corner(c).expect("not malformed") {
+        Corner::Before(d) => leaves(table, d),
+        Corner::Around(v) => v,
+    })
 }
 
 pub fn tent() -> Picture {
@@ -344,9 +358,9 @@ pub fn tent() -> Picture {
     let note = a.between(b, 0.5) + way * 62.0;
     picture.label(note - p(0.0, 9.0), 13.0, &format!("strip {strip}:"));
     picture.label(note + p(0.0, 9.0), 13.0, &format!("{} turn", turns(&shell.table, strip)));
-    let ends = |v: usize| shell.places[v];
-    let missing = ends(3).between(ends(4), 0.5);
-    picture.line(ends(3), ends(4), pen(1.4, GREY).dashed("3 5"));
+    let [from, to] = missing_ends(&shell.table, declined[0].0).map(|v| shell.places[v as usize]);
+    let missing = from.between(to, 0.5);
+    picture.line(from, to, pen(1.4, GREY).dashed("3 5"));
     let out = missing + (missing - shell.places[0]).unit() * 52.0;
     picture.label(out - p(0.0, 9.0), 13.0, "no strip:");
     picture.typed(out + p(0.0, 14.0), Anchor::Middle, 13.0, &records.join(" "));
@@ -378,10 +392,11 @@ pub fn pavilion_ribbons() -> Picture {
     let square = |radius: f64| (0..4).map(move |i| polar(centre, radius, 225.0 - 90.0 * i as f64));
     let shell = Shell::new(table, square(270.0).chain(square(105.0)).collect());
     let walks = ribbons(&shell.table);
+    assert_eq!(walks.len(), STROKES.len());
     let mut picture = Picture::new(
         880.0,
         600.0,
-        "The pavilion and its four ribbons",
+        "The pavilion and its ribbons",
         &format!(
             "The pavilion of examples/host.c seen from above: poles 0 to 3 below, drawn outside, poles 4 to 7 above them, drawn inside. \
              Its {} ribbons are drawn in different strokes; each goes over and under in turn.",

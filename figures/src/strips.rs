@@ -135,10 +135,10 @@ pub fn strips() -> Picture {
         for d in darts_of(0) {
             pole(&mut picture, if d == 0 { a } else { b }, leaves(&table, d));
         }
-        let crossings = turns(&table, 0).abs();
-        let times = ["do not cross", "cross once", "cross twice"][crossings as usize];
+        let letters = step_letters(&table, step(0, 0));
+        let times = ["do not cross", "cross once", "cross twice"][letters.len()];
         picture.bold(p(390.0, y - 6.0), Anchor::Start, 15.0, &turns_words(turns(&table, 0)));
-        let hand = if turns(&table, 0) < 0 { ", the other one on top" } else { "" };
+        let hand = if letters.first() == Some(&Letter::U) { ", the other one on top" } else { "" };
         picture.text(p(390.0, y + 16.0), Anchor::Start, 14.0, &format!("its two sides {times}{hand}"));
     }
     picture
@@ -167,6 +167,7 @@ pub fn crossings() -> Picture {
         for (c, s) in columns.into_iter().enumerate() {
             let x = 100.0 + 196.0 * c as f64;
             let (a, b) = (p(x, y), p(x + 146.0, y));
+            assert_eq!(step_letters(&table, s), step_letters(&table, step(reverse(s.dart), s.t)), "the hand stays");
             let strand = travelled(&mut picture, &table, a, b, s);
             let last = strand.pieces.last().expect("a piece");
             let n = last.len();
@@ -275,10 +276,13 @@ fn one_step(picture: &mut Picture, corner: P, table: &[u16], s: Step) {
         &format!("step ({}, {}) over {}", s.dart, s.t, turns_words(k)),
     );
     let side = if s.t == 0 { "right" } else { "left" };
-    let words = format!("meets corner {met}, runs on the {side}");
+    let words = format!("meets corner {met}, begins on the {side}");
     picture.text(corner + p(205.0, 244.0), Anchor::Middle, 13.0, &words);
-    let rule = if next_step.t == 0 { "next after" } else { "previous to" };
-    let words = format!("then ({}, {}): {rule} {}", next_step.dart, next_step.t, reverse(s.dart));
+    let arrived = reverse(s.dart);
+    let (rule, on) =
+        if next_step.t == 0 { ("next after", next(table, arrived)) } else { ("previous to", previous(table, arrived)) };
+    assert_eq!(next_step.dart, on);
+    let words = format!("then ({}, {}): {rule} {}", next_step.dart, next_step.t, arrived);
     picture.text(corner + p(205.0, 264.0), Anchor::Middle, 13.0, &words);
 }
 

@@ -117,11 +117,6 @@ impl Picture {
         ));
     }
 
-    pub fn area(&mut self, points: &[P], fill: &str) {
-        let joined: Vec<String> = points.iter().map(|q| pair(*q)).collect();
-        self.add(format!("<path d=\"M{}Z\" fill=\"{fill}\"/>", joined.join("L")));
-    }
-
     pub fn frame(&mut self, at: P, width: f64, height: f64, fill: &str, edge: Pen) {
         self.add(format!(
             "<rect x=\"{}\" y=\"{}\" width=\"{}\" height=\"{}\" fill=\"{fill}\" stroke=\"{}\" stroke-width=\"{}\"/>",

@@ -120,8 +120,12 @@ pub fn path() -> Picture {
         760.0,
         430.0,
         "The pieces of a float path",
-        "A strip with one turn between two poles, seen from the side. Its ribbon has two steps. The step that goes over has its point \
-         above the middle of the strip by the lift, the step that goes under has it below by as much; the last piece is Close.",
+        &format!(
+            "A strip with one turn between two poles, seen from the side. Its ribbon has {} steps. The step that goes over has its \
+             point above the middle of the strip by the lift, the step that goes under has it below by as much; the last piece is \
+             Close.",
+            walk.len()
+        ),
     );
     // Sixteenths to the page, seen from the side: x to the right, z upward.
     let page = |x: f64, z: f64| -> P { p(60.0 + x / 9_600.0 * 420.0, 300.0 - z / 9_600.0 * 420.0) };

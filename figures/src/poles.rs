@@ -177,13 +177,13 @@ pub fn insertion() -> Picture {
     let start = [add(0), add(1), add(2), add(3), add(4)];
     let three = [insert(0, lone(0), lone(1), 0), insert(1, 0, lone(2), 0), insert(2, 0, lone(3), 0)];
     let base: Vec<_> = start.into_iter().chain(three).collect();
-    let with = |c1: u16, c2: u16| made(&base.iter().copied().chain([insert(3, c1, c2, 1)]).collect::<Vec<_>>());
+    let with = |c1: u16, c2: u16| made(&base.iter().copied().chain([insert(3, c1, c2, 0)]).collect::<Vec<_>>());
     let named = 2;
     let order = |table: &[u16]| around(table, 0).iter().map(|d| d.to_string()).collect::<Vec<_>>().join(", ");
     let (before, one, both) = (made(&base), with(named, lone(4)), with(named, named));
     let mut picture = Picture::new(
-        780.0,
-        350.0,
+        790.0,
+        355.0,
         "Where an inserted edge goes",
         &format!(
             "Left: a pole with the darts {}; corner {named} lies between {} and {named}. Middle: edge 3 put into corner {named} with \
@@ -212,7 +212,7 @@ pub fn insertion() -> Picture {
         let placed: Vec<f64> = darts.iter().copied().map(angle).collect();
         darts.into_iter().zip(placed).collect()
     };
-    let record = |c1: u16, c2: u16| format!("IE 3 {c1} {c2} 1");
+    let record = |c1: u16, c2: u16| format!("IE 3 {c1} {c2} 0");
     let panels = [
         (130.0, &before, "Before".to_string(), String::new()),
         (390.0, &one, format!("One end into corner {named}"), record(named, lone(4))),

@@ -228,7 +228,7 @@ pub fn dome_darts() -> Picture {
     }
     shell.poles(&mut picture);
     picture.text(
-        p(330.0, 600.0),
+        p(330.0, 552.0),
         Anchor::Middle,
         13.0,
         "in boxes: strips; by the arrows: darts, on the side of the corner that they end",

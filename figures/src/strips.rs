@@ -121,7 +121,7 @@ fn travelled(picture: &mut Picture, table: &[u16], a: P, b: P, s: Step) -> Stran
 
 pub fn strips() -> Picture {
     let mut picture = Picture::new(
-        760.0,
+        800.0,
         380.0,
         "Strips and their turns",
         "Four strips between two poles, with 0, 1, 2 and -1 turns. The two sides of a strip cross once for each turn. With a \

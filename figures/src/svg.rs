@@ -66,12 +66,23 @@ impl Picture {
         )
     }
 
+    /// Nothing may be cut off at the picture's edge.
+    fn inside(&self, at: P) {
+        let (x, y) = (at.x, at.y);
+        assert!(
+            (0.0..=self.width).contains(&x) && (0.0..=self.height).contains(&y),
+            "{}: {x}, {y} is outside",
+            self.title
+        );
+    }
+
     fn add(&mut self, element: String) {
         self.body += &element;
         self.body.push('\n');
     }
 
     pub fn path(&mut self, points: &[P], pen: Pen) {
+        points.iter().for_each(|&q| self.inside(q));
         if points.len() > 1 {
             let joined: Vec<String> = points.iter().map(|q| pair(*q)).collect();
             self.stroke(&format!("M{}", joined.join("L")), pen);
@@ -153,11 +164,15 @@ impl Picture {
     }
 
     fn put_text(&mut self, at: P, anchor: Anchor, size: f64, words: &str, more: &str) {
-        let anchor = match anchor {
-            Anchor::Start => "start",
-            Anchor::Middle => "middle",
-            Anchor::End => "end",
+        // A letter is at most 0.6 of its size wide, on average.
+        let wide = 0.6 * size * words.chars().count() as f64;
+        let (anchor, start) = match anchor {
+            Anchor::Start => ("start", 0.0),
+            Anchor::Middle => ("middle", -wide / 2.0),
+            Anchor::End => ("end", -wide),
         };
+        self.inside(at + p(start, -size));
+        self.inside(at + p(start + wide, 0.3 * size));
         self.add(format!(
             "<text x=\"{}\" y=\"{}\" font-size=\"{}\" text-anchor=\"{anchor}\" fill=\"{BLACK}\" stroke=\"{WHITE}\" \
              stroke-width=\"3\" paint-order=\"stroke\" xml:space=\"preserve\"{more}>{}</text>",

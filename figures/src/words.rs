@@ -22,8 +22,8 @@ pub fn table() -> Picture {
     let table = made(&[add(0), add(1), insert(0, lone(0), lone(1), 1)]);
     let empty = empty_mesh();
     let mut picture = Picture::new(
-        860.0,
-        560.0,
+        900.0,
+        530.0,
         "The table, word by word",
         &format!(
             "Left: the {WORDS} words of a table, in five kinds, each with the word where it begins. Right: every word that differs from \
@@ -43,8 +43,8 @@ pub fn table() -> Picture {
     }
     picture.typed(p(62.0, top + scale * WORDS as f64 + 5.0), Anchor::End, 13.0, &WORDS.to_string());
 
-    picture.text(p(630.0, 30.0), Anchor::Middle, 15.0, "Two vertices, one edge with one turn");
-    let (a, b) = (p(520.0, 76.0), p(740.0, 76.0));
+    picture.text(p(655.0, 30.0), Anchor::Middle, 15.0, "Two vertices, one edge with one turn");
+    let (a, b) = (p(545.0, 76.0), p(765.0, 76.0));
     picture.line(a, b, pen(9.0, "#e4e4e4"));
     for d in darts_of(0) {
         let (at, to) = if d == 0 { (a, b) } else { (b, a) };
@@ -61,7 +61,7 @@ pub fn table() -> Picture {
     for (at, (words, anchor)) in columns.into_iter().zip(header) {
         picture.bold(at + p(0.0, y), anchor, 13.0, words);
     }
-    picture.line(p(430.0, y + 8.0), p(840.0, y + 8.0), pen(1.2, GREY));
+    picture.line(p(430.0, y + 8.0), p(880.0, y + 8.0), pen(1.2, GREY));
     for (i, (begin, count, _)) in KINDS.into_iter().enumerate() {
         for name in 0..count {
             let word = table[begin + name];
@@ -74,7 +74,7 @@ pub fn table() -> Picture {
             picture.text(columns[2] + p(0.0, y), Anchor::Start, 13.0, &says(i, name, word));
         }
         y += 6.0;
-        picture.line(p(430.0, y + 5.0), p(840.0, y + 5.0), pen(1.0, LIGHT));
+        picture.line(p(430.0, y + 5.0), p(880.0, y + 5.0), pen(1.0, LIGHT));
     }
     y += 34.0;
     let none = empty[NEXT];

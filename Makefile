@@ -24,3 +24,8 @@ install:
 	install -m 644 target/staticlib/libplanner.a $(DESTDIR)$(PREFIX)/lib/libplanner.a
 	install -m 644 include/planner.h $(DESTDIR)$(PREFIX)/include/planner.h
 	sed -e 's|@PREFIX@|$(PREFIX)|' -e 's|@VERSION@|$(VERSION)|' planner.pc.in > $(DESTDIR)$(PREFIX)/lib/pkgconfig/planner.pc
+
+# Draws the pictures of docs/GUIDE.md.
+.PHONY: figures
+figures:
+	@CARGO_TARGET_DIR=target/cargo cargo run --quiet --offline --locked --release --manifest-path figures/Cargo.toml -- docs/figures

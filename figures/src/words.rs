@@ -1,0 +1,174 @@
+//! Pictures for hosts: the table's five kinds of words, and the points of a float path.
+
+use crate::plane::{p, P};
+use crate::poles::pole;
+use crate::strips::printed;
+use crate::svg::{pen, Anchor, Picture, BLACK, GREY, LIGHT};
+use crate::tables::{add, insert, lone, made};
+use reference::path::{float_path, LIFTS, POINTS};
+use reference::table::*;
+use reference::trace::{step, walk_from};
+
+/// A kind of word: where it begins, how many there are, and what they say.
+const KINDS: [(usize, usize, &str); 5] = [
+    (NEXT, DARTS, "for each dart, the next one"),
+    (PREVIOUS, DARTS, "for each dart, the previous one"),
+    (LEAVES, DARTS, "for each dart, the vertex it leaves"),
+    (TURNS, EDGES, "for each edge, 0 or its turns plus 100"),
+    (VERTEX, VERTICES, "for each vertex, its smallest dart"),
+];
+
+pub fn table() -> Picture {
+    let table = made(&[add(0), add(1), insert(0, lone(0), lone(1), 1)]);
+    let empty = empty_mesh();
+    let mut picture = Picture::new(
+        900.0,
+        530.0,
+        "The table, word by word",
+        &format!(
+            "Left: the {WORDS} words of a table, in five kinds, each with the word where it begins. Right: every word that differs from \
+             the empty mesh, for two vertices joined by one edge with one turn."
+        ),
+    );
+    // The whole table as a column, each kind as high as it is long.
+    let (top, scale) = (60.0, 430.0 / WORDS as f64);
+    picture.text(p(190.0, 30.0), Anchor::Middle, 15.0, &format!("{WORDS} words, five kinds"));
+    let shades = ["#f4f4f4", "#e4e4e4", "#f4f4f4", "#e4e4e4", "#f4f4f4"];
+    for ((begin, count, what), shade) in KINDS.into_iter().zip(shades) {
+        let y = top + scale * begin as f64;
+        let high = scale * count as f64;
+        picture.frame(p(70.0, y), 290.0, high, shade, pen(1.2, BLACK));
+        picture.typed(p(62.0, y + 12.0), Anchor::End, 13.0, &begin.to_string());
+        picture.text(p(215.0, y + high / 2.0 + 5.0), Anchor::Middle, 13.0, what);
+    }
+    picture.typed(p(62.0, top + scale * WORDS as f64 + 5.0), Anchor::End, 13.0, &WORDS.to_string());
+
+    picture.text(p(655.0, 30.0), Anchor::Middle, 15.0, "Two vertices, one edge with one turn");
+    let (a, b) = (p(545.0, 76.0), p(765.0, 76.0));
+    picture.line(a, b, pen(9.0, "#e4e4e4"));
+    for d in darts_of(0) {
+        let (at, to) = if d == 0 { (a, b) } else { (b, a) };
+        let way = (to - at).unit();
+        picture.arrow(&[at + way * 16.0, at + way * 62.0], pen(2.0, BLACK));
+        picture.bold_label(at + way * 42.0 - p(0.0, 16.0), 13.0, &d.to_string());
+        pole(&mut picture, at, leaves(&table, d));
+    }
+    picture.label(a.between(b, 0.5) - p(0.0, 16.0), 12.0, &format!("edge 0, {} turn", turns(&table, 0)));
+
+    let columns = [p(480.0, 0.0), p(560.0, 0.0), p(580.0, 0.0)];
+    let mut y = 136.0;
+    let header = [("word", Anchor::End), ("holds", Anchor::End), ("which says", Anchor::Start)];
+    for (at, (words, anchor)) in columns.into_iter().zip(header) {
+        picture.bold(at + p(0.0, y), anchor, 13.0, words);
+    }
+    picture.line(p(430.0, y + 8.0), p(880.0, y + 8.0), pen(1.2, GREY));
+    for (i, (begin, count, _)) in KINDS.into_iter().enumerate() {
+        for name in 0..count {
+            let word = table[begin + name];
+            if word == empty[begin + name] {
+                continue;
+            }
+            y += 27.0;
+            picture.typed(columns[0] + p(0.0, y), Anchor::End, 14.0, &(begin + name).to_string());
+            picture.typed(columns[1] + p(0.0, y), Anchor::End, 14.0, &word.to_string());
+            picture.text(columns[2] + p(0.0, y), Anchor::Start, 13.0, &says(i, name, word));
+        }
+        y += 6.0;
+        picture.line(p(430.0, y + 5.0), p(880.0, y + 5.0), pen(1.0, LIGHT));
+    }
+    y += 34.0;
+    let none = empty[NEXT];
+    assert!(empty[..TURNS].iter().chain(&empty[VERTEX..]).all(|&word| word == none));
+    assert!(empty[TURNS..VERTEX].iter().all(|&word| word == NO_EDGE));
+    picture.text(
+        p(430.0, y),
+        Anchor::Start,
+        13.0,
+        &format!("Every other word of an edge is {NO_EDGE}, and every other word"),
+    );
+    picture.text(
+        p(430.0, y + 20.0),
+        Anchor::Start,
+        13.0,
+        &format!("of a dart or a vertex {none}: not live. An isolated vertex"),
+    );
+    picture.text(p(430.0, y + 40.0), Anchor::Start, 13.0, &format!("that is live has {ISOLATED}."));
+    picture
+}
+
+fn says(kind: usize, name: usize, word: u16) -> String {
+    match kind {
+        0 => format!("the next dart after {name} is {word}"),
+        1 => format!("the dart previous to {name} is {word}"),
+        2 => format!("dart {name} leaves vertex {word}"),
+        3 => format!("edge {name} is live, with {word} - {TURNS_PLUS} = {} turn", word as i32 - TURNS_PLUS),
+        _ => format!("vertex {name} is live; its smallest dart is {word}"),
+    }
+}
+
+pub fn path() -> Picture {
+    let table = made(&[add(0), add(1), insert(0, lone(0), lone(1), 1)]);
+    let (mut points, mut lifts) = (vec![0; POINTS], vec![0; LIFTS]);
+    // In sixteenths of a millimetre: the ends lie 600 mm apart, one 160 mm above the other; the lift is 25 mm upward.
+    points[..6].copy_from_slice(&[0, 0, 1_600, 9_600, 0, 4_160]);
+    lifts[2] = 400;
+    let walk = walk_from(&table, step(0, 0));
+    let pieces = walk.len() + 1;
+    let (mut words, mut floats) = (vec![0; pieces], vec![0.0; 3 * pieces]);
+    float_path(&table, 0, 0, &points, &lifts, &mut words, &mut floats).expect("a path");
+    let mut picture = Picture::new(
+        760.0,
+        430.0,
+        "The pieces of a float path",
+        &format!(
+            "A strip with one turn between two poles, seen from the side. Its ribbon has {} steps. The step that goes over has its \
+             point above the middle of the strip by the lift, the step that goes under has it below by as much; the last piece is \
+             Close.",
+            walk.len()
+        ),
+    );
+    // Sixteenths to the page, seen from the side: x to the right, z upward.
+    let page = |x: f64, z: f64| -> P { p(60.0 + x / 9_600.0 * 420.0, 300.0 - z / 9_600.0 * 420.0) };
+    let end = |v: usize| page(points[3 * v] as f64, points[3 * v + 2] as f64);
+    let names = ["Flat", "Over", "Under", "Close"];
+    let at = |i: usize| page(16.0 * floats[3 * i] as f64, 16.0 * floats[3 * i + 2] as f64);
+    picture.text(p(270.0, 30.0), Anchor::Middle, 15.0, "A strip with one turn, seen from the side");
+    picture.line(end(0), end(1), pen(9.0, "#e4e4e4"));
+    let middle = end(0).between(end(1), 0.5);
+    for (i, s) in walk.iter().enumerate() {
+        picture.line(middle, at(i), pen(1.4, GREY).dashed("3 3"));
+        picture.path(
+            &[end(leaves(&table, s.dart) as usize), at(i), end(leaves(&table, reverse(s.dart)) as usize)],
+            pen(1.6, BLACK),
+        );
+        picture.disc(at(i), 5.0, BLACK, pen(0.0, BLACK));
+        let side = if words[i] == 1 { p(-30.0, -16.0) } else { p(40.0, 18.0) };
+        picture.bold_label(at(i) + side, 14.0, names[words[i] as usize]);
+    }
+    for v in [0, 1] {
+        pole(&mut picture, end(v), v as Vertex);
+        let place = points[3 * v..3 * v + 3].iter().map(|w| (w / 16).to_string()).collect::<Vec<_>>().join(", ");
+        picture.text(end(v) + p(0.0, 34.0), Anchor::Middle, 12.0, &format!("({place}) mm"));
+    }
+    picture.text(p(520.0, 96.0), Anchor::Start, 13.0, "lift of the strip:");
+    let lift = lifts[..3].iter().map(|w| (w / 16).to_string()).collect::<Vec<_>>().join(", ");
+    picture.text(p(520.0, 116.0), Anchor::Start, 13.0, &format!("({lift}) mm"));
+    let columns = [p(60.0, 0.0), p(190.0, 0.0), p(330.0, 0.0)];
+    for (at, words) in columns.into_iter().zip(["step", "kinds[i]", "coords[3i], coords[3i+1], coords[3i+2]"]) {
+        picture.bold(at + p(0.0, 340.0), Anchor::Start, 13.0, words);
+    }
+    for i in 0..pieces {
+        let y = 364.0 + 22.0 * i as f64;
+        let name = walk.get(i).map_or(String::new(), |&s| printed(&table, s));
+        let coords = floats[3 * i..3 * i + 3].iter().map(|c| format!("{c:.3}")).collect::<Vec<_>>().join(", ");
+        picture.typed(columns[0] + p(0.0, y), Anchor::Start, 13.0, &name);
+        picture.typed(
+            columns[1] + p(0.0, y),
+            Anchor::Start,
+            13.0,
+            &format!("{} {}", words[i], names[words[i] as usize]),
+        );
+        picture.typed(columns[2] + p(0.0, y), Anchor::Start, 13.0, &coords);
+    }
+    picture
+}

@@ -8,7 +8,7 @@ pub mod Ready
 pub mod Deleted
 pub mod Inserted
 pub mod Marked
-pub mod Passed
+pub mod WrittenGood
 pub mod Changes
 pub mod Edits
 pub mod RoundTrip

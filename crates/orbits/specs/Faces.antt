@@ -1,9 +1,9 @@
--- A face is an orbit with its mirror image. No orbit is its own mirror, so there are half as many faces as orbits.
---     Face, faced, faces     on one orbit or on mirror orbits; the test; how many live classes
+-- A face is an orbit with its mirror image. No orbit is its own mirror, so there are half as many faceClasses as orbits.
+--     Face, faced, faceClasses     on one orbit or on mirror orbits; the test; how many live classes
 --     orbits-pair            twice as many orbits
 --     faces-live, faces-split     equal live sets; a live set in two exclusive parts
 --     faces-none, faces-some, faces-one     no live number; some live number; all live numbers on one face
---     reps-faces             one number for each live face: as many as there are faces
+--     reps-faces             one number for each live face: as many as there are faceClasses
 use mathlib.Core.Bool.{Bool, _||_}
 use Prim.Native.Nat.{ℕ}
 use Rattle.orbits.specs.Reach.{Reach, reaches}
@@ -16,5 +16,5 @@ pub data Face (f m : ℕ → ℕ) (i j : ℕ) : Type 0 where
 unfoldable pub faced : (ℕ → ℕ) → (ℕ → ℕ) → ℕ → ℕ → ℕ → Bool
 faced f m N i j = reaches f N i j || reaches f N i (m j)
 
-unfoldable pub faces : (ℕ → ℕ) → (ℕ → ℕ) → ℕ → (ℕ → Bool) → ℕ
-faces f m N live = classes (faced f m N) N live
+unfoldable pub faceClasses : (ℕ → ℕ) → (ℕ → ℕ) → ℕ → (ℕ → Bool) → ℕ
+faceClasses f m N live = classes (faced f m N) N live

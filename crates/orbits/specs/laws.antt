@@ -15,4 +15,3 @@ pub mod FaceExchange
 pub mod Follow
 pub mod PassThrough
 pub mod Instances
-pub mod Rename

@@ -1,11 +1,10 @@
 -- A tally brought forward by one step, document 01, "Corners and walks", and when the step is declined: 7, then 9, then 6.
 use Prim.Native.Nat.{ℕ, _+_}
-use mathlib.Core.Bool.{Bool, true, false, not, _&&_}
+use mathlib.Core.Bool.{Bool, not, _&&_}
 use mathlib.Core.List.{List}
 use lib.Dec.{ltb, leb}
 use lib.ListN.{length}
 use Rattle.table.specs.Layout.{edges}
-use Rattle.table.specs.declared.answer.Refusal.{Refusal}
 use Rattle.table.specs.declared.answer.Refusal.the-variants.{Overturned, ShortSlice, Far}
 use Rattle.tracing.specs.Met.{times}
 use Rattle.weave.specs.Letters.{over, under, stepLetters}

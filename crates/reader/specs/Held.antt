@@ -5,7 +5,7 @@ use denote.Ref.{RefT, now}
 use Rattle.reader.specs.declared.tally.Tally.{Tally}
 use Rattle.reader.specs.declared.walk.Stepped.{Stepped}
 use Rattle.reader.specs.declared.reader.Reader.{Reader}
-use Rattle.reader.specs.Reading.{stepOf}
+use Rattle.reader.specs.Reader.{stepOf}
 
 -- "A walk reader stands over the lent table": made at dart d with type k, which is where its walk begins
 abbrev pub readerAt : RefT (List ℕ) → ℕ → ℕ → Reader

@@ -15,21 +15,21 @@ use Rattle.reader.specs.declared.place.Step.{Step}
 use Rattle.reader.specs.declared.tally.Tally.{Tally}
 use Rattle.reader.specs.declared.walk.Stepped.{Stepped}
 use Rattle.tracing.specs.Met.{times}
-use Rattle.reader.specs.Reading.{wordAt, stepOf}
+use Rattle.reader.specs.Reader.{wordAt, stepOf}
 
 -- "A tally begun at zeros"
 abbrev pub zeros : Tally
 zeros = record { steps = 0; overs = 0; unders = 0; length = 0 }
 
--- what a reader made at `first`, with a tally begun at zeros, has come to after n steps
-unfoldable pub after : List ℕ → Step → List ℕ → ℕ → Stepped
-after t first lengths zero = record { answer = Done 0; at = first; tally = zeros }
-after t first lengths (suc n) = let r = after t first lengths n in stepOf t (r .at) first lengths (r .tally)
+-- what a reader made at `first`, with a tally begun at zeros, has come to afterSteps n steps
+unfoldable pub afterSteps : List ℕ → Step → List ℕ → ℕ → Stepped
+afterSteps t first lengths zero = record { answer = Done 0; at = first; tally = zeros }
+afterSteps t first lengths (suc n) = let r = afterSteps t first lengths n in stepOf t (r .at) first lengths (r .tally)
 
 -- the steps that it has handed out, as step words
 unfoldable pub handed : List ℕ → Step → List ℕ → ℕ → List ℕ
 handed t first lengths zero = []
-handed t first lengths (suc n) = handed t first lengths n ++ (wordAt (after t first lengths n .at) ∷ [])
+handed t first lengths (suc n) = handed t first lengths n ++ (wordAt (afterSteps t first lengths n .at) ∷ [])
 
 -- a ribbon's number of steps, its O's, its U's and its cut length
 abbrev pub ribbonTally : List ℕ → List ℕ → ℕ → Tally
@@ -45,8 +45,8 @@ pub record Walked (t : List ℕ) (first : Step) (lengths : List ℕ) : Type 0 wh
   -- it "hands out one step at a time": those of the walk
   pub steps : handed t first lengths (length (walk (rotation t) (wordAt first))) ≡ walk (rotation t) (wordAt first)
   -- "With each step it says whether the walk ends there": at its last step, and not before. No step is declined, so the tally is never past 32 bits
-  pub ends : (n : ℕ) → n < length (walk (rotation t) (wordAt first)) → after t first lengths (suc n) .answer ≡ Done (bit (eqb (suc n) (length (walk (rotation t) (wordAt first)))))
-  -- "the step after that begins the walk again"
-  pub again : after t first lengths (length (walk (rotation t) (wordAt first))) .at ≡ first
+  pub ends : (n : ℕ) → n < length (walk (rotation t) (wordAt first)) → afterSteps t first lengths (suc n) .answer ≡ Done (bit (eqb (suc n) (length (walk (rotation t) (wordAt first)))))
+  -- "the step afterSteps that begins the walk again"
+  pub again : afterSteps t first lengths (length (walk (rotation t) (wordAt first))) .at ≡ first
   -- "A tally begun at zeros, and any cut length, fit 32 bits over one walk": where the walk ends it holds the ribbon's numbers
-  pub tally : after t first lengths (length (walk (rotation t) (wordAt first))) .tally ≡ ribbonTally t lengths (wordAt first)
+  pub tally : afterSteps t first lengths (length (walk (rotation t) (wordAt first))) .tally ≡ ribbonTally t lengths (wordAt first)

@@ -1,6 +1,5 @@
 -- A reader whose state is four words that its host keeps: dart and type of the step it stands at, then those of its walk's start.
 use Prim.Native.Nat.{ℕ}
-use mathlib.Core.Bool.{Bool, true, false}
 use mathlib.Core.List.{List, [], _∷_}
 use lib.Dec.{leb}
 use lib.ListN.{length, getD}
@@ -14,7 +13,7 @@ use Rattle.reader.specs.declared.tally.Tally.{Tally}
 use Rattle.reader.specs.declared.walk.Stepped.{Stepped}
 use Rattle.reader.specs.declared.words.Coded.{Coded}
 use Rattle.reader.specs.declared.words.Told.{Told}
-use Rattle.reader.specs.Reading.{stepOf}
+use Rattle.reader.specs.Reader.{stepOf}
 use Rattle.table.specs.Output.{front}
 
 -- how many words a reader's state has

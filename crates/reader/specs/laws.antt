@@ -1,5 +1,5 @@
 pub mod Counts
 pub mod Forward
-pub mod Reading
+pub mod Reader
 pub mod Walked
 pub mod Words

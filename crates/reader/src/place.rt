@@ -7,7 +7,7 @@ use table::whole::is_good;
 use weave::call::Named;
 use weave::call::named_step;
 ghost use mathlib.Core.Path.{_≡_};
-ghost use Rattle.reader.specs.Reading.{beginOf, placed as placedAt};
+ghost use Rattle.reader.specs.Reader.{beginOf, placed as placedAt};
 
 // "A step is a dart d with a trace type t": a reader stands at the one that it hands out next, and keeps the one that its
 // walk began at, which tells where it ends.

@@ -10,11 +10,12 @@ use Rattle.table.specs.Rotation.{Rotation, rotation}
 use Rattle.tracing.specs.Walk.{walk}
 use Rattle.tracing.specs.Listing.{gather, loneAt, faces, faceCount}
 use Rattle.surface.specs.Labels.{orientable}
-use Rattle.surface.specs.Counts.{vertexCount, edgeCount}
+use Rattle.surface.specs.Counts.{vertexCount}
 use Rattle.surface.specs.Parts.{parts}
 use Rattle.surface.specs.Signed.{partEuler, meshEuler}
 use Rattle.weave.specs.Letters.{stepLetters, plain}
 use Rattle.text.specs.Decimal.{decimal, integer}
+use Rattle.tracing.specs.Met.{edgeCount}
 
 -- "One space between fields, a newline after each line."
 abbrev pub space : ℕ

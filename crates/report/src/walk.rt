@@ -13,7 +13,7 @@ ghost use Prim.Native.Nat.{_<_, _≤_, _^_};
 ghost use Rattle.table.specs.Good.{Good};
 ghost use Rattle.report.specs.Lines.{walkLine};
 ghost use Rattle.report.specs.laws.Wrote.{Wrote, lones-most, walk-most};
-ghost use Rattle.report.specs.laws.Walks.{WalkAt, DartAt, Placed, PlacedAll, LoneAt, PlacedLone, loneText, lonesText};
+ghost use Rattle.report.specs.laws.Walks.{WalkAt, DartAt, LinePlaced, PlacedAll, LoneAt, PlacedLone, loneText, loneLines};
 
 // Where the text stands, and the index of the next walk.
 pub struct Place {
@@ -44,7 +44,7 @@ fn walk_line(
     d: usize,
 ) -> Place
     requires { ⌜ DartAt (now t) (now met) d i at ⌝ }
-    ensures { λ r. ⌜ Placed (now (t .entry)) (now (met .entry)) d i from at (now (out .entry)) r (now (met .exit)) (now (out .exit)) ⌝ }
+    ensures { λ r. ⌜ LinePlaced (now (t .entry)) (now (met .entry)) d i from at (now (out .entry)) r (now (met .exit)) (now (out .exit)) ⌝ }
 {
     let found = look(t, met, d);
     let words = found.words;
@@ -106,7 +106,7 @@ fn lone_line(t: &[u16], out: &mut [u8], from: usize, at: usize, i: u32, v: usize
 // The lines of the empty walks, upward, with indices from `first` on.
 pub fn lone_lines(t: &[u16], out: &mut [u8], from: usize, at: usize, first: u32) -> usize
     requires { ⌜ Good (now t) × (first ≤ 2048) × (at < 2 ^ 43) ⌝ }
-    ensures { λ r. ⌜ Wrote lones-most from at (now (out .entry)) (lonesText (now (t .entry)) first 512) r (now (out .exit)) ⌝ }
+    ensures { λ r. ⌜ Wrote lones-most from at (now (out .entry)) (loneLines (now (t .entry)) first 512) r (now (out .exit)) ⌝ }
 {
     let mut end = at;
     let mut i = first;

@@ -1,6 +1,6 @@
 -- The cut length of a ribbon, document 01, "Over and under", and what the call for it answers.
 use Prim.Native.Nat.{ℕ, _+_, _/_}
-use mathlib.Core.Bool.{Bool, true, false, _||_, not}
+use mathlib.Core.Bool.{Bool, _||_, not}
 use mathlib.Core.List.{List, [], _∷_}
 use lib.Dec.{ltb, leb}
 use lib.ListN.{length, getD}
@@ -8,7 +8,6 @@ use Rattle.table.specs.Layout.{edges, edgeOf}
 use Rattle.table.specs.Rotation.{rotation}
 use Rattle.table.specs.declared.answer.Answer.{Answer}
 use Rattle.table.specs.declared.answer.Answer.the-variants.{Done, Declined}
-use Rattle.table.specs.declared.answer.Refusal.{Refusal}
 use Rattle.table.specs.declared.answer.Refusal.the-variants.{ShortSlice, Far}
 use Rattle.tracing.specs.Walk.{walk}
 use Rattle.weave.specs.declared.call.Named.{Named}

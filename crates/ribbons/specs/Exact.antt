@@ -11,13 +11,13 @@ abbrev pub largest : ℕ
 largest = 139264
 
 -- is z below zero
-abbrev pub negative : ℤ → Bool
-negative (pos n) = false
-negative (negsuc n) = true
+abbrev pub signOf : ℤ → Bool
+signOf (pos n) = false
+signOf (negsuc n) = true
 
 -- the 32-bit float nearest to z / 32; `over32-exact` says that it is z / 32
 unfoldable pub over32 : ℤ → Float
-over32 z = round binary32 (negative z) (natAbs z) 32
+over32 z = round binary32 (signOf z) (natAbs z) 32
 
 -- the float 32, as its bits
 abbrev pub thirtyTwo : Float
@@ -26,4 +26,4 @@ thirtyTwo = ofBits binary32 1107296256
 -- "a coordinate times 32 is exactly" z: the float is finite, its sign is that of z, and 32 times its size is the size of z
 pub record Over32 (z : ℤ) (x : Float) : Type 0 where
   pub fits : T (fits binary32 x)
-  pub value : HasValue x (negative z) (natAbs z) 32
+  pub value : HasValue x (signOf z) (natAbs z) 32

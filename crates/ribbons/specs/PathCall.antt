@@ -1,7 +1,7 @@
 -- What the call for the float path answers, and what it leaves in the two slices, document 01, "When a call declines": "1, 2, 3, 4, 5, 6, 8, 9, with 7 tested after 4".
 use Prim.Native.Nat.{ℕ, _+_, _*_}
 use mathlib.Core.List.{List}
-use lib.Dec.{ltb, leb}
+use lib.Dec.{leb}
 use lib.IntN.{ℤ}
 use lib.Ieee.{Float}
 use lib.ListN.{length}

@@ -12,7 +12,7 @@ ghost use Rattle.tracing.specs.laws.Stands.{Stands};
 ghost use Rattle.ribbons.specs.Exact.{over32};
 ghost use Rattle.ribbons.specs.Path.{thirtySeconds, pointAt, letterOf, pieceOn, kindOf, pointOf, farStep};
 ghost use Rattle.ribbons.specs.laws.Places.{Lent};
-ghost use Rattle.ribbons.specs.laws.Coordinate.{Near, Readable};
+ghost use Rattle.ribbons.specs.laws.Coordinate.{NearEnds, Readable};
 
 // In millimetres.
 pub struct Point {
@@ -31,7 +31,7 @@ pub enum Piece {
 
 // A coordinate in millimetres, from those of the edge's ends and its lift in sixteenths.
 fn coordinate(letter: u8, a: i32, b: i32, l: i32) -> f32
-    requires { ⌜ Near a b l ⌝ }
+    requires { ⌜ NearEnds a b l ⌝ }
     ensures { λ r. ⌜ r ≡ over32 (thirtySeconds letter a b l) ⌝ }
 {
     if letter == OVER {

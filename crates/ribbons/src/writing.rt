@@ -9,12 +9,12 @@ ghost use mathlib.Core.Path.{_≡_};
 ghost use lib.ListN.{length};
 ghost use Rattle.table.specs.Output.{front};
 ghost use Rattle.ribbons.specs.Path.{kindsOf, floatsOf, text, pathFrom};
-ghost use Rattle.ribbons.specs.laws.Laying.{Wrote, Room, Laid};
+ghost use Rattle.ribbons.specs.laws.Laying.{PieceWritten, PathRoom, Laid};
 
 // Piece n of a path.
 fn write_piece(kinds: &mut [u16], coords: &mut [f32], n: usize, p: Piece)
     requires { ⌜ (n < length (now kinds)) × (3 * n + 2 < length (now coords)) ⌝ }
-    ensures { λ _. ⌜ Wrote n p (now (kinds .entry)) (now (coords .entry)) (now (kinds .exit)) (now (coords .exit)) ⌝ }
+    ensures { λ _. ⌜ PieceWritten n p (now (kinds .entry)) (now (coords .entry)) (now (kinds .exit)) (now (coords .exit)) ⌝ }
 {
     kinds[n] = kind_word(p);
     let q = point_of(p);
@@ -32,7 +32,7 @@ fn write_pieces(
     coords: &mut [f32],
     s: u16,
 ) -> usize
-    requires { ⌜ Room (now t) (now points) (now lifts) s (length (now kinds)) (length (now coords)) ⌝ }
+    requires { ⌜ PathRoom (now t) (now points) (now lifts) s (length (now kinds)) (length (now coords)) ⌝ }
     ensures { λ r. ⌜ Laid (now (t .entry)) (now (points .entry)) (now (lifts .entry)) s (now (kinds .entry)) (now (coords .entry)) r (now (kinds .exit)) (now (coords .exit)) ⌝ }
 {
     let mut at = s;
@@ -57,7 +57,7 @@ pub fn write_path(
     coords: &mut [f32],
     s: u16,
 )
-    requires { ⌜ Room (now t) (now points) (now lifts) s (length (now kinds)) (length (now coords)) ⌝ }
+    requires { ⌜ PathRoom (now t) (now points) (now lifts) s (length (now kinds)) (length (now coords)) ⌝ }
     ensures { λ _. ⌜ (now (kinds .exit) ≡ front (text kindsOf (pathFrom (now (t .entry)) (now (points .entry)) (now (lifts .entry)) s)) (now (kinds .entry))) × (now (coords .exit) ≡ front (text floatsOf (pathFrom (now (t .entry)) (now (points .entry)) (now (lifts .entry)) s)) (now (coords .entry))) ⌝ }
 {
     let n = write_pieces(t, points, lifts, kinds, coords, s);

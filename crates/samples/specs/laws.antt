@@ -1,6 +1,6 @@
 pub mod Sparse
 pub mod Few
-pub mod Reading
+pub mod SparseMesh
 pub mod Writing
 pub mod Editing
 pub mod Theorem

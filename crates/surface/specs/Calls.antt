@@ -9,10 +9,11 @@ use Rattle.table.specs.Rotation.{Rotation, rotation}
 use Rattle.table.specs.Output.{outputAnswer, outputOut}
 use Rattle.table.specs.declared.answer.Answer.{Answer}
 use Rattle.tracing.specs.Listing.{faceCount}
-use Rattle.surface.specs.Counts.{vertexCount, edgeCount}
+use Rattle.surface.specs.Counts.{vertexCount}
 use Rattle.surface.specs.Parts.{parts}
 use Rattle.surface.specs.Signed.{meshEuler}
 use Rattle.surface.specs.Rows.{rows}
+use Rattle.tracing.specs.Met.{edgeCount}
 
 abbrev pub fiveWords : ℕ → ℕ → ℕ → ℕ → ℤ → List ℤ
 fiveWords v e f p x = pos v ∷ pos e ∷ pos f ∷ pos p ∷ x ∷ []

@@ -10,12 +10,9 @@ use Rattle.orbits.specs.Count.{count}
 use Rattle.tracing.specs.laws.FaceCount.{facesIn}
 use Rattle.surgery.specs.laws.PlacesIn.{placesIn}
 
--- "V, E, F are live vertices, live edges, listed walks"; F is tracing's `faceCount`
+-- "V, E, F are live vertices, live edges, listed walks": E and F are tracing's `edgeCount` and `faceCount`
 unfoldable pub vertexCount : Rotation → ℕ
 vertexCount R = count (R .there) vertices
-
-unfoldable pub edgeCount : Rotation → ℕ
-edgeCount R = count (λ e. R .live (2 * e)) edges
 
 -- those of the vertices that pass Q, as the vertices of a part
 unfoldable pub verticesIn : Rotation → (ℕ → Bool) → ℕ

@@ -1,7 +1,7 @@
 -- The parts and their marks found: a fold over the live edges. Each edge links two labels, and a vertex follows the links made so far
 -- from itself to the label of its part. Two vertices have one label exactly if a chain joins them, and the label is the smallest of them.
---     Link, Spot, spot     a link; where a vertex has come to, and its mark there
---     links                one link for each edge of a list
+--     Link, Spot, spot     a joinedBy; where a vertex has come to, and its mark there
+--     links                one joinedBy for each edge of a list
 --     Labelling            what labels and marks must keep to, however they are found
 --     links-label          the fold over all live edges does
 use Prim.Native.Nat.{ℕ, zero, suc, _+_, _*_, _%_, min, max}
@@ -31,12 +31,12 @@ spot [] w = record { label = w; mark = 0 }
 spot (k ∷ ks) w = let s = spot ks w in moved k s
 
 -- an edge links the labels of its ends, so that the marks of its ends agree with it
-unfoldable pub link : Rotation → ℕ → Spot → Spot → Link
-link R e a b = record { high = max (a .label) (b .label); low = min (a .label) (b .label); shift = (a .mark + b .mark + R .turns (2 * e)) % 2 }
+unfoldable pub joinedBy : Rotation → ℕ → Spot → Spot → Link
+joinedBy R e a b = record { high = max (a .label) (b .label); low = min (a .label) (b .label); shift = (a .mark + b .mark + R .turns (2 * e)) % 2 }
 
 unfoldable pub links : Rotation → List ℕ → List Link
 links R [] = []
-links R (e ∷ es) = let ks = links R es in link R e (spot ks (R .from (2 * e))) (spot ks (R .from (2 * e + 1))) ∷ ks
+links R (e ∷ es) = let ks = links R es in joinedBy R e (spot ks (R .from (2 * e))) (spot ks (R .from (2 * e + 1))) ∷ ks
 
 -- the live edges below n, upward
 unfoldable pub liveEdges : Rotation → ℕ → List ℕ

@@ -11,7 +11,8 @@ use lib.Signed.{_≤ℤ_}
 use Rattle.table.specs.Rotation.{Rotation}
 use Rattle.tracing.specs.Listing.{faceCount}
 use Rattle.surface.specs.Labels.{inPart, orientable}
-use Rattle.surface.specs.Counts.{vertexCount, edgeCount, verticesIn, edgesIn, walksIn}
+use Rattle.surface.specs.Counts.{vertexCount, verticesIn, edgesIn, walksIn}
+use Rattle.tracing.specs.Met.{edgeCount}
 
 -- V-E+F
 unfoldable pub eulerOf : ℕ → ℕ → ℕ → ℤ

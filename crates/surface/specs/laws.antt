@@ -8,7 +8,7 @@ pub mod NoEdges
 pub mod Inside
 pub mod Joint
 pub mod Euler
-pub mod Sums
+pub mod Parts
 pub mod Signed
 pub mod EulerWord
 pub mod Rows

@@ -8,7 +8,7 @@ ghost use Prim.Native.Nat.{_<_};
 ghost use lib.ListN.{length, replicate};
 ghost use Rattle.table.specs.Layout.{vertices};
 ghost use Rattle.table.specs.Good.{Good};
-ghost use Rattle.surface.specs.laws.Forest.{Shape, Found, Flattening, lift as lifted, liftTurn};
+ghost use Rattle.surface.specs.laws.Forest.{Shape, RootFound, Flattening, lift as lifted, liftTurn};
 ghost use Rattle.surface.specs.laws.Linking.{Taking, Taken, Labelled, Fresh};
 
 // The root of a vertex, and the vertex's mark.
@@ -32,7 +32,7 @@ fn lift(up: &mut [u16; 512], turn: &mut [u8; 512], v: usize)
 // The root of v. The pointers on the way are shortened.
 fn find(up: &mut [u16; 512], turn: &mut [u8; 512], v: usize) -> Root
     requires { ⌜ Shape (now up) (now turn) × (v < 512) ⌝ }
-    ensures { λ r. ⌜ Found (now (up .entry)) (now (turn .entry)) v (r .label) (r .mark) (now (up .exit)) (now (turn .exit)) ⌝ }
+    ensures { λ r. ⌜ RootFound (now (up .entry)) (now (turn .entry)) v (r .label) (r .mark) (now (up .exit)) (now (turn .exit)) ⌝ }
 {
     let mut at = v;
     let mut mark: u8 = 0;

@@ -15,7 +15,7 @@ ghost use Rattle.table.specs.Rotation.{rotation, there?, live?};
 ghost use Rattle.tracing.specs.Listing.{bit};
 ghost use Rattle.surface.specs.Parts.{root?, parts};
 ghost use Rattle.surface.specs.laws.Tally.{Keyed};
-ghost use Rattle.surface.specs.laws.Mesh.{Counted, MeshCounts};
+ghost use Rattle.surface.specs.laws.Mesh.{AddedUp, MeshCounts};
 
 pub struct Mesh {
     pub vertices: u16,
@@ -64,7 +64,7 @@ fn one_root(t: &[u16], up: &[u16; 512], v: usize) -> u16
 // V.
 fn live_vertices(t: &[u16]) -> u16
     requires { ⌜ Good (now t) ⌝ }
-    ensures { λ n. ⌜ Counted (there? (now (t .entry))) vertices n ⌝ }
+    ensures { λ n. ⌜ AddedUp (there? (now (t .entry))) vertices n ⌝ }
 {
     let mut n: u16 = 0;
     let mut v: usize = 0;
@@ -79,7 +79,7 @@ fn live_vertices(t: &[u16]) -> u16
 // E.
 fn live_edges(t: &[u16]) -> u16
     requires { ⌜ Good (now t) ⌝ }
-    ensures { λ n. ⌜ Counted (λ e. live? (now (t .entry)) (2 * e)) edges n ⌝ }
+    ensures { λ n. ⌜ AddedUp (λ e. live? (now (t .entry)) (2 * e)) edges n ⌝ }
 {
     let mut n: u16 = 0;
     let mut e: usize = 0;
@@ -94,7 +94,7 @@ fn live_edges(t: &[u16]) -> u16
 // The number of parts.
 pub fn roots(t: &[u16], up: &[u16; 512]) -> u16
     requires { ⌜ Keyed (now t) (now up) ⌝ }
-    ensures { λ n. ⌜ Counted (root? (rotation (now (t .entry)))) vertices n ⌝ }
+    ensures { λ n. ⌜ AddedUp (root? (rotation (now (t .entry)))) vertices n ⌝ }
 {
     let mut n: u16 = 0;
     let mut v: usize = 0;

@@ -15,7 +15,7 @@ ghost use Rattle.table.specs.Rotation.{rotation};
 ghost use Rattle.surface.specs.laws.Linking.{Labelled};
 ghost use Rattle.surface.specs.Rows.{flagOf, rowOf, rows};
 ghost use Rattle.surface.specs.laws.Rows.{Written};
-ghost use Rattle.surface.specs.laws.Rowing.{Turn, Turned, Rowing};
+ghost use Rattle.surface.specs.laws.Rowing.{RowReady, RowDone, Rowing};
 
 // 1 if there are none, else 0.
 fn flag(twisted: u16) -> i32
@@ -52,8 +52,8 @@ fn write_root(
     at: usize,
     r: usize,
 ) -> usize
-    requires { ⌜ Turn (now t) (now up) (now vs) (now es) (now fs) (now odd) r at (now out) ⌝ }
-    ensures { λ n. ⌜ Turned (now (t .entry)) r at (now (out .entry)) n (now (out .exit)) ⌝ }
+    requires { ⌜ RowReady (now t) (now up) (now vs) (now es) (now fs) (now odd) r at (now out) ⌝ }
+    ensures { λ n. ⌜ RowDone (now (t .entry)) r at (now (out .entry)) n (now (out .exit)) ⌝ }
 {
     if t[VERTEX + r] == NOTHING {
         return at;

@@ -1,6 +1,5 @@
 -- The empty mesh: no dart, no edge and no vertex is live. It is a good table.
 use Prim.Native.Nat.{ℕ}
-use mathlib.Core.Bool.{Bool, true, false}
 use mathlib.Core.List.{List, _++_}
 use lib.ListN.{length, replicate}
 use lib.Dec.{eqb}

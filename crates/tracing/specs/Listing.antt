@@ -65,13 +65,13 @@ unfoldable pub faceCount : Rotation → ℕ
 faceCount R = length (faces R)
 
 -- "for each walk its number of steps, then 2d+t for each step; an empty walk is 0, then 32,768+v"
-unfoldable pub written : Rotation → ℕ → List ℕ
-written R c =
+unfoldable pub walkText : Rotation → ℕ → List ℕ
+walkText R c =
     elim (ltb c loneAt) [
       | true ↦ let w = walk R (2 * c) in length w ∷ w
       | false ↦ 0 ∷ c ∷ []
     ]
 
--- "A listing is written as 16-bit words"
+-- "A listing is walkText as 16-bit words"
 unfoldable pub listing : Rotation → List ℕ
-listing R = gather (written R) (faces R)
+listing R = gather (walkText R) (faces R)

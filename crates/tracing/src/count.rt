@@ -13,7 +13,7 @@ ghost use Rattle.table.specs.Good.{Good};
 ghost use Rattle.table.specs.Rotation.{rotation};
 ghost use Rattle.tracing.specs.Listing.{faceCount};
 ghost use Rattle.tracing.specs.laws.Stands.{Stands};
-ghost use Rattle.tracing.specs.laws.Size.{Marked, Looked, InRange, Lone, Measured};
+ghost use Rattle.tracing.specs.laws.Size.{Marked, Looked, LookReady, Lone, Measured};
 
 // So many walks, and so many words of their listing.
 pub struct Size {
@@ -41,7 +41,7 @@ pub fn mark_walk(t: &[u16], met: &mut [u8; 2048], s: u16) -> usize
 
 // The walk that starts at dart d, if one does: its corner has not been met. Marks its corners.
 pub fn look(t: &[u16], met: &mut [u8; 2048], d: usize) -> Size
-    requires { ⌜ InRange (now t) (now met) d ⌝ }
+    requires { ⌜ LookReady (now t) (now met) d ⌝ }
     ensures { λ r. ⌜ Looked (now (t .entry)) d (now (met .entry)) r (now (met .exit)) ⌝ }
 {
     if t[EDGE + d / 2] == 0 {

@@ -1,7 +1,7 @@
 -- What the calls answer, and what the call for the letters leaves in the slice, document 01, "When a call declines":
 -- torn, then no such name, then absent, then a slice shorter than "the output's exact size".
 use Prim.Native.Nat.{ℕ, _+_, _*_}
-use mathlib.Core.Bool.{Bool, true, false, _&&_}
+use mathlib.Core.Bool.{_&&_}
 use mathlib.Core.List.{List}
 use lib.Dec.{ltb, leb}
 use lib.ListN.{length}
@@ -10,7 +10,6 @@ use Rattle.table.specs.Rotation.{live?}
 use Rattle.table.specs.Check.{good?}
 use Rattle.table.specs.declared.answer.Answer.{Answer}
 use Rattle.table.specs.declared.answer.Answer.the-variants.{Done, Declined}
-use Rattle.table.specs.declared.answer.Refusal.{Refusal}
 use Rattle.table.specs.declared.answer.Refusal.the-variants.{Torn, NoSuchName, Absent, ShortSlice}
 use Rattle.tracing.specs.Listing.{bit}
 use Rattle.weave.specs.declared.call.Named.{Named}

@@ -4,13 +4,13 @@ use table::layout::DARTS;
 use tracing::count::look;
 ghost use mathlib.Core.Path.{_≡_};
 ghost use Rattle.table.specs.Good.{Good};
-ghost use Rattle.tracing.specs.laws.Size.{InRange};
+ghost use Rattle.tracing.specs.laws.Size.{LookReady};
 ghost use Rattle.weave.specs.Letters.{plain};
 ghost use Rattle.weave.specs.laws.Plain.{Judged};
 
 // Does the ribbon that is listed from dart d on alternate, if there is one. Marks its corners.
 fn alternates_from(t: &[u16], met: &mut [u8; 2048], d: usize) -> bool
-    requires { ⌜ InRange (now t) (now met) d ⌝ }
+    requires { ⌜ LookReady (now t) (now met) d ⌝ }
     ensures { λ r. ⌜ Judged (now (t .entry)) d (now (met .entry)) r (now (met .exit)) ⌝ }
 {
     let found = look(t, met, d);

@@ -9,13 +9,13 @@ ghost use lib.ListN.{length};
 ghost use lib.Seq.{sets};
 ghost use Rattle.tracing.specs.laws.Stands.{Stands};
 ghost use Rattle.weave.specs.Letters.{letters};
-ghost use Rattle.weave.specs.laws.Crossing.{Room, Lettered};
-ghost use Rattle.weave.specs.laws.Passing.{Counted};
+ghost use Rattle.weave.specs.laws.Crossing.{LetterRoom, Lettered};
+ghost use Rattle.weave.specs.laws.Passing.{LetterCount};
 
 // The number of letters of the ribbon through step s.
 pub fn letter_count(t: &[u16], s: u16) -> usize
     requires { ⌜ Stands (now t) s ⌝ }
-    ensures { λ n. ⌜ Counted (now (t .entry)) s n ⌝ }
+    ensures { λ n. ⌜ LetterCount (now (t .entry)) s n ⌝ }
 {
     let mut at = s;
     let mut n: usize = 0;
@@ -31,7 +31,7 @@ pub fn letter_count(t: &[u16], s: u16) -> usize
 
 // The letters of a step of type `kind` on an edge of word w, from index `start` on. The index after them.
 fn write_step(out: &mut [u8], start: usize, w: u16, kind: u16) -> usize
-    requires { ⌜ Room w kind start (length (now out)) ⌝ }
+    requires { ⌜ LetterRoom w kind start (length (now out)) ⌝ }
     ensures { λ r. ⌜ Lettered w kind start (now (out .entry)) r (now (out .exit)) ⌝ }
 {
     let n = crossings(w);

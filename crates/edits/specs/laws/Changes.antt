@@ -29,7 +29,7 @@ use Rattle.edits.specs.Edge.{inserted}
 use Rattle.edits.specs.laws.Deleted.{deleted-without}
 use Rattle.edits.specs.laws.Inserted.{inserted-without, inserted-sits, inserted-own}
 use Rattle.edits.specs.Edits.{written}
-use Rattle.edits.specs.laws.Passed.{add-good, remove-good, insert-good, delete-good, turn-good, turn-live, present-corner}
+use Rattle.edits.specs.laws.WrittenGood.{add-good, remove-good, insert-good, delete-good, turn-good, turn-live, present-corner}
 use Rattle.edits.specs.declared.edit.Edit.{Edit}
 use Rattle.edits.specs.declared.edit.Edit.the-variants.{AddVertex, RemoveVertex, InsertEdge, DeleteEdge, TurnEdge}
 use Rattle.edits.specs.declared.edit.Verdict.the-variants.{Passes}

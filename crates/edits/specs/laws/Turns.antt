@@ -9,7 +9,7 @@ use lib.Signed.{ltZ, mag}
 use mir.Syntax.{w16, w32}
 use mir.Val.{SFits, toZ, ofZ}
 use mir.Facts.{toZ-pos, toZ-ofZ}
-use Rattle.orbits.specs.laws.Truth.{clash, truth, holds, fails}
+use Rattle.orbits.specs.laws.Truth.{clash}
 use Rattle.table.specs.laws.Signed.{difference, below, above, mag-sum}
 use borrow.Author.Tests.{lt-ltb, le-ltb, ltb-true, ltb-false}
 use Rattle.edits.specs.Turns.{turnsIn, overturned, wordFor, turnedWord}
@@ -24,13 +24,13 @@ overturned-high (pos n) e = e
 overturned-high (negsuc n) e = absurd (clash e refl)
 
 -- turns in range: their word is from 1 to 199, and their sum with 100 is not negative
-pub record InRange (z : ℤ) : Type 0 where
+pub record FewTurns (z : ℤ) : Type 0 where
   pub few : overturned z ≡ false
   pub plus-hundred : z +ℤ pos 100 ≡ pos (wordFor z)
   pub some : 1 ≤ wordFor z
   pub most : wordFor z ≤ 199
 
-pub in-range : (z : ℤ) → ltZ z (negsuc 98) ≡ false → ltZ (pos 99) z ≡ false → InRange z
+pub in-range : (z : ℤ) → ltZ z (negsuc 98) ≡ false → ltZ (pos 99) z ≡ false → FewTurns z
 in-range (pos n) e f =
     let h = ltb-false 99 n f in
     record { few = f; plus-hundred = refl; some = omega arith; most = omega arith }
@@ -47,7 +47,7 @@ in-range (negsuc n) e f =
     ]
 
 -- the same, from the definition
-pub few-range : (z : ℤ) → overturned z ≡ false → InRange z
+pub few-range : (z : ℤ) → overturned z ≡ false → FewTurns z
 few-range (pos n) e = in-range (pos n) refl e
 few-range (negsuc n) e = let h = ltb-false 99 (suc n) e in in-range (negsuc n) (le-ltb 98 n (omega arith)) refl
 
@@ -76,10 +76,10 @@ module _ (w : ℕ) (a : ℤ) (h : w < 2 ^ 16) (l : mag a < 2 ^ 15) where
   settle f = ap (λ z. toZ w32 (ofZ w32 z)) (ap₂ _+ℤ_ settle-word (settle-amount f)) ∙ toZ-ofZ {w = w32} sum-fits
 
 -- a hundred more fits, too
-pub hundred-fits : (z : ℤ) → InRange z → SFits w32 (z +ℤ pos 100)
+pub hundred-fits : (z : ℤ) → FewTurns z → SFits w32 (z +ℤ pos 100)
 hundred-fits z r = rw (r .plus-hundred) (record { sfits = let m = r .most in omega arith })
 
-pub settle-hundred : (y z : ℤ) → y ≡ z → InRange z → toZ w32 (ofZ w32 (y +ℤ pos 100)) ≡ pos (wordFor z)
+pub settle-hundred : (y z : ℤ) → y ≡ z → FewTurns z → toZ w32 (ofZ w32 (y +ℤ pos 100)) ≡ pos (wordFor z)
 settle-hundred y z e r = ap (λ x. toZ w32 (ofZ w32 (x +ℤ pos 100))) e ∙ toZ-ofZ {w = w32} (hundred-fits z r) ∙ r .plus-hundred
 
 -- the word of turns that pass 99, and of those that do not
@@ -89,19 +89,6 @@ module _ (w : ℕ) (a : ℤ) where
 
   pub word-in : overturned (turnsIn w +ℤ a) ≡ false → wordFor (turnsIn w +ℤ a) ≡ turnedWord w a
   word-in e = sym (ap (λ b. cond b 0 (wordFor (turnsIn w +ℤ a))) e)
-
-  -- a word of 0 says that the turns pass 99
-  pub zero-over : turnedWord w a ≡ 0 → overturned (turnsIn w +ℤ a) ≡ true
-  zero-over z = elim (truth (overturned (turnsIn w +ℤ a))) [
-    | holds e ↦ e
-    | fails e ↦ let s = few-range (turnsIn w +ℤ a) e .some in let q = word-in e ∙ z in absurd (omega (arith, s, q))
-  ]
-
-  pub some-few : turnedWord w a ≢ 0 → overturned (turnsIn w +ℤ a) ≡ false
-  some-few n = elim (truth (overturned (turnsIn w +ℤ a))) [
-    | holds e ↦ absurd (n (sym (word-over e)))
-    | fails e ↦ e
-  ]
 
   pub few-word : overturned (turnsIn w +ℤ a) ≡ false → turnedWord w a ≢ 0
   few-word e z = let s = few-range (turnsIn w +ℤ a) e .some in let q = word-in e ∙ z in omega (arith, s, q)

@@ -1,4 +1,4 @@
--- What a verdict tells: two lists of tests, one after the other, and what is known where an edit goes through.
+-- What a verdict tells: two lists of tests, one after the other, and what is known where an edit goes let-through.
 use Prim.Native.Nat.{ℕ, _<_}
 use native.Mathlib.Omega.{arith}
 use mathlib.Core.Path.{_≡_, refl, sym, _∙_, ap}
@@ -20,7 +20,7 @@ use Rattle.table.specs.Answers.{unless}
 use Rattle.table.specs.laws.Rotation.{case-yes}
 use Rattle.table.specs.laws.Check.{good-case}
 use Rattle.table.specs.laws.Lawful.{good-lawful}
-use Rattle.table.specs.laws.Answers.{through}
+use Rattle.table.specs.laws.Answers.{let-through}
 use Rattle.table.specs.declared.answer.Refusal.{Refusal}
 use Rattle.table.specs.declared.answer.Refusal.the-variants.{Overturned}
 use Rattle.tracing.specs.Corner.{present, Present, wellFormed}
@@ -54,7 +54,7 @@ then-through : (a b : Verdict) → andThen a b ≡ Passes → (a ≡ Passes) × 
 then-through Passes b e = (refl, e)
 then-through (Declines r) b e = absurd (never e)
 
--- what the tests on names tell where they let an edit through
+-- what the tests on names tell where they let an edit let-through
 
 pub record MayAdd (t : List ℕ) (v : ℕ) : Type 0 where
   pub good : Good t
@@ -68,8 +68,8 @@ pub record VertexThere (t : List ℕ) (v : ℕ) : Type 0 where
 pub vertex-there : (t : List ℕ) (v : ℕ) → oldVertex t v ≡ Passes → VertexThere t v
 unfolding oldVertex
 vertex-there t v p =
-    let a = through (good? t) never p in
-    let b = through (ltb v vertices) never (a .rest) in
+    let a = let-through (good? t) never p in
+    let b = let-through (ltb v vertices) never (a .rest) in
     record { good = was-good t (a .held); low = ltb-true v vertices (b .held) }
 
 pub record MayRemove (t : List ℕ) (v : ℕ) : Type 0 where
@@ -93,9 +93,9 @@ pub record MayDelete (t : List ℕ) (e : ℕ) : Type 0 where
 pub edge-there : (t : List ℕ) (e : ℕ) → oldEdge t e ≡ Passes → MayDelete t e
 unfolding oldEdge
 edge-there t e p =
-    let a = through (good? t) never p in
-    let b = through (ltb e edges) never (a .rest) in
-    let c = through (edgeThere t e) never (b .rest) in
+    let a = let-through (good? t) never p in
+    let b = let-through (ltb e edges) never (a .rest) in
+    let c = let-through (edgeThere t e) never (b .rest) in
     record { good = was-good t (a .held); low = ltb-true e edges (b .held); there = eqb-false (edgeWord t e) 0 (not-true _ (c .held)) }
 
 pub record MayTurn (t : List ℕ) (e : ℕ) (a : ℤ) : Type 0 where
@@ -104,14 +104,14 @@ pub record MayTurn (t : List ℕ) (e : ℕ) (a : ℤ) : Type 0 where
   pub there : edgeWord t e ≢ 0
   pub few : overturned (turnsIn (edgeWord t e) +ℤ a) ≡ false
 
--- what is known where an edit goes through
+-- what is known where an edit goes let-through
 module _ (t : List ℕ) where
   pub may-add : (v : ℕ) → verdict t (AddVertex v) ≡ Passes → MayAdd t v
   unfolding newVertex
   may-add v p =
-      let a = through (good? t) never (then-through (newVertex t v) Passes p .0) in
-      let b = through (ltb v vertices) never (a .rest) in
-      let c = through (not (vertexThere t v)) never (b .rest) in
+      let a = let-through (good? t) never (then-through (newVertex t v) Passes p .0) in
+      let b = let-through (ltb v vertices) never (a .rest) in
+      let c = let-through (not (vertexThere t v)) never (b .rest) in
       record {
         good = was-good t (a .held);
         low = ltb-true v vertices (b .held);
@@ -122,17 +122,17 @@ module _ (t : List ℕ) where
   may-remove v p =
       let q = then-through (oldVertex t v) _ p in
       let there = vertex-there t v (q .0) in
-      record { good = there .good; low = there .low; alone = eqb-true (vertexWord t v) isolated (through (eqb (vertexWord t v) isolated) never (q .1) .held) }
+      record { good = there .good; low = there .low; alone = eqb-true (vertexWord t v) isolated (let-through (eqb (vertexWord t v) isolated) never (q .1) .held) }
 
   pub may-insert : (e c₁ c₂ : ℕ) (k : ℤ) → verdict t (InsertEdge e c₁ c₂ k) ≡ Passes → MayInsert t e c₁ c₂ k
   unfolding newEdge
   may-insert e c₁ c₂ k p =
       let q = then-through (newEdge t e c₁ c₂) (fewTurns k) p in
-      let a = through (good? t) never (q .0) in
-      let b = through _ never (a .rest) in
-      let c = through (not (edgeThere t e)) never (b .rest) in
-      let d = through (present (rotation t) c₁ && present (rotation t) c₂) never (c .rest) in
-      let f = through (not (overturned k)) never (q .1) in
+      let a = let-through (good? t) never (q .0) in
+      let b = let-through _ never (a .rest) in
+      let c = let-through (not (edgeThere t e)) never (b .rest) in
+      let d = let-through (present (rotation t) c₁ && present (rotation t) c₂) never (c .rest) in
+      let f = let-through (not (overturned k)) never (q .1) in
       let g = was-good t (a .held) in
       let there = present-means (rotation t) (good-lawful t g) in
       record {
@@ -155,7 +155,7 @@ module _ (t : List ℕ) where
         good = there .good;
         low = there .low;
         there = there .there;
-        few = not-true _ (through (not (overturned (turnsIn (edgeWord t e) +ℤ a))) never (q .1) .held);
+        few = not-true _ (let-through (not (overturned (turnsIn (edgeWord t e) +ℤ a))) never (q .1) .held);
       }
 
 -- the word of 0 that the code makes for turns past 99

@@ -13,16 +13,10 @@ use Prim.Native.Nat.{ℕ, zero, _+_, _<_, _≤_}
 use native.Mathlib.Decide.{ℕ-discrete, decLt}
 use native.Mathlib.Omega.{arith}
 use borrow.Author.Tests.{eq-eqb, eqb-true}
-use Rattle.orbits.specs.laws.Truth.{truth, holds, fails, clash, both, both-left, both-right, false-unless, First, first, found, none}
+use Rattle.orbits.specs.laws.Truth.{clash, both, both-left, both-right, false-unless, First, first, found, none}
 use Rattle.orbits.specs.Count.{count, Partner}
 use Rattle.orbits.specs.laws.Count.{count-same, count-none, count-all, none-counted, count-some, count-split, count-fewer, count-onto}
 use Rattle.orbits.specs.Classes.{Partition, least, head, classes}
-
-pub partition-dec : {N : ℕ} {R : ℕ → ℕ → Type 0} {r : ℕ → ℕ → Bool} → Partition N R r → (i j : ℕ) → i < N → j < N → Dec (R i j)
-partition-dec {N} {R} {r} P i j h l = elim (truth (r i j)) [
-  | holds t ↦ yes (P .means i j h l t)
-  | fails t ↦ no (λ q. clash (P .says i j h l q) t)
-]
 
 pub least-means : {N : ℕ} {R : ℕ → ℕ → Type 0} {r : ℕ → ℕ → Bool} → Partition N R r → (i j : ℕ) → i < N → least r i ≡ true → j < i → ¬ R i j
 unfolding least

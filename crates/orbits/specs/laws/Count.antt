@@ -4,7 +4,7 @@
 --     count-split, count-sum     a test in two exclusive parts; a range in two pieces.       count-short    nothing past n passes
 --     count-into                 an injective relation from one counted set into another: the first has no more members
 --     count-onto                 the same both ways: as many.       count-bijection    by two maps that undo each other
-use mathlib.Core.Path.{_≡_, refl, sym, _∙_, ap}
+use mathlib.Core.Path.{_≡_, refl, sym, _∙_}
 use mathlib.Core.Logic.{_≢_}
 use mathlib.Core.Bool.{Bool, true, false, not, _&&_, _||_, and-true, and-false, Bool-discrete}
 use Prim.Native.Nat.{ℕ, zero, suc, _+_, _<_, _≤_}
@@ -93,18 +93,18 @@ count-some p n i h t =
     omega arith
 
 -- a number below n that passes
-pub record Passes (p : ℕ → Bool) (n : ℕ) : Type 0 where
+pub record PassesAt (p : ℕ → Bool) (n : ℕ) : Type 0 where
   pub at : ℕ
   pub low : at < n
   pub pass : p at ≡ true
 
-pub count-find : (p : ℕ → Bool) (n : ℕ) → zero < count p n → Passes p n
+pub count-find : (p : ℕ → Bool) (n : ℕ) → zero < count p n → PassesAt p n
 count-find p n h = found-in (first (λ i. p i ≡ true) (λ i. Bool-discrete (p i) true) n)
   where
     positive : count p n ≡ zero → ⊥
     positive z = omega arith
 
-    found-in : First (λ i. p i ≡ true) n → Passes p n
+    found-in : First (λ i. p i ≡ true) n → PassesAt p n
     found-in (found k l t least) = record { at = k; low = l; pass = t }
     found-in (none out) = absurd (positive (count-none p n (λ i l. false-unless (p i) (out i l))))
 
@@ -194,14 +194,3 @@ pub count-onto : (G : ℕ → ℕ → Type 0) (p q : ℕ → Bool) (n m : ℕ)
     → ((i j k : ℕ) → i < m → j < m → k < n → q i ≡ true → q j ≡ true → p k ≡ true → G k i → G k j → i ≡ j)
     → count p n ≡ count q m
 count-onto G p q n m total onto inj single = le-antisymm (count-into G p q n m total inj) (count-into (λ j i. G i j) q p m n onto single)
-
-pub count-bijection : (φ ψ : ℕ → ℕ) (p q : ℕ → Bool) (n m : ℕ)
-    → ((i : ℕ) → i < n → p i ≡ true → (φ i < m) × (q (φ i) ≡ true) × (ψ (φ i) ≡ i))
-    → ((j : ℕ) → j < m → q j ≡ true → (ψ j < n) × (p (ψ j) ≡ true) × (φ (ψ j) ≡ j))
-    → count p n ≡ count q m
-count-bijection φ ψ p q n m there back =
-    count-onto (λ i j. φ i ≡ j) p q n m
-    (λ i h t. let c = there i h t in record { to = φ i; low = c .0; pass = c .1; pair = refl })
-    (λ j h t. let c = back j h t in record { to = ψ j; low = c .0; pass = c .1; pair = c .2 })
-    (λ i j k h l b s t w e g. sym (there i h s .2) ∙ ap ψ (e ∙ sym g) ∙ there j l t .2)
-    (λ i j k h l b s t w e g. sym e ∙ g)

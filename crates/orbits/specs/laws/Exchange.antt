@@ -12,7 +12,7 @@ use Rattle.orbits.specs.Iterate.{Inj}
 use Rattle.orbits.specs.Reach.{Reach}
 use Rattle.orbits.specs.laws.Reach.{reach-here, reach-step, reach-one, reach-trans, reach-sym, reach-low, reach-ind, reach-back}
 use Rattle.orbits.specs.Exchange.{tr, exch}
-use Rattle.orbits.specs.laws.Swap.{tr-left, tr-right, tr-off, tr-twice, tr-inj, tr-swap, tr-keeps, place, at-left, at-right, off}
+use Rattle.orbits.specs.laws.Swap.{tr-left, tr-right, tr-off, tr-twice, tr-inj, tr-swap, tr-keeps, position, at-left, at-right, off}
 use Rattle.orbits.specs.laws.Merge.{Join, inside, across, back, Merge, join-then, join-tr}
 use Rattle.orbits.specs.Orbits.{orbits, World, On}
 use Rattle.orbits.specs.laws.Orbits.{reach-partition, merge-orbits}
@@ -51,7 +51,7 @@ pub exch-world : {N : ℕ} {f : ℕ → ℕ} {live : ℕ → Bool} {x y : ℕ} �
 unfolding exch
 exch-world {N} {f} {live} {x} {y} W a b = record {
   perm = exch-inj (W .perm) (a .lt) (b .lt);
-  inv = λ i m. elim (place x y i) [
+  inv = λ i m. elim (position x y i) [
     | at-left e ↦ rw (e, tr-left x y) (W .inv y (b .lt) ∙ b .on ∙ sym (a .on))
     | at-right e ↦ rw (e, tr-right x y) (W .inv x (a .lt) ∙ a .on ∙ sym (b .on))
     | off d e ↦ rw (tr-off x y i d e) (W .inv i m)
@@ -73,7 +73,7 @@ meets {N} {f} I {x} {y} h apart =
     (inr (rw (← (exch-right f x y)) (reach-one y)))
     (λ k s t. elim t [
       | inl m ↦ inl m
-      | inr m ↦ elim (place x y k) [
+      | inr m ↦ elim (position x y k) [
         | at-left e ↦ inl (rw e at m)
         | at-right e ↦ absurd (apart (reach-trans (reach-one x) (rw e at s)))
         | off d e ↦ inr (rw (← (exch-off f x y k d e)) (reach-step m))
@@ -105,7 +105,7 @@ exch-joins {N} {f} I {x} {y} h l apart = record {
     keep : {i j : ℕ} → Reach f i j → Reach (exch f x y) i j
     keep {i} {j} r =
         reach-ind f (Reach (exch f x y) i) i reach-here
-        (λ k s t. elim (place x y k) [
+        (λ k s t. elim (position x y k) [
           | at-left e ↦ rw (e, ← (exch-right f x y)) (reach-step (reach-trans (rw e at t) xy))
           | at-right e ↦ rw (e, ← (exch-left f x y)) (reach-step (reach-trans (rw e at t) yx))
           | off d e ↦ rw (← (exch-off f x y k d e)) (reach-step t)

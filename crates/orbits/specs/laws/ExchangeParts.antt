@@ -4,18 +4,17 @@
 --     exch-parts       the orbits of f are those of the exchange, with those of x and y joined
 --     exch-more        there is one orbit more
 use mathlib.Core.Path.{_≡_, sym, _∙_, ap}
-use mathlib.Core.Logic.{_≢_, _↔_}
+use mathlib.Core.Logic.{_≢_}
 use mathlib.Core.Bool.{Bool}
-use Prim.Native.Nat.{ℕ, zero, suc, _-_, _+_, _<_, _≤_}
-use native.Mathlib.Nat.{lt-irrefl}
+use Prim.Native.Nat.{ℕ, zero, suc, _-_, _+_, _<_}
 use native.Mathlib.Decide.{ℕ-discrete, decLt}
 use native.Mathlib.Omega.{arith}
 use Rattle.orbits.specs.laws.Truth.{First, found, none}
 use Rattle.orbits.specs.Iterate.{iter, Inj}
 use Rattle.orbits.specs.laws.Iterate.{iter-zero, iter-suc, iter-add, meeting}
 use Rattle.orbits.specs.Reach.{Reach}
-use Rattle.orbits.specs.laws.Reach.{reach-step, reach-one, reach-sym, reach-ind}
-use Rattle.orbits.specs.laws.Swap.{Place, place, at-left, at-right, off}
+use Rattle.orbits.specs.laws.Reach.{reach-sym, reach-ind}
+use Rattle.orbits.specs.laws.Swap.{Position, position, at-left, at-right, off}
 use Rattle.orbits.specs.laws.Merge.{Merge}
 use Rattle.orbits.specs.Orbits.{orbits, World, On}
 use Rattle.orbits.specs.laws.Orbits.{merge-orbits}
@@ -65,9 +64,9 @@ arc-start {f} {x} {y} d r a = by (arc-end d r)
 
 module _ {f : ℕ → ℕ} {x y : ℕ} (d : x ≢ y) (r : Reach f x y) where
   reach-arc : (j : ℕ) → Reach (exch f x y) y j → Arc f x y j
-  reach-arc j t = reach-ind (exch f x y) (Arc f x y) y (arc-end d r) (λ k s a. step k a (place x y k)) j t
+  reach-arc j t = reach-ind (exch f x y) (Arc f x y) y (arc-end d r) (λ k s a. step k a (position x y k)) j t
     where
-      step : (k : ℕ) → Arc f x y k → Place x y k → Arc f x y (exch f x y k)
+      step : (k : ℕ) → Arc f x y k → Position x y k → Arc f x y (exch f x y k)
       step k a (at-left e) = absurd (arc-start d r (rw e at a))
       step k a (at-right e) = rw (e, exch-right f x y) (record {
         steps = 1;
@@ -87,25 +86,6 @@ module _ {f : ℕ → ℕ} {x y : ℕ} (d : x ≢ y) (r : Reach f x y) where
           | no e ↦ a .clear j pos (omega arith)
         ];
       })
-
-  arc-reach : (j : ℕ) → Arc f x y j → Reach (exch f x y) y j
-  arc-reach j a = reached (a .steps) (omega (arith, a .some)) (omega arith) (a .lands)
-    where
-      start : (k : ℕ) → suc k < a .steps → iter f (suc k) x ≢ x
-      start k l e = arc-start d r (record { steps = suc k; some = omega arith; lands = e; clear = λ j pos m. a .clear j pos (omega arith) })
-
-      along : (k : ℕ) → k < a .steps → Reach (exch f x y) y (iter f (suc k) x)
-      along zero l = rw (iter-suc f 0 x, iter-zero f x, ← (exch-right f x y)) (reach-one y)
-      along (suc k) l =
-          rw (iter-suc f (suc k) x, ← (exch-off f x y (iter f (suc k) x) (start k l) (a .clear (suc k) (omega arith) l)))
-          (reach-step (along k (omega arith)))
-
-      reached : (k : ℕ) → zero < k → k ≤ a .steps → iter f k x ≡ j → Reach (exch f x y) y j
-      reached zero pos l e = absurd (lt-irrefl 0 pos)
-      reached (suc k) pos l e = rw e at (along k l)
-
-  pub exch-arc : (j : ℕ) → Reach (exch f x y) y j ↔ Arc f x y j
-  exch-arc j = (reach-arc j, arc-reach j)
 
 pub exch-parts : {N : ℕ} {f : ℕ → ℕ} → Inj N f → {x y : ℕ} → x < N → y < N → x ≢ y → Reach f x y → Merge N (Reach (exch f x y)) (Reach f) x y
 exch-parts {N} {f} I {x} {y} h l d r =

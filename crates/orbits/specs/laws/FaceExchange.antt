@@ -1,7 +1,7 @@
--- The mirrored exchange, in terms of faces: an orbit and its mirror count as one.
+-- The mirrored exchange, in terms of faceClasses: an orbit and its mirror count as one.
 --     faces-less, exch2-joins      y on another face than x: one face less, and it is the two joined
 --     faces-more, exch2-parts      y on the orbit of x, and not x: one face more, and the two joined are the old one
---     faces-same, exch2-keeps      y on the mirror of the orbit of x: as many faces, with the same members
+--     faces-same, exch2-keeps      y on the mirror of the orbit of x: as many faceClasses, with the same members
 use mathlib.Core.Path.{_≡_, _∙_, ap}
 use mathlib.Core.Logic.{_≢_, _↔_, Iff·rfl}
 use mathlib.Core.Bool.{Bool}
@@ -19,13 +19,13 @@ use Rattle.orbits.specs.laws.Exchange.{exch-joins}
 use Rattle.orbits.specs.laws.ExchangeParts.{exch-parts}
 use Rattle.orbits.specs.Mirror.{Mirror}
 use Rattle.orbits.specs.laws.Mirror.{mirror-world, opposite-low, opposite-reach, no-self}
-use Rattle.orbits.specs.Faces.{Face, along, mirrored, faced, faces}
+use Rattle.orbits.specs.Faces.{Face, along, mirrored, faced, faceClasses}
 use Rattle.orbits.specs.laws.Faces.{face-flip, face-partition, orbits-pair}
 use Rattle.orbits.specs.laws.MirrorExchange.{exch2-at, exch2-world, exch2-mirror, exch2-back, exch2-left, exch2-right, exch2-undo, tr2-low, exch2-less, exch2-more, exch2-same, less-joins, more-parts, same-parts, mirror-apart}
 
 module _ {N : ℕ} {f m : ℕ → ℕ} {live : ℕ → Bool} (E : Mirror N f m live) {x y : ℕ} (a : On N live x) (b : On N live y) where
-  -- The faces after it. In all cases a step of the new map stays inside the old faces with those of x and y joined,
-  -- and a step of the old map inside the new faces, with those of x and y joined.
+  -- The faceClasses after it. In all cases a step of the new map stays inside the old faceClasses with those of x and y joined,
+  -- and a step of the old map inside the new faceClasses, with those of x and y joined.
   opposite-face : {i : ℕ} → i < N → Face f m i (m (f i))
   opposite-face {i} h = mirrored (rw (E .twice (f i) (E .fwd i h)) (reach-one i))
 
@@ -116,7 +116,7 @@ module _ {N : ℕ} {f m : ℕ → ℕ} {live : ℕ → Bool} (E : Mirror N f m l
         kept : (i j : ℕ) → i < N → j < N → Face f m i j → Face (exch2 f m x y) m i j
         kept i j h l q = join-flat P (a .lt) (b .lt) h l meet (exch2-outside c i j h l q)
 
-    pub faces-less : faces f m N live ≡ suc (faces (exch2 f m x y) m N live)
+    pub faces-less : faceClasses f m N live ≡ suc (faceClasses (exch2 f m x y) m N live)
     faces-less = omega (arith, orbits-pair E, orbits-pair (exch2-mirror E a b), exch2-less E a b apart mapart)
 
   module _ (d : x ≢ y) (r : Reach f x y) where
@@ -147,7 +147,7 @@ module _ {N : ℕ} {f m : ℕ → ℕ} {live : ℕ → Bool} (E : Mirror N f m l
             let old : Reach f x (m y) = exch-parts I (a .lt) (b .lt) d r .onto x (m y) (a .lt) low (inside (first (a .lt) low s)) in
             no-self E b (reach-trans (reach-sym I (a .lt) r) old)
 
-    pub faces-more : faces (exch2 f m x y) m N live ≡ suc (faces f m N live)
+    pub faces-more : faceClasses (exch2 f m x y) m N live ≡ suc (faceClasses f m N live)
     faces-more = omega (arith, orbits-pair E, orbits-pair (exch2-mirror E a b), exch2-more E a b d r)
 
   module _ (r : Reach f x (m y)) where
@@ -177,5 +177,5 @@ module _ {N : ℕ} {f m : ℕ → ℕ} {live : ℕ → Bool} (E : Mirror N f m l
                 face-flip G (b .lt) (a .lt) (mirrored (reach-trans (reach-sym (exch2-world E a b .perm) (opposite-low E (b .lt)) q) (side c)))
             by (back p q) = absurd (no-self G a (reach-trans p (side c)))
 
-    pub faces-same : faces (exch2 f m x y) m N live ≡ faces f m N live
+    pub faces-same : faceClasses (exch2 f m x y) m N live ≡ faceClasses f m N live
     faces-same = omega (arith, orbits-pair E, orbits-pair (exch2-mirror E a b), exch2-same E a b r)

@@ -1,12 +1,12 @@
--- A face is an orbit with its mirror image. No orbit is its own mirror, so there are half as many faces as orbits.
---     Face, faced, faces     on one orbit or on mirror orbits; the test; how many live classes
+-- A face is an orbit with its mirror image. No orbit is its own mirror, so there are half as many faceClasses as orbits.
+--     Face, faced, faceClasses     on one orbit or on mirror orbits; the test; how many live classes
 --     orbits-pair            twice as many orbits
 --     faces-live, faces-split     equal live sets; a live set in two exclusive parts
 --     faces-none, faces-some, faces-one     no live number; some live number; all live numbers on one face
---     reps-faces             one number for each live face: as many as there are faces
+--     reps-faces             one number for each live face: as many as there are faceClasses
 use mathlib.Core.Path.{_≡_, sym, _∙_, ap, subst}
 use mathlib.Core.Bool.{Bool, true, false, not, _&&_, _||_, true-or, or-true, false-or}
-use Prim.Native.Nat.{ℕ, zero, _+_, _*_, _<_}
+use Prim.Native.Nat.{ℕ, _+_, _*_, _<_}
 use native.Mathlib.Omega.{arith}
 use borrow.Author.Tests.{not-true}
 use Rattle.orbits.specs.laws.Truth.{Truth, truth, holds, fails, clash, both, both-left, both-right, same-truth, false-unless}
@@ -15,12 +15,12 @@ use Rattle.orbits.specs.laws.Count.{count-same, count-part}
 use Rattle.orbits.specs.Reach.{Reach, reaches}
 use Rattle.orbits.specs.laws.Reach.{reach-here, reach-trans, reach-sym, reach-says, says-reach}
 use Rattle.orbits.specs.Classes.{Partition, least, head, classes}
-use Rattle.orbits.specs.laws.Classes.{Keeps, classes-same, classes-split, classes-none, classes-some, classes-one, Least, least-of, least-one, least-means, least-says, head-live, head-least, head-says, Reps, reps-count}
+use Rattle.orbits.specs.laws.Classes.{Keeps, classes-same, classes-split, Least, least-of, least-one, least-means, least-says, head-live, head-least, head-says, Reps, reps-count}
 use Rattle.orbits.specs.Orbits.{orbits, On}
 use Rattle.orbits.specs.laws.Orbits.{reach-partition, reach-live, reach-on}
 use Rattle.orbits.specs.Mirror.{Mirror}
 use Rattle.orbits.specs.laws.Mirror.{mirror-world, mirror-on, reach-mirror, mirror-reach, no-self}
-use Rattle.orbits.specs.Faces.{Face, along, mirrored, faced, faces}
+use Rattle.orbits.specs.Faces.{Face, along, mirrored, faced, faceClasses}
 
 module _ {N : ℕ} {f m : ℕ → ℕ} {live : ℕ → Bool} (E : Mirror N f m live) where
   pub face-flip : {i j : ℕ} → i < N → j < N → Face f m i j → Face f m j i
@@ -131,8 +131,8 @@ module _ {N : ℕ} {f m : ℕ → ℕ} {live : ℕ → Bool} (E : Mirror N f m l
         (reach-trans here (reach-sym I l there));
   }
 
-  pub orbits-pair : orbits f N live ≡ 2 * faces f m N live
-  unfolding orbits faces classes other
+  pub orbits-pair : orbits f N live ≡ 2 * faceClasses f m N live
+  unfolding orbits faceClasses classes other
   orbits-pair = omega (arith, count-part (head (reaches f N) live) (least (faced f m N)) N, one, two)
     where
       one : count (λ i. head (reaches f N) live i && least (faced f m N) i) N ≡ count (head (faced f m N) live) N
@@ -142,30 +142,16 @@ module _ {N : ℕ} {f m : ℕ → ℕ} {live : ℕ → Bool} (E : Mirror N f m l
       two = reps-count face-partition face-keeps other-reps
 
 pub reps-faces : {M N : ℕ} {f m : ℕ → ℕ} {t live : ℕ → Bool} {φ : ℕ → ℕ} → Mirror N f m live → Reps M N (Face f m) t live φ
-    → count t M ≡ faces f m N live
-unfolding faces
+    → count t M ≡ faceClasses f m N live
+unfolding faceClasses
 reps-faces E S = reps-count (face-partition E) (face-keeps E) S
 
 -- another live set: an equal one, or one in two exclusive parts
-pub faces-live : (f m : ℕ → ℕ) (N : ℕ) (live on : ℕ → Bool) → ((i : ℕ) → i < N → live i ≡ on i) → faces f m N live ≡ faces f m N on
-unfolding faces
+pub faces-live : (f m : ℕ → ℕ) (N : ℕ) (live on : ℕ → Bool) → ((i : ℕ) → i < N → live i ≡ on i) → faceClasses f m N live ≡ faceClasses f m N on
+unfolding faceClasses
 faces-live f m N = classes-same (faced f m N) N
 
 pub faces-split : (f m : ℕ → ℕ) (N : ℕ) (live a b : ℕ → Bool) → ((i : ℕ) → i < N → live i ≡ (a i || b i))
-    → ((i : ℕ) → i < N → a i ≡ true → b i ≡ true → ⊥) → faces f m N live ≡ faces f m N a + faces f m N b
-unfolding faces
+    → ((i : ℕ) → i < N → a i ≡ true → b i ≡ true → ⊥) → faceClasses f m N live ≡ faceClasses f m N a + faceClasses f m N b
+unfolding faceClasses
 faces-split f m N = classes-split (faced f m N) N
-
--- no live number, no face; a live number, a face; all live numbers on one face, one
-pub faces-none : (f m : ℕ → ℕ) (N : ℕ) (live : ℕ → Bool) → ((i : ℕ) → i < N → live i ≡ false) → faces f m N live ≡ zero
-unfolding faces
-faces-none f m N = classes-none (faced f m N) N
-
-pub faces-some : {N : ℕ} {f m : ℕ → ℕ} {live : ℕ → Bool} → Mirror N f m live → {x : ℕ} → On N live x → zero < faces f m N live
-unfolding faces
-faces-some E o = classes-some (face-partition E) (face-keeps E) (o .lt) (o .on)
-
-pub faces-one : {N : ℕ} {f m : ℕ → ℕ} {live : ℕ → Bool} → Mirror N f m live → {x : ℕ} → On N live x → ((i : ℕ) → On N live i → Face f m i x)
-    → faces f m N live ≡ 1
-unfolding faces
-faces-one E o all = classes-one (face-partition E) (face-keeps E) (o .lt) (o .on) (λ i h t. all i (record { lt = h; on = t }))

@@ -3,8 +3,8 @@
 -- orbits, and as many.
 --     Skip             j is the first marked number after i
 --     Follows          g follows f under φ
---     reach-follow     i and j are on one orbit of g exactly if φ i and φ j are on one of f;     face-follow    the same for faces
---     orbits-follow    as many orbits;     faces-follow    as many faces
+--     reach-follow     i and j are on one orbit of g exactly if φ i and φ j are on one of f;     face-follow    the same for faceClasses
+--     orbits-follow    as many orbits;     faces-follow    as many faceClasses
 --     orbits-agree, faces-agree     for maps that agree on live numbers;     reach-agree    one way, with less asked
 use mathlib.Core.Path.{_≡_, refl, sym}
 use mathlib.Core.Logic.{_↔_}
@@ -19,7 +19,7 @@ use Rattle.orbits.specs.Orbits.{orbits, World, On}
 use Rattle.orbits.specs.laws.Orbits.{reach-partition, reach-on, world-keeps}
 use Rattle.orbits.specs.Mirror.{Mirror}
 use Rattle.orbits.specs.laws.Mirror.{mirror-world}
-use Rattle.orbits.specs.Faces.{Face, along, mirrored, faces}
+use Rattle.orbits.specs.Faces.{Face, along, mirrored, faceClasses}
 use Rattle.orbits.specs.laws.Faces.{orbits-pair}
 use Rattle.orbits.specs.Follow.{Skip, land, pass, Follows}
 
@@ -78,12 +78,8 @@ module _ {M N : ℕ} {g f : ℕ → ℕ} {on live marked : ℕ → Bool} {φ : �
           mirrored (reach-follow o (keep j p) .1 (reach-trans r (reach-sym (W .perm) (S .lives (n j) (keep j p) .lt) (near j p))))
 
 pub faces-follow : {M N : ℕ} {g n f m : ℕ → ℕ} {on live marked : ℕ → Bool} {φ : ℕ → ℕ} → Mirror M g n on → Mirror N f m live
-    → Follows M N g f on live marked φ → faces g n M on ≡ faces f m N live
+    → Follows M N g f on live marked φ → faceClasses g n M on ≡ faceClasses f m N live
 faces-follow G E S = omega (arith, orbits-pair G, orbits-pair E, orbits-follow (mirror-world G) (mirror-world E) S)
-
-pub reach-agree : {N : ℕ} {f g : ℕ → ℕ} {live : ℕ → Bool} → World N f live → ((i : ℕ) → On N live i → f i ≡ g i)
-    → {i j : ℕ} → On N live i → Reach f i j → Reach g i j
-reach-agree {N} {f} {g} W e {i} {j} o r = reach-ind f (Reach g i) i reach-here (λ k s q. rw (e k (reach-on W o s)) (reach-step q)) j r
 
 -- maps that agree on live numbers follow one another
 pub agree-follows : {N : ℕ} {f g : ℕ → ℕ} {live : ℕ → Bool} → World N f live → ((i : ℕ) → On N live i → f i ≡ g i)
@@ -96,10 +92,6 @@ agree-follows {N} {f} {g} {live} W e = record {
   meet = λ i o. record { to = i; low = o .lt; pass = o .on; pair = reach-here };
 }
 
-pub orbits-agree : {N : ℕ} {f g : ℕ → ℕ} {live : ℕ → Bool} → World N f live → World N g live → ((i : ℕ) → On N live i → f i ≡ g i)
-    → orbits f N live ≡ orbits g N live
-orbits-agree W U e = orbits-follow W U (agree-follows W e)
-
 pub faces-agree : {N : ℕ} {f m g n : ℕ → ℕ} {live : ℕ → Bool} → Mirror N f m live → Mirror N g n live → ((i : ℕ) → On N live i → f i ≡ g i)
-    → faces f m N live ≡ faces g n N live
+    → faceClasses f m N live ≡ faceClasses g n N live
 faces-agree E G e = faces-follow E G (agree-follows (mirror-world E) e)

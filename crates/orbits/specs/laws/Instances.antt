@@ -1,5 +1,5 @@
--- Small cases, computed. Four numbers, none of which moves, with the mirror 0 ↔ 1, 2 ↔ 3: four orbits, two faces. The
--- mirrored exchange at 0 and 2 joins faces, again at 0 and 2 it parts them, and at 0 and 1 it keeps their number. So the
+-- Small cases, computed. Four numbers, none of which moves, with the mirror 0 ↔ 1, 2 ↔ 3: four orbits, two faceClasses. The
+-- mirrored exchange at 0 and 2 joins faceClasses, again at 0 and 2 it parts them, and at 0 and 1 it keeps their number. So the
 -- hypotheses of the general statements can be met, and the numbers are the computed ones.
 use mathlib.Core.Path.{_≡_, refl, sym}
 use mathlib.Core.Logic.{_≢_}
@@ -18,7 +18,7 @@ use Rattle.orbits.specs.laws.Exchange.{exch-world, exch-less}
 use Rattle.orbits.specs.laws.ExchangeParts.{exch-more}
 use Rattle.orbits.specs.Mirror.{Mirror}
 use Rattle.orbits.specs.laws.Mirror.{mirror-world, period-half}
-use Rattle.orbits.specs.Faces.{faces, faced}
+use Rattle.orbits.specs.Faces.{faceClasses, faced}
 use Rattle.orbits.specs.laws.MirrorExchange.{exch2-mirror, exch2-less, exch2-more, exch2-same}
 use Rattle.orbits.specs.laws.PassThrough.{reach-alone, faces-alone, pass-out-orbits}
 
@@ -86,12 +86,12 @@ two-orbits : orbits joined 4 all ≡ 2
 unfolding orbits classes head least reaches count iter joined exch2 exch tr stay flip all
 two-orbits = refl
 
-two-faces-counted : faces stay flip 4 all ≡ 2
-unfolding faces faced classes head least reaches count iter stay flip all
+two-faces-counted : faceClasses stay flip 4 all ≡ 2
+unfolding faceClasses faced classes head least reaches count iter stay flip all
 two-faces-counted = refl
 
-one-face-counted : faces joined flip 4 all ≡ 1
-unfolding faces faced classes head least reaches count iter joined exch2 exch tr stay flip all
+one-face-counted : faceClasses joined flip 4 all ≡ 1
+unfolding faceClasses faced classes head least reaches count iter joined exch2 exch tr stay flip all
 one-face-counted = refl
 
 -- 0 reaches nothing else while nothing moves
@@ -153,7 +153,7 @@ unfolding orbits classes head least reaches count iter without joined exch2 exch
 taken-out-counted = refl
 
 -- 0 and its mirror 1 are fixed: a face of their own
-own-face : faces stay flip 4 all ≡ suc (faces stay flip 4 (without (without all 0) 1))
+own-face : faceClasses stay flip 4 all ≡ suc (faceClasses stay flip 4 (without (without all 0) 1))
 unfolding stay flip
 own-face = faces-alone two-faces (on 0 (omega arith)) refl
 

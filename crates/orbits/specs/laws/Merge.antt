@@ -14,7 +14,7 @@ use native.Mathlib.Omega.{arith}
 use Rattle.orbits.specs.laws.Truth.{false-unless, same-truth}
 use Rattle.orbits.specs.laws.Count.{count-one}
 use Rattle.orbits.specs.Exchange.{tr}
-use Rattle.orbits.specs.laws.Swap.{tr-left, tr-right, tr-off, place, at-left, at-right, off}
+use Rattle.orbits.specs.laws.Swap.{tr-left, tr-right, tr-off, position, at-left, at-right, off}
 use Rattle.orbits.specs.Classes.{Partition, least, head, classes}
 use Rattle.orbits.specs.laws.Classes.{Keeps, Least, least-of, least-one, least-means, least-says, head-live, head-least, head-says}
 
@@ -64,7 +64,7 @@ module _ {N : ℕ} {R : ℕ → ℕ → Type 0} {r : ℕ → ℕ → Bool} (P : 
 
   -- so an exchange of one number of x's class and one of y's stays inside
   pub join-tr : {u v i k : ℕ} → u < N → v < N → i < N → R x u → R y v → Join R x y i k → Join R x y i (tr u v k)
-  join-tr {u} {v} {i} {k} a b c p q t = elim (place u v k) [
+  join-tr {u} {v} {i} {k} a b c p q t = elim (position u v k) [
     | at-left e ↦ rw (e, tr-left u v) (join-then c l b (join-over (join-then c a h (rw e at t) (P .flip x u h a p))) q)
     | at-right e ↦ rw (e, tr-right u v) (join-then c h a (join-home (join-then c b l (rw e at t) (P .flip y v l b q))) p)
     | off d e ↦ rw (tr-off u v k d e) t

@@ -13,9 +13,9 @@ use mathlib.Core.Bool.{Bool}
 use Prim.Native.Nat.{ℕ, suc, _<_}
 use native.Mathlib.Decide.{ℕ-discrete}
 use Rattle.orbits.specs.Reach.{Reach}
-use Rattle.orbits.specs.laws.Reach.{reach-here, reach-trans, reach-sym, reach-dec}
+use Rattle.orbits.specs.laws.Reach.{reach-here, reach-trans, reach-sym}
 use Rattle.orbits.specs.Exchange.{tr, exch, tr2, exch2}
-use Rattle.orbits.specs.laws.Swap.{tr-left, tr-right, tr-off, tr-twice, tr-keeps, place, at-left, at-right, off}
+use Rattle.orbits.specs.laws.Swap.{tr-left, tr-right, tr-off, tr-twice, tr-keeps, position, at-left, at-right, off}
 use Rattle.orbits.specs.laws.Merge.{Join, inside, across, back, Merge}
 use Rattle.orbits.specs.Orbits.{orbits, World, On}
 use Rattle.orbits.specs.laws.Exchange.{exch-exch, exch-swap, exch-world, exch-outside, exch-joins, exch-less}
@@ -30,18 +30,6 @@ exch2-at f m x y i = refl
 pub exch2-undo : (f m : ℕ → ℕ) (x y k : ℕ) → exch2 f m x y (tr (m (f x)) (m (f y)) (tr x y k)) ≡ f k
 unfolding exch2 exch
 exch2-undo f m x y k = ap (λ j. f (tr x y j)) (tr-twice (m (f x)) (m (f y)) (tr x y k)) ∙ ap f (tr-twice x y k)
-
--- where y lies to the orbit of x
-pub data Lies (f m : ℕ → ℕ) (x y : ℕ) : Type 0 where
-  elsewhere : ¬ Reach f x y → ¬ Reach f x (m y) → Lies f m x y
-  on-orbit : Reach f x y → Lies f m x y
-  on-mirror : Reach f x (m y) → Lies f m x y
-
-pub lies : {N : ℕ} {f m : ℕ → ℕ} {live : ℕ → Bool} → Mirror N f m live → (x y : ℕ) → x < N → Lies f m x y
-lies {m = m} E x y h = elim (reach-dec (mirror-world E .perm) x y h) [
-  | yes r ↦ on-orbit r
-  | no n ↦ elim (reach-dec (mirror-world E .perm) x (m y) h) [ yes r ↦ on-mirror r | no k ↦ elsewhere n k ]
-]
 
 module _ {N : ℕ} {f m : ℕ → ℕ} {live : ℕ → Bool} (E : Mirror N f m live) {x y : ℕ} (a : On N live x) (b : On N live y) where
   pub exch2-world : World N (exch2 f m x y) live
@@ -92,7 +80,7 @@ module _ {N : ℕ} {f m : ℕ → ℕ} {live : ℕ → Bool} (E : Mirror N f m l
 
   -- the opposite of an exchanged number is the exchanged opposite
   opposite-tr : (u v k : ℕ) → u < N → v < N → k < N → m (f (tr u v k)) ≡ tr (m (f u)) (m (f v)) (m (f k))
-  opposite-tr u v k h l n = elim (place u v k) [
+  opposite-tr u v k h l n = elim (position u v k) [
     | at-left e ↦ rw (e, tr-left u v, tr-left (m (f u)) (m (f v)))
     | at-right e ↦ rw (e, tr-right u v, tr-right (m (f u)) (m (f v)))
     | off d e ↦
@@ -115,10 +103,10 @@ module _ {N : ℕ} {f m : ℕ → ℕ} {live : ℕ → Bool} (E : Mirror N f m l
 
   -- no number goes to its opposite
   tr2-clear : y ≢ m (f x) → (i : ℕ) → On N live i → tr2 f m x y i ≢ m (f i)
-  tr2-clear c i o q = elim (place (m (f x)) (m (f y)) i) [
+  tr2-clear c i o q = elim (position (m (f x)) (m (f y)) i) [
     | at-left e ↦ x-off c (sym (sym (tr2-over c) ∙ meet e ∙ E .turn x (a .lt)))
     | at-right e ↦ c (sym (sym (tr2-home c) ∙ meet e ∙ E .turn y (b .lt)))
-    | off d e ↦ elim (place x y i) [
+    | off d e ↦ elim (position x y i) [
       | at-left s ↦ c (sym (tr2-left c) ∙ meet s)
       | at-right s ↦ x-off c (sym (tr2-right c) ∙ meet s)
       | off s t ↦ opposite-apart E o (sym (tr2-off i s t d e) ∙ q)

@@ -19,11 +19,11 @@ use Rattle.orbits.specs.laws.Classes.{least-says, head-live, head-says}
 use Rattle.orbits.specs.Orbits.{orbits, World, On}
 use Rattle.orbits.specs.laws.Orbits.{reach-partition, reach-on}
 use Rattle.orbits.specs.Exchange.{exch}
-use Rattle.orbits.specs.laws.Exchange.{exch-left, exch-right, exch-off, exch-exch, exch-world}
-use Rattle.orbits.specs.laws.Swap.{place, at-left, at-right, off}
+use Rattle.orbits.specs.laws.Exchange.{exch-left, exch-right, exch-off, exch-world}
+use Rattle.orbits.specs.laws.Swap.{position, at-left, at-right, off}
 use Rattle.orbits.specs.Mirror.{Mirror}
 use Rattle.orbits.specs.laws.Mirror.{mirror-world, mirror-part, mirror-on, mirror-next}
-use Rattle.orbits.specs.Faces.{faces}
+use Rattle.orbits.specs.Faces.{faceClasses}
 use Rattle.orbits.specs.laws.Faces.{orbits-pair}
 use Rattle.orbits.specs.Follow.{land, pass, Follows}
 use Rattle.orbits.specs.laws.Follow.{orbits-follow}
@@ -74,7 +74,7 @@ module _ {N : ℕ} {f m : ℕ → ℕ} {live : ℕ → Bool} {z : ℕ} (E : Mirr
       without-on live z i (without-on (without live z) (m z) i (p .on)))
     where
       keep : (i : ℕ) → i < N → without (without live z) (m z) (m i) ≡ without (without live z) (m z) i
-      keep i h = elim (place z (m z) i) [
+      keep i h = elim (position z (m z) i) [
         | at-left q ↦ rw q (without-at (without live z) (m z) ∙ sym z-out)
         | at-right q ↦ rw (q, E .twice z (o .lt)) (z-out ∙ sym (without-at (without live z) (m z)))
         | off p q ↦
@@ -82,7 +82,7 @@ module _ {N : ℕ} {f m : ℕ → ℕ} {live : ℕ → Bool} {z : ℕ} (E : Mirr
             ∙ E .keep i h ∙ sym (kept i p q)
       ]
 
-  pub faces-alone : faces f m N live ≡ suc (faces f m N (without (without live z) (m z)))
+  pub faces-alone : faceClasses f m N live ≡ suc (faceClasses f m N (without (without live z) (m z)))
   faces-alone =
       omega (
         arith,
@@ -122,9 +122,3 @@ module _ {N : ℕ} {f : ℕ → ℕ} {live : ℕ → Bool} {s z : ℕ} (W : Worl
 
   pub pass-out-orbits : orbits (exch f s z) N (without live z) ≡ orbits f N live
   pass-out-orbits = orbits-follow pass-out-world W pass-out
-
--- the other way round: a fixed number z is put in after s
-pub pass-in-orbits : {N : ℕ} {f : ℕ → ℕ} {live : ℕ → Bool} {s z : ℕ} → World N f live → On N live s → On N live z → f z ≡ z → s ≢ z
-    → orbits (exch f s z) N live ≡ orbits f N (without live z)
-pass-in-orbits {N} {f} {live} {s} {z} W o p e d =
-    sym (rw (exch-exch f s z) at (pass-out-orbits (exch-world W o p) o (exch-left f s z ∙ e) d))

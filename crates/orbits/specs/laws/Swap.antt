@@ -1,6 +1,6 @@
 -- Two numbers exchanged.
 --     tr               takes x to y, y to x, and each other number to itself
---     Place, place     where a number stands
+--     Position, position     where a number stands
 use mathlib.Core.Path.{_≡_, refl, sym, _∙_, ap}
 use mathlib.Core.Logic.{_≢_}
 use Prim.Native.Nat.{ℕ}
@@ -9,13 +9,13 @@ use borrow.Author.Tests.{eq-eqb, ne-eqb}
 use Rattle.orbits.specs.Exchange.{tr}
 
 -- where i stands
-pub data Place (x y i : ℕ) : Type 0 where
-  at-left : i ≡ x → Place x y i
-  at-right : i ≡ y → Place x y i
-  off : i ≢ x → i ≢ y → Place x y i
+pub data Position (x y i : ℕ) : Type 0 where
+  at-left : i ≡ x → Position x y i
+  at-right : i ≡ y → Position x y i
+  off : i ≢ x → i ≢ y → Position x y i
 
-pub place : (x y i : ℕ) → Place x y i
-place x y i = elim (ℕ-discrete i x) [
+pub position : (x y i : ℕ) → Position x y i
+position x y i = elim (ℕ-discrete i x) [
   | yes e ↦ at-left e
   | no d ↦ elim (ℕ-discrete i y) [ yes e ↦ at-right e | no g ↦ off d g ]
 ]
@@ -36,7 +36,7 @@ tr-right x y = elim (ℕ-discrete y x) [
 ]
 
 pub tr-twice : (x y i : ℕ) → tr x y (tr x y i) ≡ i
-tr-twice x y i = elim (place x y i) [
+tr-twice x y i = elim (position x y i) [
   | at-left e ↦ rw (e, tr-left x y, tr-right x y)
   | at-right e ↦ rw (e, tr-right x y, tr-left x y)
   | off d e ↦ rw (tr-off x y i d e, tr-off x y i d e)
@@ -46,14 +46,14 @@ pub tr-inj : (x y i j : ℕ) → tr x y i ≡ tr x y j → i ≡ j
 tr-inj x y i j e = sym (tr-twice x y i) ∙ ap (tr x y) e ∙ tr-twice x y j
 
 pub tr-swap : (x y i : ℕ) → tr x y i ≡ tr y x i
-tr-swap x y i = elim (place x y i) [
+tr-swap x y i = elim (position x y i) [
   | at-left e ↦ rw (e, tr-left x y, tr-right y x)
   | at-right e ↦ rw (e, tr-right x y, tr-left y x)
   | off d e ↦ rw (tr-off x y i d e, tr-off y x i e d)
 ]
 
 pub tr-keeps : (P : ℕ → Type 0) (x y i : ℕ) → P x → P y → P i → P (tr x y i)
-tr-keeps P x y i p q r = elim (place x y i) [
+tr-keeps P x y i p q r = elim (position x y i) [
   | at-left e ↦ rw (e, tr-left x y) q
   | at-right e ↦ rw (e, tr-right x y) p
   | off d e ↦ rw (tr-off x y i d e) r

@@ -22,7 +22,7 @@ use Rattle.table.specs.laws.Output.{done-declined}
 use Rattle.table.specs.declared.answer.Answer.the-variants.{Done}
 use Rattle.tracing.specs.Step.{step}
 use Rattle.tracing.specs.Walk.{walk}
-use Rattle.tracing.specs.laws.Walk.{run, run-suc, run-length, walk-run, walk-period, walk-period-le}
+use Rattle.tracing.specs.laws.Walk.{iterates, run-suc, run-length, walk-run, walk-period, walk-period-le}
 use Rattle.tracing.specs.Listing.{gather, bit}
 use Rattle.tracing.specs.laws.Meets.{run-has}
 use Rattle.tracing.specs.laws.Stands.{Stands, stands-low, stands-step}
@@ -42,9 +42,9 @@ use Rattle.tracing.specs.Met.{times, countIn}
 use Rattle.tracing.specs.laws.Has.{countIn-append}
 use Rattle.reader.specs.laws.Counts.{unders-left}
 use Rattle.reader.specs.Forward.{past32, fits32, forwardOf, stepTally, tallyOf}
-use Rattle.reader.specs.Reading.{beginBy, beginOf, wordAt, stepAt, moved, stepBy, stepOf}
-use Rattle.reader.specs.laws.Reading.{in-range, placed-begun, placed-there, there-placed}
-use Rattle.reader.specs.Walked.{after, handed, Walked}
+use Rattle.reader.specs.Reader.{beginBy, beginOf, wordAt, stepAt, goesOn, stepBy, stepOf}
+use Rattle.reader.specs.laws.Reader.{in-range, placed-begun, placed-there, there-placed}
+use Rattle.reader.specs.Walked.{afterSteps, handed, Walked}
 
 -- a step has at most 99 letters
 letters-few : {t : List ℕ} {s : ℕ} → Stands t s → (times over (stepLetters t s) ≤ 99) × (times under (stepLetters t s) ≤ 99)
@@ -71,7 +71,7 @@ module _ (t : List ℕ) (first : Step) (lengths : List ℕ) (start : Stands t (w
 
   -- one step that is not declined
   one-step : (x : ℕ) (y : Tally) → Stands t x → farLength lengths x ≡ false → fits32 (stepTally t x lengths y) ≡ true
-      → stepOf t (stepAt x) first lengths y ≡ moved (f x) first (stepTally t x lengths y)
+      → stepOf t (stepAt x) first lengths y ≡ goesOn (f x) first (stepTally t x lengths y)
   unfolding tallyOf forwardOf
   one-step x y h near fits =
       let half : s / 2 ≡ first .dart = omega arith in
@@ -87,17 +87,17 @@ module _ (t : List ℕ) (first : Step) (lengths : List ℕ) (start : Stands t (w
     steps = n;
     overs = times over (lettersBefore t s n);
     unders = times under (lettersBefore t s n);
-    length = cutLength lengths (run f s n);
+    length = cutLength lengths (iterates f s n);
   }
 
   -- what n steps have come to, none of them past the walk's last
   record Reads (n : ℕ) : Type 0 where
-    at : after t first lengths n .at ≡ stepAt (iter f n s)
-    tally : after t first lengths n .tally ≡ tallied n
-    steps : handed t first lengths n ≡ run f s n
+    at : afterSteps t first lengths n .at ≡ stepAt (iter f n s)
+    tally : afterSteps t first lengths n .tally ≡ tallied n
+    steps : handed t first lengths n ≡ iterates f s n
     overs : times over (lettersBefore t s n) ≤ 99 * n
     unders : times under (lettersBefore t s n) ≤ 99 * n
-    length : cutLength lengths (run f s n) ≤ 65535 * n
+    length : cutLength lengths (iterates f s n) ≤ 65535 * n
 
   first-at : first ≡ stepAt s
   first-at = ap₂ pair (omega arith) (omega arith)
@@ -106,7 +106,7 @@ module _ (t : List ℕ) (first : Step) (lengths : List ℕ) (start : Stands t (w
       pair d k = record { dart = d; kind = k }
 
   reads-none : Reads zero
-  unfolding after handed run gather countIn cutLength iter
+  unfolding afterSteps handed iterates gather countIn cutLength iter
   reads-none = record { at = first-at; tally = refl; steps = refl; overs = omega arith; unders = omega arith; length = omega arith }
 
   module _ (n : ℕ) (k : Reads n) (low : n < 4096) (near : farLength lengths (iter f n s) ≡ false) where
@@ -119,9 +119,9 @@ module _ (t : List ℕ) (first : Step) (lengths : List ℕ) (start : Stands t (w
     times-suc : (l : ℕ) → times l (lettersBefore t s (suc n)) ≡ times l (lettersBefore t s n) + times l (stepLetters t x)
     times-suc l = ap (times l) (before-suc t s n) ∙ countIn-append (λ y. eqb l y) (lettersBefore t s n) (stepLetters t x)
 
-    cut-suc : cutLength lengths (run f s (suc n)) ≡ cutLength lengths (run f s n) + lengthOf lengths x
+    cut-suc : cutLength lengths (iterates f s (suc n)) ≡ cutLength lengths (iterates f s n) + lengthOf lengths x
     unfolding cutLength
-    cut-suc = ap (cutLength lengths) (run-suc f s n) ∙ cut-append lengths (run f s n) (x ∷ []) ∙ omega arith
+    cut-suc = ap (cutLength lengths) (run-suc f s n) ∙ cut-append lengths (iterates f s n) (x ∷ []) ∙ omega arith
 
     tally-suc : stepTally t x lengths (tallied n) ≡ tallied (suc n)
     tally-suc = rw (times-suc over, times-suc under, cut-suc, add-one)
@@ -139,16 +139,16 @@ module _ (t : List ℕ) (first : Step) (lengths : List ℕ) (start : Stands t (w
           lt-ltb (n + 1) past32 (omega arith),
           lt-ltb (times over (lettersBefore t s n) + times over (stepLetters t x)) past32 (omega arith),
           lt-ltb (times under (lettersBefore t s n) + times under (stepLetters t x)) past32 (omega arith),
-          lt-ltb (cutLength lengths (run f s n) + lengthOf lengths x) past32 (omega arith),
+          lt-ltb (cutLength lengths (iterates f s n) + lengthOf lengths x) past32 (omega arith),
         )
 
     -- one step more is not declined
-    reads-step : after t first lengths (suc n) ≡ moved (f x) first (tallied (suc n))
-    unfolding after
+    reads-step : afterSteps t first lengths (suc n) ≡ goesOn (f x) first (tallied (suc n))
+    unfolding afterSteps
     reads-step =
         ap₂ (λ a y. stepOf t a first lengths y) (k .at) (k .tally)
         ∙ one-step x (tallied n) there near tally-fits
-        ∙ ap (moved (f x) first) tally-suc
+        ∙ ap (goesOn (f x) first) tally-suc
 
     reads-more : Reads (suc n)
     unfolding handed
@@ -173,7 +173,7 @@ module _ (t : List ℕ) (first : Step) (lengths : List ℕ) (start : Stands t (w
           length = omega arith;
         }
 
-  module _ (near : some (farLength lengths) (walk (rotation t) s) ≡ false) (p : Period f s) (few : p .steps ≤ 4096) (all : walk (rotation t) s ≡ run f s (p .steps)) where
+  module _ (near : some (farLength lengths) (walk (rotation t) s) ≡ false) (p : Period f s) (few : p .steps ≤ 4096) (all : walk (rotation t) s ≡ iterates f s (p .steps)) where
     near-at : (n : ℕ) → n < p .steps → farLength lengths (iter f n s) ≡ false
     near-at n h = false-unless (farLength lengths (iter f n s)) (λ e.
         clash (passes-some (farLength lengths) (walk (rotation t) s) (iter f n s) (rw all (run-has f s (iter f n s) (p .steps) (record { steps = n; few = h; lands = refl }))) e) near)
@@ -182,7 +182,7 @@ module _ (t : List ℕ) (first : Step) (lengths : List ℕ) (start : Stands t (w
     reads zero h = reads-none
     reads (suc n) h = reads-more n (reads n (omega arith)) (omega arith) (near-at n (omega arith))
 
-    -- the step after leads back exactly at the walk's end
+    -- the step afterSteps leads back exactly at the walk's end
     end-at : (n : ℕ) → n < p .steps → eqb (f (iter f n s)) s ≡ eqb (suc n) (p .steps)
     end-at n h = elim (ℕ-discrete (suc n) (p .steps)) [
       | yes e ↦ eq-eqb (f (iter f n s)) s (sym (iter-suc f n s) ∙ ap (λ j. iter f j s) e ∙ p .back) ∙ sym (eq-eqb (suc n) (p .steps) e)

@@ -21,8 +21,8 @@ use Rattle.table.specs.declared.answer.Refusal.the-variants.{Torn, ShortSlice}
 use Rattle.reader.specs.declared.tally.Tally.{Tally}
 use Rattle.reader.specs.declared.walk.Stepped.{Stepped}
 use Rattle.reader.specs.declared.words.Told.{Told}
-use Rattle.reader.specs.Reading.{stepBy}
-use Rattle.reader.specs.laws.Reading.{placed-torn, Settled, goes, rests, settled}
+use Rattle.reader.specs.Reader.{stepBy}
+use Rattle.reader.specs.laws.Reader.{placed-torn, Settled, goes, rests, settled}
 use Rattle.reader.specs.Words.{state, atOf, firstOf, stepped, told, wordsTold, coded, wordsCoded, wordsOut}
 use Rattle.table.specs.Output.{front}
 

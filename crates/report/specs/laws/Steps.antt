@@ -1,6 +1,6 @@
 -- The steps of a walk, as the code writes them.
 --     Crossed              the letters of a step;     lettering-more, lettering-all     the loop that writes them
---     step-wrote           a step;     Stepping     the loop over the walk
+--     step-wrote           a step;     StepsWriting     the loop over the walk
 use Prim.Native.Nat.{ℕ, zero, _+_, _*_, _/_, _%_, _<_, _≤_, _^_}
 use native.Mathlib.Omega.{arith}
 use native.Mathlib.Numerals.{add-one}
@@ -10,7 +10,7 @@ use mathlib.Core.Logic.{_≢_}
 use Rattle.table.specs.Rotation.{rotation}
 use Rattle.tracing.specs.Step.{step}
 use Rattle.tracing.specs.Walk.{walk}
-use Rattle.tracing.specs.laws.Walk.{run, run-suc}
+use Rattle.tracing.specs.laws.Walk.{iterates, run-suc}
 use Rattle.tracing.specs.Listing.{gather}
 use Rattle.tracing.specs.laws.Listing.{gather-one, gather-append}
 use Rattle.tracing.specs.laws.Stands.{Stands}
@@ -59,34 +59,34 @@ step-wrote {t} {s} {w} low e a b c d l =
     wrote-then (wrote-then (wrote-then (wrote-then a (short 1 b (omega arith))) (number-wrote (omega arith) c)) (short 1 d (omega arith))) (wrote-as l (ap (λ x. lettersOn x (s % 2)) (e .word)))
 
 -- the loop over the walk: the first steps are written
-pub record Stepping (t : List ℕ) (s from at here end : ℕ) (out₀ out : List ℕ) : Type 0 where
+pub record StepsWriting (t : List ℕ) (s from at here end : ℕ) (out₀ out : List ℕ) : Type 0 where
   pub so-far : ℕ
   pub walking : Walking t s so-far here
-  pub wrote : Wrote (142 * so-far) from at out₀ (gather (stepText t) (run (step (rotation t)) s so-far)) end out
+  pub wrote : Wrote (142 * so-far) from at out₀ (gather (stepText t) (iterates (step (rotation t)) s so-far)) end out
 
-pub stepping-none : {t : List ℕ} {s : ℕ} (from at : ℕ) (out : List ℕ) → Stands t s → Stepping t s from at s at out out
-unfolding run gather
+pub stepping-none : {t : List ℕ} {s : ℕ} (from at : ℕ) (out : List ℕ) → Stands t s → StepsWriting t s from at s at out out
+unfolding iterates gather
 stepping-none from at out h = record { so-far = zero; walking = walking-none h; wrote = wrote-none from at out }
 
 -- far from the end of the places
-pub stepping-near : {t : List ℕ} {s from at here end : ℕ} {out₀ out : List ℕ} → at < 2 ^ 44 → Stepping t s from at here end out₀ out → end < 2 ^ 45
+pub stepping-near : {t : List ℕ} {s from at here end : ℕ} {out₀ out : List ℕ} → at < 2 ^ 44 → StepsWriting t s from at here end out₀ out → end < 2 ^ 45
 stepping-near h k = let few = walking-few (k .walking) in let near = k .wrote .near in omega arith
 
 steps-more : {t : List ℕ} {s n here : ℕ} → Walking t s n here
-    → gather (stepText t) (run (step (rotation t)) s n) ++ stepText t here ≡ gather (stepText t) (run (step (rotation t)) s (n + 1))
+    → gather (stepText t) (iterates (step (rotation t)) s n) ++ stepText t here ≡ gather (stepText t) (iterates (step (rotation t)) s (n + 1))
 steps-more {t} {s} {n} {here} w =
     let f = step (rotation t) in
-    rw (add-one, run-suc f s n, w .along .here, gather-append (stepText t) (run f s n) (here ∷ []), gather-one (stepText t) here)
+    rw (add-one, run-suc f s n, w .along .here, gather-append (stepText t) (iterates f s n) (here ∷ []), gather-one (stepText t) here)
 
-step-more : {t : List ℕ} {s from at here end r : ℕ} {out₀ out out′ : List ℕ} (k : Stepping t s from at here end out₀ out) → Wrote 142 from end out (stepText t here) r out′
-    → Wrote (142 * (k .so-far + 1)) from at out₀ (gather (stepText t) (run (step (rotation t)) s (k .so-far + 1))) r out′
+step-more : {t : List ℕ} {s from at here end r : ℕ} {out₀ out out′ : List ℕ} (k : StepsWriting t s from at here end out₀ out) → Wrote 142 from end out (stepText t here) r out′
+    → Wrote (142 * (k .so-far + 1)) from at out₀ (gather (stepText t) (iterates (step (rotation t)) s (k .so-far + 1))) r out′
 step-more k w = wrote-most (wrote-as (wrote-then (k .wrote) w) (steps-more (k .walking))) (142 * (k .so-far + 1)) (omega arith)
 
-pub stepping-more : {t : List ℕ} {s from at here end r next : ℕ} {out₀ out out′ : List ℕ} → Stepping t s from at here end out₀ out → Wrote 142 from end out (stepText t here) r out′
-    → next ≡ step (rotation t) here → next ≢ s → Stepping t s from at next r out₀ out′
+pub stepping-more : {t : List ℕ} {s from at here end r next : ℕ} {out₀ out out′ : List ℕ} → StepsWriting t s from at here end out₀ out → Wrote 142 from end out (stepText t here) r out′
+    → next ≡ step (rotation t) here → next ≢ s → StepsWriting t s from at next r out₀ out′
 stepping-more k w e b = record { so-far = k .so-far + 1; walking = walking-more (k .walking) e b; wrote = step-more k w }
 
-pub stepping-all : {t : List ℕ} {s from at here end r next : ℕ} {out₀ out out′ : List ℕ} → Stepping t s from at here end out₀ out → Wrote 142 from end out (stepText t here) r out′
+pub stepping-all : {t : List ℕ} {s from at here end r next : ℕ} {out₀ out out′ : List ℕ} → StepsWriting t s from at here end out₀ out → Wrote 142 from end out (stepText t here) r out′
     → next ≡ step (rotation t) here → next ≡ s → Wrote steps-most from at out₀ (gather (stepText t) (walk (rotation t) s)) r out′
 stepping-all k w e b =
     let few = walking-few (k .walking) in

@@ -14,12 +14,12 @@ use Rattle.table.specs.Good.{Good}
 use Rattle.table.specs.Rotation.{rotation, alone?}
 use Rattle.table.specs.laws.Rotation.{alone-yes, alone-word}
 use Rattle.tracing.specs.Walk.{walk}
-use Rattle.tracing.specs.Listing.{gather, metBy, starts, fresh, lone, alones, loneAt, loneCorner, written}
+use Rattle.tracing.specs.Listing.{gather, metBy, starts, fresh, lone, alones, loneAt, loneCorner, walkText}
 use Rattle.tracing.specs.laws.Listing.{gather-one, gather-none, starts-suc, lone-yes, lone-no, alones-suc, written-some}
 use Rattle.tracing.specs.laws.Stands.{Stands}
 use Rattle.tracing.specs.laws.Marks.{mark, unmarked}
 use Rattle.tracing.specs.declared.count.Size.{Size}
-use Rattle.tracing.specs.laws.Size.{InRange, Looked, unmet, unmet-case, no-start, begins, Seen, seen-none, seen-range, seen-more, unmet-fresh}
+use Rattle.tracing.specs.laws.Size.{LookReady, Looked, unmet, unmet-case, no-start, begins, Seen, seen-none, seen-range, seen-more, unmet-fresh}
 use Rattle.tracing.specs.laws.Writing.{looked-begins}
 use Rattle.text.specs.laws.Paste.{Pasted}
 use Rattle.text.specs.Decimal.{decimal}
@@ -70,19 +70,19 @@ walk-wrote i {t} {d} k a b c s e =
 
 -- dart d, with the walks listed before it marked
 pub record DartAt (t m : List ℕ) (d i at : ℕ) : Type 0 where
-  pub range : InRange t m d
+  pub range : LookReady t m d
   pub few : i ≤ 2048
   pub near : at < 2 ^ 43
 
 -- the line of the walk that starts at d, if one does
-pub record Placed (t m : List ℕ) (d i from at : ℕ) (out : List ℕ) (r : Place) (m′ out′ : List ℕ) : Type 0 where
+pub record LinePlaced (t m : List ℕ) (d i from at : ℕ) (out : List ℕ) (r : Place) (m′ out′ : List ℕ) : Type 0 where
   pub marks : m′ ≡ mark m (metBy (rotation t) (unmet t m d))
   pub index : r .index ≡ i + length (unmet t m d)
   pub wrote : Wrote walk-most from at out (numbered (walkLine t) i (unmet t m d)) (r .at) out′
   pub few : r .index ≤ i + 1
 
 module _ {t m : List ℕ} {d i at : ℕ} {size : Size} {m′ : List ℕ} (h : DartAt t m d i at) (k : Looked t d m size m′) where
-  pub placed-none : {from : ℕ} (out : List ℕ) → size .words ≡ 0 → Placed t m d i from at out (record { at = at; index = i }) m′ out
+  pub placed-none : {from : ℕ} (out : List ℕ) → size .words ≡ 0 → LinePlaced t m d i from at out (record { at = at; index = i }) m′ out
   placed-none {from} out e = elim (unmet-case t m d) [
     | no-start u ↦ record {
       marks = k .marks;
@@ -92,7 +92,7 @@ module _ {t m : List ℕ} {d i at : ℕ} {size : Size} {m′ : List ℕ} (h : Da
     }
     | begins l u ↦
         let some = written-some (rotation t) d in
-        let one = k .words ∙ ap (λ a. length (gather (written (rotation t)) a)) u ∙ ap length (gather-one (written (rotation t)) d) in
+        let one = k .words ∙ ap (λ a. length (gather (walkText (rotation t)) a)) u ∙ ap length (gather-one (walkText (rotation t)) d) in
         absurd (omega arith)
   ]
 
@@ -107,9 +107,9 @@ module _ {t m : List ℕ} {d i at : ℕ} {size : Size} {m′ : List ℕ} (h : Da
         record { stands = b .stands; low = low; steps = omega arith; near = h .near }
 
     pub placed-one : {from end : ℕ} {out out′ : List ℕ} → Wrote walk-most from at out (walkLine t i d) end out′
-        → Placed t m d i from at out (record { at = end; index = i + 1 }) m′ out′
+        → LinePlaced t m d i from at out (record { at = end; index = i + 1 }) m′ out′
     placed-one w = elim (unmet-case t m d) [
-      | no-start u ↦ absurd (some (k .words ∙ ap (λ a. length (gather (written (rotation t)) a)) u ∙ ap length (gather-none (written (rotation t)))))
+      | no-start u ↦ absurd (some (k .words ∙ ap (λ a. length (gather (walkText (rotation t)) a)) u ∙ ap length (gather-none (walkText (rotation t)))))
       | begins l u ↦ record {
         marks = k .marks;
         index = rw u;
@@ -118,7 +118,7 @@ module _ {t m : List ℕ} {d i at : ℕ} {size : Size} {m′ : List ℕ} (h : Da
       }
     ]
 
--- the loop over the darts: the lines of the walks that start below d are written
+-- the loop over the darts: the lines of the walks that start below d are walkText
 pub record Numbering (t : List ℕ) (from at d i end : ℕ) (m out₀ out : List ℕ) : Type 0 where
   pub seen : Seen t d m
   pub index : i ≡ length (starts (rotation t) d)
@@ -137,7 +137,7 @@ numbering-at l k h = record {
 }
 
 pub numbering-more : {t : List ℕ} {from at d i end : ℕ} {m m′ out₀ out out′ : List ℕ} {r : Place} → Numbering t from at d i end m out₀ out → d < darts
-    → Placed t m d i from end out r m′ out′ → Numbering t from at (d + 1) (r .index) (r .at) m′ out₀ out′
+    → LinePlaced t m d i from end out r m′ out′ → Numbering t from at (d + 1) (r .index) (r .at) m′ out₀ out′
 numbering-more {t} {d = d} {i = i} {r = r} k h p =
     let R = rotation t in
     let u = unmet-fresh (k .seen) h in
@@ -220,21 +220,21 @@ module _ {t : List ℕ} {v i at : ℕ} (h : LoneAt t v i at) where
       }
 
 -- the lines of the isolated vertices below v, with indices from `first` on
-abbrev pub lonesText : List ℕ → ℕ → ℕ → List ℕ
-lonesText t first v = numbered (walkLine t) first (map loneCorner (alones (rotation t) v))
+abbrev pub loneLines : List ℕ → ℕ → ℕ → List ℕ
+loneLines t first v = numbered (walkLine t) first (map loneCorner (alones (rotation t) v))
 
 -- the loop over the vertices
-pub record Ending (t : List ℕ) (from at first v i end : ℕ) (out₀ out : List ℕ) : Type 0 where
+pub record LonesWriting (t : List ℕ) (from at first v i end : ℕ) (out₀ out : List ℕ) : Type 0 where
   pub low : v ≤ vertices
   pub index : i ≡ first + length (alones (rotation t) v)
   pub few : i ≤ first + v
-  pub wrote : Wrote (50 * v) from at out₀ (lonesText t first v) end out
+  pub wrote : Wrote (50 * v) from at out₀ (loneLines t first v) end out
 
-pub ending-none : (t : List ℕ) (from at first : ℕ) (out : List ℕ) → Ending t from at first 0 first at out out
+pub ending-none : (t : List ℕ) (from at first : ℕ) (out : List ℕ) → LonesWriting t from at first 0 first at out out
 unfolding alones numbered
 ending-none t from at first out = record { low = omega arith; index = omega arith; few = omega arith; wrote = wrote-none from at out }
 
-pub ending-at : {t : List ℕ} {from at first v i end : ℕ} {out₀ out : List ℕ} → Good t → first ≤ 2048 → at < 2 ^ 43 → Ending t from at first v i end out₀ out → v < vertices
+pub ending-at : {t : List ℕ} {from at first v i end : ℕ} {out₀ out : List ℕ} → Good t → first ≤ 2048 → at < 2 ^ 43 → LonesWriting t from at first v i end out₀ out → v < vertices
     → LoneAt t v i end
 ending-at g a b k h = record {
   good = g;
@@ -243,14 +243,14 @@ ending-at g a b k h = record {
   near = let near = k .wrote .near in omega arith;
 }
 
-pub ending-more : {t : List ℕ} {from at first v i end : ℕ} {out₀ out out′ : List ℕ} {r : Place} → Ending t from at first v i end out₀ out → v < vertices
-    → PlacedLone t v i from end out r out′ → Ending t from at first (v + 1) (r .index) (r .at) out₀ out′
+pub ending-more : {t : List ℕ} {from at first v i end : ℕ} {out₀ out out′ : List ℕ} {r : Place} → LonesWriting t from at first v i end out₀ out → v < vertices
+    → PlacedLone t v i from end out r out′ → LonesWriting t from at first (v + 1) (r .index) (r .at) out₀ out′
 ending-more {t} {first = first} {v = v} {i = i} k h p =
     let R = rotation t in
     let few = k .few in
     let one = p .few in
     let size = length-map (alones R v) loneCorner in
-    let text : lonesText t first v ++ numbered (walkLine t) i (map loneCorner (lone R v)) ≡ lonesText t first (v + 1) =
+    let text : loneLines t first v ++ numbered (walkLine t) i (map loneCorner (lone R v)) ≡ loneLines t first (v + 1) =
     rw (add-one, alones-suc R v, map-append loneCorner (alones R v) (lone R v), numbered-append (walkLine t) first (map loneCorner (alones R v)) (map loneCorner (lone R v)), size, ← k .index) refl in
     record {
       low = omega arith;
@@ -259,9 +259,9 @@ ending-more {t} {first = first} {v = v} {i = i} k h p =
       wrote = wrote-most (wrote-as (wrote-then (k .wrote) (p .wrote)) text) (50 * (v + 1)) (omega arith);
     }
 
-pub ending-all : {t : List ℕ} {from at first v i end : ℕ} {out₀ out : List ℕ} → Ending t from at first v i end out₀ out → vertices ≤ v
-    → Wrote lones-most from at out₀ (lonesText t first 512) end out
+pub ending-all : {t : List ℕ} {from at first v i end : ℕ} {out₀ out : List ℕ} → LonesWriting t from at first v i end out₀ out → vertices ≤ v
+    → Wrote lones-most from at out₀ (loneLines t first 512) end out
 ending-all {t} {first = first} {v = v} k h =
     let low = k .low in
     let all : v ≡ vertices = omega arith in
-    wrote-most (wrote-as (k .wrote) (ap (lonesText t first) all)) lones-most (omega arith)
+    wrote-most (wrote-as (k .wrote) (ap (loneLines t first) all)) lones-most (omega arith)

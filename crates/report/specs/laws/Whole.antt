@@ -12,19 +12,19 @@ use Rattle.text.specs.Paste.{paste}
 use Rattle.report.specs.declared.walk.Place.{Place}
 use Rattle.report.specs.Lines.{meshLine, partLine, walkLine, numbered, weaveLine, report}
 use Rattle.report.specs.laws.Wrote.{Wrote, wrote-then, wrote-as, lones-most, parts-most}
-use Rattle.report.specs.laws.Walks.{numbered-append, PlacedAll, lonesText}
+use Rattle.report.specs.laws.Walks.{numbered-append, PlacedAll, loneLines}
 
 -- the walks that start at a dart, then the empty ones
-faces-numbered : (t : List ℕ) → numbered (walkLine t) 0 (starts (rotation t) darts) ++ lonesText t (length (starts (rotation t) darts)) vertices ≡ numbered (walkLine t) 0 (faces (rotation t))
+faces-numbered : (t : List ℕ) → numbered (walkLine t) 0 (starts (rotation t) darts) ++ loneLines t (length (starts (rotation t) darts)) vertices ≡ numbered (walkLine t) 0 (faces (rotation t))
 unfolding faces
 faces-numbered t =
     let R = rotation t in
     let first : length (starts R darts) ≡ 0 + length (starts R darts) = omega arith in
-    ap (λ n. numbered (walkLine t) 0 (starts R darts) ++ lonesText t n vertices) first ∙ sym (numbered-append (walkLine t) 0 (starts R darts) (map loneCorner (alones R vertices)))
+    ap (λ n. numbered (walkLine t) 0 (starts R darts) ++ loneLines t n vertices) first ∙ sym (numbered-append (walkLine t) 0 (starts R darts) (map loneCorner (alones R vertices)))
 
 pub report-wrote : {t : List ℕ} {from mesh part lone r : ℕ} {walk : Place} {out o-mesh o-part o-walk o-lone out′ : List ℕ} → Wrote 101 from 0 out (meshLine (rotation t)) mesh o-mesh
     → Wrote parts-most from mesh o-mesh (gather (partLine (rotation t)) (parts (rotation t))) part o-part → PlacedAll t from part o-part walk o-walk
-    → Wrote lones-most from (walk .at) o-walk (lonesText t (walk .index) vertices) lone o-lone → Wrote 12 from lone o-lone (weaveLine t) r out′ → (r ≡ length (report t)) × (out′ ≡ paste from 0 out (report t)) × (r < 2 ^ 31)
+    → Wrote lones-most from (walk .at) o-walk (loneLines t (walk .index) vertices) lone o-lone → Wrote 12 from lone o-lone (weaveLine t) r out′ → (r ≡ length (report t)) × (out′ ≡ paste from 0 out (report t)) × (r < 2 ^ 31)
 unfolding report
 report-wrote {t} m p w l e =
     let all = wrote-then (wrote-then (wrote-then m p) (wrote-as (wrote-then (w .wrote) (rw (w .index) at l)) (faces-numbered t))) e in

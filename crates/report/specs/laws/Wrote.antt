@@ -15,7 +15,7 @@ use Rattle.table.specs.Good.{Good}
 use Rattle.table.specs.Rotation.{Rotation, Lawful, rotation}
 use Rattle.table.specs.laws.Lawful.{good-lawful}
 use Rattle.tracing.specs.Listing.{faceCount}
-use Rattle.surface.specs.Counts.{vertexCount, edgeCount}
+use Rattle.surface.specs.Counts.{vertexCount}
 use Rattle.surface.specs.Signed.{meshEuler}
 use Rattle.surface.specs.laws.EulerWord.{euler-sfits}
 use Rattle.surface.specs.laws.Mesh.{MeshCounts, faces-low}
@@ -25,6 +25,7 @@ use Rattle.text.specs.Decimal.{decimal, integer}
 use Rattle.text.specs.laws.Decimal.{decimal-few}
 use Rattle.text.specs.laws.Sign.{integer-few}
 use Rattle.report.specs.Lines.{space, newline, meshText, meshLine, kind-word, weave-word, weaveLine}
+use Rattle.tracing.specs.Met.{edgeCount}
 
 -- the text stands from place `at` on; it has at most so many bytes
 pub record Wrote (most from at : ℕ) (out text : List ℕ) (r : ℕ) (out′ : List ℕ) : Type 0 where

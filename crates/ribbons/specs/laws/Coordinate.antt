@@ -1,11 +1,11 @@
 -- One coordinate of a piece: its sums of whole numbers fit the machine's words and the float.
-use Prim.Native.Nat.{ℕ, zero, suc, _+_, _*_, _≤_, _<_}
+use Prim.Native.Nat.{ℕ, _+_, _*_, _≤_, _<_}
 use native.Mathlib.Omega.{arith}
-use mathlib.Core.Path.{_≡_, refl, _∙_, ap}
+use mathlib.Core.Path.{_≡_, _∙_, ap}
 use mathlib.Core.Logic.{_≢_}
 use mathlib.Core.List.{List}
 use lib.Dec.{eqb}
-use lib.IntN.{ℤ, pos, negsuc, negℤ, natAbs, subℕ, _+ℤ_, _-ℤ_, _*ℤ_}
+use lib.IntN.{ℤ, pos, negsuc, negℤ, natAbs, _+ℤ_, _-ℤ_, _*ℤ_}
 use lib.Ieee.{Float}
 use lib.ListN.{length}
 use mir.Syntax.{w32}
@@ -13,43 +13,17 @@ use mir.Val.{SFits, toZ, ofZ}
 use mir.Facts.{toZ-ofZ}
 use borrow.Author.Tests.{eq-eqb, ne-eqb}
 use Rattle.orbits.specs.laws.Truth.{truth, holds, fails}
-use Rattle.table.specs.laws.Signed.{difference, below, above}
+use Rattle.table.specs.laws.Signed.{size-sum, size-minus, size-twice}
 use Rattle.weave.specs.Letters.{over, under}
 use Rattle.ribbons.specs.Exact.{largest, over32}
 use Rattle.ribbons.specs.Path.{farthestPoint, farthestLift, sixteenths, thirtySeconds, pointAt}
-
--- the size of a sum
-
-size-difference : (a b : ℕ) → natAbs (subℕ a b) ≤ a + b
-size-difference a b = elim (difference a b) [
-  | below h e ↦ rw e (omega arith)
-  | above h e ↦ rw e (omega arith)
-]
-
-size-sum : (x y : ℤ) → natAbs (x +ℤ y) ≤ natAbs x + natAbs y
-size-sum (pos a) (pos b) = omega arith
-size-sum (pos a) (negsuc b) = size-difference a (suc b)
-size-sum (negsuc a) (pos b) = let d = size-difference b (suc a) in omega arith
-size-sum (negsuc a) (negsuc b) = omega arith
-
-size-negative : (n : ℕ) → natAbs (negℤ (pos n)) ≡ n
-size-negative zero = refl
-size-negative (suc n) = refl
-
-size-minus : (x : ℤ) → natAbs (negℤ x) ≡ natAbs x
-size-minus (pos n) = size-negative n
-size-minus (negsuc n) = refl
-
-size-twice : (x : ℤ) → natAbs (pos 2 *ℤ x) ≡ 2 * natAbs x
-size-twice (pos n) = refl
-size-twice (negsuc n) = size-negative (2 * suc n)
 
 size-fits : (z : ℤ) → natAbs z ≤ largest → SFits w32 z
 size-fits (pos n) h = record { sfits = omega arith }
 size-fits (negsuc n) h = record { sfits = omega arith }
 
 -- "Points lie within 65,536 either way, lifts within 4,096, so nothing is rounded."
-pub record Near (a b l : ℤ) : Type 0 where
+pub record NearEnds (a b l : ℤ) : Type 0 where
   pub first : natAbs a ≤ farthestPoint
   pub second : natAbs b ≤ farthestPoint
   pub lift : natAbs l ≤ farthestLift
@@ -61,7 +35,7 @@ held z = toZ w32 (ofZ w32 z)
 held-is : (z : ℤ) → natAbs z ≤ largest → held z ≡ z
 held-is z h = toZ-ofZ {w = w32} {z = z} (size-fits z h)
 
-module _ {a b l : ℤ} (n : Near a b l) where
+module _ {a b l : ℤ} (n : NearEnds a b l) where
   first-is : held a ≡ a
   first-is = held-is a (let f = n .first in omega arith)
 
@@ -145,7 +119,7 @@ module _ {a b l : ℤ} (n : Near a b l) where
     coordinate-flat m e f = f ∙ ap over32 ends-are ∙ rw (ne-eqb letter over m, ne-eqb letter under e)
 
 -- however the strand passes, the number is small
-pub coordinate-few : (letter : ℕ) {a b l : ℤ} → Near a b l → natAbs (thirtySeconds letter a b l) ≤ largest
+pub coordinate-few : (letter : ℕ) {a b l : ℤ} → NearEnds a b l → natAbs (thirtySeconds letter a b l) ≤ largest
 unfolding thirtySeconds
 coordinate-few letter n = elim (truth (eqb letter over)) [
   | holds e ↦ rw e (over-few n)
@@ -156,17 +130,17 @@ coordinate-few letter n = elim (truth (eqb letter over)) [
 ]
 
 -- a lent word that is handed on keeps its value
-pub near-held : {a b l : ℤ} → Near a b l → Near (held a) (held b) (held l)
+pub near-held : {a b l : ℤ} → NearEnds a b l → NearEnds (held a) (held b) (held l)
 near-held n = rw (first-is n, second-is n, lift-is n) n
 
-coordinate-read : (letter : ℕ) {a b l : ℤ} {r : Float} → Near a b l → r ≡ over32 (thirtySeconds letter (held a) (held b) (held l)) → r ≡ over32 (thirtySeconds letter a b l)
+coordinate-read : (letter : ℕ) {a b l : ℤ} {r : Float} → NearEnds a b l → r ≡ over32 (thirtySeconds letter (held a) (held b) (held l)) → r ≡ over32 (thirtySeconds letter a b l)
 coordinate-read letter n e = e ∙ rw (first-is n, second-is n, lift-is n)
 
 -- the words of a point, which begin at i, j and k, are in range
 pub record NearThree (points lifts : List ℤ) (i j k : ℕ) : Type 0 where
-  pub near-x : Near (sixteenths points i) (sixteenths points j) (sixteenths lifts k)
-  pub near-y : Near (sixteenths points (i + 1)) (sixteenths points (j + 1)) (sixteenths lifts (k + 1))
-  pub near-z : Near (sixteenths points (i + 2)) (sixteenths points (j + 2)) (sixteenths lifts (k + 2))
+  pub near-x : NearEnds (sixteenths points i) (sixteenths points j) (sixteenths lifts k)
+  pub near-y : NearEnds (sixteenths points (i + 1)) (sixteenths points (j + 1)) (sixteenths lifts (k + 1))
+  pub near-z : NearEnds (sixteenths points (i + 2)) (sixteenths points (j + 2)) (sixteenths lifts (k + 2))
 
 -- they are there, too
 pub record Readable (points lifts : List ℤ) (i j k : ℕ) : Type 0 where

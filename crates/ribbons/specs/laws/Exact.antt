@@ -11,7 +11,7 @@ use lib.Ieee.Exact.{HasValue, round-exact}
 use lib.Ieee.Back.{round-whole}
 use lib.Ieee.Scale.{round-same}
 use lib.Ieee.Fits.{round-fits, down-pos}
-use Rattle.ribbons.specs.Exact.{negative, over32, thirtyTwo, Over32}
+use Rattle.ribbons.specs.Exact.{signOf, over32, thirtyTwo, Over32}
 
 -- "so nothing is rounded"
 pub over32-exact : (z : ℤ) → natAbs z < 2 ^ 24 → Over32 z (over32 z)
@@ -19,8 +19,8 @@ unfolding over32
 over32-exact z h =
     let n = natAbs z in
     record {
-      fits = round-fits binary32 (negative z) n 32;
-      value = round-exact binary32 (negative z) n 32 n 144 (zero-lt-suc 31) h
+      fits = round-fits binary32 (signOf z) n 32;
+      value = round-exact binary32 (signOf z) n 32 n 144 (zero-lt-suc 31) h
           (lt-of-lt-of-le (shl-lt 24 144 h) (lit≤ tt))
           (sym (mul-assoc n (2 ^ 144) 32));
     }

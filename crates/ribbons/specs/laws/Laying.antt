@@ -18,7 +18,7 @@ use Rattle.table.specs.Output.{front}
 use Rattle.table.specs.laws.Output.{sets-append, sets-front}
 use Rattle.tracing.specs.Step.{step}
 use Rattle.tracing.specs.Walk.{walk}
-use Rattle.tracing.specs.laws.Walk.{run, run-suc, run-length, walk-run, walk-period, walk-period-le}
+use Rattle.tracing.specs.laws.Walk.{iterates, run-suc, run-length, walk-run, walk-period, walk-period-le}
 use Rattle.tracing.specs.laws.Stands.{stands-low}
 use Rattle.tracing.specs.laws.Along.{Walking, walking-none, walking-more, walking-all, along-few}
 use Rattle.weave.specs.Ribbon.{some}
@@ -59,18 +59,18 @@ laid-more f l p out₀ w e g =
     g ∙ rw (text-append f l (p ∷ []), text-one f p, sets-append out₀ 0 (text f l) (f p), zero-add, e, w)
 
 -- a piece, written to both slices
-pub record Wrote (n : ℕ) (p : Piece) (kinds : List ℕ) (coords : List Float) (kinds′ : List ℕ) (coords′ : List Float) : Type 0 where
+pub record PieceWritten (n : ℕ) (p : Piece) (kinds : List ℕ) (coords : List Float) (kinds′ : List ℕ) (coords′ : List Float) : Type 0 where
   pub kind : kinds′ ≡ sets kinds n (kindsOf p)
   pub floats : coords′ ≡ sets coords (3 * n) (floatsOf p)
 
 pub wrote-made : {n : ℕ} {p : Piece} {kinds : List ℕ} {coords : List Float} {k : ℕ} {q : Point} → k ≡ kindOf p → q ≡ pointOf p
-    → Wrote n p kinds coords (set kinds n k) (set (set (set coords (3 * n) (q .x)) (3 * n + 1) (q .y)) (3 * n + 2) (q .z))
+    → PieceWritten n p kinds coords (set kinds n k) (set (set (set coords (3 * n) (q .x)) (3 * n + 1) (q .y)) (3 * n + 2) (q .z))
 wrote-made {n} {kinds = kinds} e f =
     let two : 3 * n + 2 ≡ suc (suc (3 * n)) = omega arith in
     record { kind = ap (set kinds n) e; floats = rw (f, add-one, two) }
 
 -- a ribbon whose words are in range, and room for its path
-pub record Room (t : List ℕ) (points lifts : List ℤ) (s sizeKinds sizeCoords : ℕ) : Type 0 where
+pub record PathRoom (t : List ℕ) (points lifts : List ℤ) (s sizeKinds sizeCoords : ℕ) : Type 0 where
   pub lent : Lent t points lifts s
   pub near : some (farStep t points lifts) (walk (rotation t) s) ≡ false
   pub kinds : length (walk (rotation t) s) < sizeKinds
@@ -81,7 +81,7 @@ pub path-length : (t : List ℕ) (points lifts : List ℤ) (s : ℕ) → length 
 unfolding pathFrom
 path-length t points lifts s = rw (length-append, length-map)
 
-path-room : {t : List ℕ} {points lifts : List ℤ} {s m c : ℕ} → Room t points lifts s m c
+path-room : {t : List ℕ} {points lifts : List ℤ} {s m c : ℕ} → PathRoom t points lifts s m c
     → (length (text kindsOf (pathFrom t points lifts s)) ≤ m) × (length (text floatsOf (pathFrom t points lifts s)) ≤ c)
 path-room {t} {points} {lifts} {s} h =
     let a = h .kinds in
@@ -93,7 +93,7 @@ path-room {t} {points} {lifts} {s} h =
 
 -- the pieces of the first n steps from s
 abbrev pub piecesBefore : List ℕ → List ℤ → List ℤ → ℕ → ℕ → List Piece
-piecesBefore t points lifts s n = map (pieceOn t points lifts) (run (step (rotation t)) s n)
+piecesBefore t points lifts s n = map (pieceOn t points lifts) (iterates (step (rotation t)) s n)
 
 -- there is one step of the walk for each so far, and the present one
 walk-more : {t : List ℕ} {s n at : ℕ} → Walking t s n at → n < length (walk (rotation t) s)
@@ -114,17 +114,17 @@ pub record Laid (t : List ℕ) (points lifts : List ℤ) (s : ℕ) (kinds₀ : L
 -- the loop over the walk
 pub record Laying (t : List ℕ) (points lifts : List ℤ) (s at n : ℕ) (kinds₀ : List ℕ) (coords₀ : List Float) (kinds : List ℕ) (coords : List Float) : Type 0 where
   pub walking : Walking t s n at
-  pub room : Room t points lifts s (length kinds₀) (length coords₀)
+  pub room : PathRoom t points lifts s (length kinds₀) (length coords₀)
   pub kinds-laid : kinds ≡ sets kinds₀ 0 (text kindsOf (piecesBefore t points lifts s n))
   pub coords-laid : coords ≡ sets coords₀ 0 (text floatsOf (piecesBefore t points lifts s n))
 
-pub laying-none : {t : List ℕ} {points lifts : List ℤ} {s : ℕ} {kinds : List ℕ} {coords : List Float} → Room t points lifts s (length kinds) (length coords)
+pub laying-none : {t : List ℕ} {points lifts : List ℤ} {s : ℕ} {kinds : List ℕ} {coords : List Float} → PathRoom t points lifts s (length kinds) (length coords)
     → Laying t points lifts s s 0 kinds coords kinds coords
-unfolding run text
+unfolding iterates text
 laying-none k = record { walking = walking-none (k .lent .stands); room = k; kinds-laid = refl; coords-laid = refl }
 
 before-length : (t : List ℕ) (points lifts : List ℤ) (s n : ℕ) → length (piecesBefore t points lifts s n) ≡ n
-before-length t points lifts s n = length-map (run (step (rotation t)) s n) (pieceOn t points lifts) ∙ run-length (step (rotation t)) s n
+before-length t points lifts s n = length-map (iterates (step (rotation t)) s n) (pieceOn t points lifts) ∙ run-length (step (rotation t)) s n
 
 module _ {t : List ℕ} {points lifts : List ℤ} {s at n : ℕ} {kinds₀ : List ℕ} {coords₀ : List Float} {kinds : List ℕ} {coords : List Float} (k : Laying t points lifts s at n kinds₀ coords₀ kinds coords) where
   pub laying-lent : Lent t points lifts at
@@ -153,11 +153,11 @@ module _ {t : List ℕ} {points lifts : List ℤ} {s at n : ℕ} {kinds₀ : Lis
       (omega arith, omega arith)
 
   -- a piece more
-  module _ {p : Piece} (q : p ≡ pieceOn t points lifts at) {kinds′ : List ℕ} {coords′ : List Float} (w : Wrote n p kinds coords kinds′ coords′) where
+  module _ {p : Piece} (q : p ≡ pieceOn t points lifts at) {kinds′ : List ℕ} {coords′ : List Float} (w : PieceWritten n p kinds coords kinds′ coords′) where
     before-more : piecesBefore t points lifts s n ++ (p ∷ []) ≡ piecesBefore t points lifts s (n + 1)
     before-more =
         let f = step (rotation t) in
-        sym (rw (add-one, run-suc, k .walking .along .here, map-append (pieceOn t points lifts) (run f s n) (at ∷ []), q))
+        sym (rw (add-one, run-suc, k .walking .along .here, map-append (pieceOn t points lifts) (iterates f s n) (at ∷ []), q))
 
     kinds-more : kinds′ ≡ sets kinds₀ 0 (text kindsOf (piecesBefore t points lifts s (n + 1)))
     kinds-more =
@@ -185,7 +185,7 @@ module _ {t : List ℕ} {points lifts : List ℤ} {s at n : ℕ} {kinds₀ : Lis
     laying-coords = ap length coords-more ∙ length-sets coords₀ 0 (text floatsOf (piecesBefore t points lifts s (n + 1)))
 
 -- "then Close"
-module _ {t : List ℕ} {points lifts : List ℤ} {s : ℕ} {kinds₀ : List ℕ} {coords₀ : List Float} {r : ℕ} {kinds : List ℕ} {coords : List Float} (h : Room t points lifts s (length kinds₀) (length coords₀))
+module _ {t : List ℕ} {points lifts : List ℤ} {s : ℕ} {kinds₀ : List ℕ} {coords₀ : List Float} {r : ℕ} {kinds : List ℕ} {coords : List Float} (h : PathRoom t points lifts s (length kinds₀) (length coords₀))
     (k : Laid t points lifts s kinds₀ coords₀ r kinds coords) where
   pub closing-room : (r < length kinds) × (3 * r + 2 < length coords)
   closing-room =
@@ -197,7 +197,7 @@ module _ {t : List ℕ} {points lifts : List ℤ} {s : ℕ} {kinds₀ : List ℕ
       let e = k .count in
       (omega arith, omega arith)
 
-  module _ {kinds′ : List ℕ} {coords′ : List Float} (w : Wrote r Close kinds coords kinds′ coords′) where
+  module _ {kinds′ : List ℕ} {coords′ : List Float} (w : PieceWritten r Close kinds coords kinds′ coords′) where
     walked-length : length (map (pieceOn t points lifts) (walk (rotation t) s)) ≡ r
     walked-length = length-map (walk (rotation t) s) (pieceOn t points lifts) ∙ sym (k .count)
 

@@ -30,10 +30,10 @@ use Rattle.ribbons.specs.declared.survey.Survey.{Survey}
 use Rattle.ribbons.specs.Path.{pointWords, liftWords, pathFrom, kindsOf, floatsOf, text, manyTurns, farStep}
 use Rattle.ribbons.specs.laws.Places.{Lent}
 use Rattle.ribbons.specs.laws.Survey.{surveyOf}
-use Rattle.ribbons.specs.laws.Laying.{kinds-length, floats-length, path-length, Room}
+use Rattle.ribbons.specs.laws.Laying.{kinds-length, floats-length, path-length, PathRoom}
 use Rattle.ribbons.specs.PathCall.{pathAlong, pathAnswer, kindsOut, coordsOut}
 use Rattle.table.specs.Answers.{ifDone}
-use Rattle.table.specs.laws.Answers.{through}
+use Rattle.table.specs.laws.Answers.{let-through}
 
 -- the ends of the measuring
 
@@ -104,17 +104,17 @@ survey-few {t} {s = s} h e =
 
 -- an accepted path has room, and words in range
 
-pub along-room : {t : List ℕ} {s : ℕ} → Stands t s → (points lifts : List ℤ) (m c : ℕ) {n : ℕ} → Done n ≡ pathAlong t points lifts m c s → Room t points lifts s m c
+pub along-room : {t : List ℕ} {s : ℕ} → Stands t s → (points lifts : List ℤ) (m c : ℕ) {n : ℕ} → Done n ≡ pathAlong t points lifts m c s → PathRoom t points lifts s m c
 unfolding pathAlong
 along-room {t} {s} h points lifts m c e =
     let path = pathFrom t points lifts s in
     let steps = walk (rotation t) s in
-    let a = through (leb pointWords (length points)) done-declined (sym e) in
-    let b = through (leb liftWords (length lifts)) done-declined (a .rest) in
-    let d = through (leb (length (text kindsOf path)) m) done-declined (b .rest) in
-    let f = through (leb (length (text floatsOf path)) c) done-declined (d .rest) in
-    let g = through (not (some (manyTurns t) steps)) done-declined (f .rest) in
-    let far = through (not (some (farStep t points lifts) steps)) done-declined (g .rest) in
+    let a = let-through (leb pointWords (length points)) done-declined (sym e) in
+    let b = let-through (leb liftWords (length lifts)) done-declined (a .rest) in
+    let d = let-through (leb (length (text kindsOf path)) m) done-declined (b .rest) in
+    let f = let-through (leb (length (text floatsOf path)) c) done-declined (d .rest) in
+    let g = let-through (not (some (manyTurns t) steps)) done-declined (f .rest) in
+    let far = let-through (not (some (farStep t points lifts) steps)) done-declined (g .rest) in
     let size = path-length t points lifts s in
     let kinds = leb-true (length (text kindsOf path)) m (d .held) in
     let coords = leb-true (length (text floatsOf path)) c (f .held) in

@@ -15,7 +15,7 @@ use Rattle.table.specs.declared.answer.Answer.the-variants.{Done, Declined}
 use Rattle.table.specs.declared.answer.Refusal.the-variants.{Far}
 use Rattle.tracing.specs.Step.{step}
 use Rattle.tracing.specs.Walk.{walk}
-use Rattle.tracing.specs.laws.Walk.{run, run-suc, walk-run, walk-period, walk-period-le}
+use Rattle.tracing.specs.laws.Walk.{iterates, run-suc, walk-run, walk-period, walk-period-le}
 use Rattle.tracing.specs.laws.Meets.{run-has}
 use Rattle.tracing.specs.laws.Stands.{Stands, near, stands-dart, stands-low}
 use Rattle.tracing.specs.laws.Along.{Walking, walking-none, walking-more, walking-all, walking-few, along-few}
@@ -31,7 +31,7 @@ walk-some {t} {s} {n} {at} w q e =
     let low = stands-low (w .start) in
     let p = walk-period R L s low in
     rw (walk-run R s p (walk-period-le R L s low p))
-    (passes-some q (run (step R) s (p .steps)) at (run-has (step R) s at (p .steps) (record { steps = n; few = along-few (w .along) p; lands = w .along .here })) e)
+    (passes-some q (iterates (step R) s (p .steps)) at (run-has (step R) s at (p .steps) (record { steps = n; few = along-few (w .along) p; lands = w .along .here })) e)
 
 pub cut-append : (lengths a b : List ℕ) → cutLength lengths (a ++ b) ≡ cutLength lengths a + cutLength lengths b
 unfolding cutLength
@@ -43,12 +43,12 @@ pub record Summing (t lengths : List ℕ) (s at sum : ℕ) : Type 0 where
   pub so-far : ℕ
   pub walking : Walking t s so-far at
   pub size : edges ≤ length lengths
-  pub near : some (farLength lengths) (run (step (rotation t)) s so-far) ≡ false
-  pub total : sum ≡ cutLength lengths (run (step (rotation t)) s so-far)
+  pub near : some (farLength lengths) (iterates (step (rotation t)) s so-far) ≡ false
+  pub total : sum ≡ cutLength lengths (iterates (step (rotation t)) s so-far)
   pub most : sum ≤ 65535 * so-far
 
 pub summing-none : {t lengths : List ℕ} {s : ℕ} → Stands t s → edges ≤ length lengths → Summing t lengths s s 0
-unfolding run some cutLength
+unfolding iterates some cutLength
 summing-none h l = record { so-far = zero; walking = walking-none h; size = l; near = refl; total = refl; most = omega arith }
 
 module _ {t lengths : List ℕ} {s at sum : ℕ} (k : Summing t lengths s at sum) where
@@ -68,18 +68,18 @@ module _ {t lengths : List ℕ} {s at sum : ℕ} (k : Summing t lengths s at sum
     pub summing-fits : (sum + lengthOf lengths at ≤ 65535 * (k .so-far + 1)) × (k .so-far < 4096)
     summing-fits = let most = k .most in let few = walking-few (k .walking) in (omega arith, omega arith)
 
-    near-more : some (farLength lengths) (run (step (rotation t)) s (k .so-far + 1)) ≡ false
+    near-more : some (farLength lengths) (iterates (step (rotation t)) s (k .so-far + 1)) ≡ false
     unfolding some
     near-more =
         let f = step (rotation t) in
-        rw (add-one, run-suc, k .walking .along .here, some-append (farLength lengths) (run f s (k .so-far)) (at ∷ []), k .near, le-ltb (lengthOf lengths at) 1 low, le-ltb 65535 (lengthOf lengths at) high)
+        rw (add-one, run-suc, k .walking .along .here, some-append (farLength lengths) (iterates f s (k .so-far)) (at ∷ []), k .near, le-ltb (lengthOf lengths at) 1 low, le-ltb 65535 (lengthOf lengths at) high)
 
-    total-more : sum + lengthOf lengths at ≡ cutLength lengths (run (step (rotation t)) s (k .so-far + 1))
+    total-more : sum + lengthOf lengths at ≡ cutLength lengths (iterates (step (rotation t)) s (k .so-far + 1))
     unfolding cutLength
     total-more =
         let f = step (rotation t) in
         let total = k .total in
-        rw (add-one, run-suc, k .walking .along .here, cut-append lengths (run f s (k .so-far)) (at ∷ [])) (omega arith)
+        rw (add-one, run-suc, k .walking .along .here, cut-append lengths (iterates f s (k .so-far)) (at ∷ [])) (omega arith)
 
     pub summing-more : {next : ℕ} → next ≡ step (rotation t) at → next ≢ s → Summing t lengths s next (sum + lengthOf lengths at)
     summing-more e b = record {

@@ -11,7 +11,7 @@ use lib.ListN.{length, length-append}
 use Rattle.table.specs.Rotation.{rotation}
 use Rattle.tracing.specs.Step.{step}
 use Rattle.tracing.specs.Walk.{walk}
-use Rattle.tracing.specs.laws.Walk.{run, run-suc, run-length}
+use Rattle.tracing.specs.laws.Walk.{iterates, run-suc, run-length}
 use Rattle.tracing.specs.laws.Along.{Walking, walking-none, walking-more, walking-all, walking-few}
 use Rattle.weave.specs.Letters.{crossings}
 use Rattle.weave.specs.laws.Crossing.{EdgeWord}
@@ -48,10 +48,10 @@ pub record Surveying (t : List ℕ) (points lifts : List ℤ) (s at : ℕ) (v : 
   pub walking : Walking t s so-far at
   pub points-size : pointWords ≤ length points
   pub lifts-size : liftWords ≤ length lifts
-  pub seen : v ≡ surveyOf t points lifts (run (step (rotation t)) s so-far)
+  pub seen : v ≡ surveyOf t points lifts (iterates (step (rotation t)) s so-far)
 
 pub surveying-none : {t : List ℕ} {points lifts : List ℤ} {s : ℕ} → Lent t points lifts s → Surveying t points lifts s s (record { steps = 0; many = false; far = false })
-unfolding run surveyOf some
+unfolding iterates surveyOf some
 surveying-none k = record { so-far = zero; walking = walking-none (k .stands); points-size = k .points-size; lifts-size = k .lifts-size; seen = refl }
 
 module _ {t : List ℕ} {points lifts : List ℤ} {s at : ℕ} {v : Survey} (k : Surveying t points lifts s at v) where
@@ -63,9 +63,9 @@ module _ {t : List ℕ} {points lifts : List ℤ} {s at : ℕ} {v : Survey} (k :
   surveying-few = rw (k .seen, run-length) (walking-few (k .walking))
 
   module _ {m f : Bool} {v′ : Survey} (a : m ≡ manyTurns t at) (b : f ≡ farStep t points lifts at) (c : v′ ≡ surveyWith v m f) where
-    seen-more : v′ ≡ surveyOf t points lifts (run (step (rotation t)) s (k .so-far + 1))
+    seen-more : v′ ≡ surveyOf t points lifts (iterates (step (rotation t)) s (k .so-far + 1))
     seen-more =
-        let l = run (step (rotation t)) s (k .so-far) in
+        let l = iterates (step (rotation t)) s (k .so-far) in
         let seen : surveyWith v m f ≡ surveyOf t points lifts (l ++ (at ∷ [])) = rw (a, b, k .seen) (survey-more t points lifts l at) in
         rw (add-one, run-suc, k .walking .along .here) (c ∙ seen)
 

@@ -90,14 +90,14 @@ module _ {t₀ s : List ℕ} {number : ℕ} {out₀ t : List ℕ} {at next end :
     here = rw left-part at e
 
     -- a record that is whole: its size, the next number, the place of its line
-    pub record Within (size : ℕ) : Type 0 where
+    pub record ReadWithin (size : ℕ) : Type 0 where
       pub some : 4 ≤ size
       pub there : at + size ≤ length s
       pub low : at + size ≤ 2 ^ 32
       pub number-fits : next + 1 < 2 ^ 64
       pub place : end ≤ 2 ^ 40
 
-    pub running-within : {E : Edit} {size : ℕ} → f ≡ Record E size → Within size
+    pub running-within : {E : Edit} {size : ℕ} → f ≡ Record E size → ReadWithin size
     running-within q =
         let z = record-sized (drop at s) (sym here ∙ q) in
         let left = length-drop at s in

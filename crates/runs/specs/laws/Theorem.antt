@@ -20,7 +20,7 @@ use Rattle.tracing.specs.laws.Stands.{stands-low}
 use Rattle.surgery.specs.Change.{Change, less, as-many, more, Changes}
 use Rattle.edits.specs.Edits.{edited, answer}
 use Rattle.edits.specs.laws.Edits.{edited-passes, edited-declines, answer-passes, answer-declines}
-use Rattle.edits.specs.laws.Passed.{written-good}
+use Rattle.edits.specs.laws.WrittenGood.{written-good}
 use Rattle.edits.specs.Changes.{change}
 use Rattle.edits.specs.laws.Changes.{written-changes}
 use Rattle.edits.specs.declared.edit.Edit.{Edit}

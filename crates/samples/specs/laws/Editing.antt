@@ -1,4 +1,4 @@
--- Runs of edits on sparse tables: as `run` and its answers on the table that is put.
+-- Runs of edits on sparse tables: as `run` and its answers on the table that is tableOf.
 --     verdictOn, editedOn, answerOn     one edit;     runOn, answersOn     a run
 use Prim.Native.Nat.{ℕ, _+_}
 use mathlib.Core.Path.{_≡_, refl, _∙_, ap, ap₂}
@@ -28,8 +28,8 @@ use Rattle.edits.specs.declared.edit.Verdict.the-variants.{Passes, Declines}
 use Rattle.runs.specs.Run.{run}
 use Rattle.runs.specs.laws.Theorem.{edited-good}
 use Rattle.samples.specs.Samples.{answers}
-use Rattle.samples.specs.laws.Sparse.{Writes, put, read, put-read}
-use Rattle.samples.specs.laws.Reading.{rotationBy, rotation-by, facesOn, faces-read}
+use Rattle.samples.specs.laws.Sparse.{Writes, tableOf, read, put-read}
+use Rattle.samples.specs.laws.SparseMesh.{rotationBy, rotation-by, facesOn, faces-read}
 use Rattle.samples.specs.laws.Writing.{writtenOn, written-on}
 use Rattle.table.specs.declared.answer.Refusal.{Refusal}
 
@@ -79,29 +79,29 @@ editedOn ws E = writesBy (verdictOn ws E) (writtenOn ws E) ws
 unfoldable pub answerOn : Writes → Edit → Answer
 answerOn ws E = answeredBy (verdictOn ws E) (facesOn (writtenOn ws E))
 
-module _ (ws : Writes) (E : Edit) (g : Good (put ws)) where
-  verdict-on : verdict (put ws) E ≡ verdictOn ws E
+module _ (ws : Writes) (E : Edit) (g : Good (tableOf ws)) where
+  verdict-on : verdict (tableOf ws) E ≡ verdictOn ws E
   unfolding verdictOn
-  verdict-on = verdict-by (put ws) E g ∙ ap (λ h. verdictBy h E) (put-read ws)
+  verdict-on = verdict-by (tableOf ws) E g ∙ ap (λ h. verdictBy h E) (put-read ws)
 
-  edited-on : edited (put ws) E ≡ put (editedOn ws E)
+  edited-on : edited (tableOf ws) E ≡ tableOf (editedOn ws E)
   unfolding editedOn
   edited-on = by (verdictOn ws E) verdict-on
     where
-      by : (v : Verdict) → verdict (put ws) E ≡ v → edited (put ws) E ≡ put (writesBy v (writtenOn ws E) ws)
-      by Passes e = edited-passes (put ws) E e ∙ written-on ws E
-      by (Declines r) e = edited-declines (put ws) E r e
+      by : (v : Verdict) → verdict (tableOf ws) E ≡ v → edited (tableOf ws) E ≡ tableOf (writesBy v (writtenOn ws E) ws)
+      by Passes e = edited-passes (tableOf ws) E e ∙ written-on ws E
+      by (Declines r) e = edited-declines (tableOf ws) E r e
 
-  answer-on : answer (put ws) E ≡ answerOn ws E
+  answer-on : answer (tableOf ws) E ≡ answerOn ws E
   unfolding answerOn
   answer-on = by (verdictOn ws E) verdict-on
     where
-      by : (v : Verdict) → verdict (put ws) E ≡ v → answer (put ws) E ≡ answeredBy v (facesOn (writtenOn ws E))
-      by Passes e = answer-passes (put ws) E e ∙ ap (λ t. Done (faceCount (rotation t))) (written-on ws E) ∙ ap Done (faces-read (writtenOn ws E))
-      by (Declines r) e = answer-declines (put ws) E r e
+      by : (v : Verdict) → verdict (tableOf ws) E ≡ v → answer (tableOf ws) E ≡ answeredBy v (facesOn (writtenOn ws E))
+      by Passes e = answer-passes (tableOf ws) E e ∙ ap (λ t. Done (faceCount (rotation t))) (written-on ws E) ∙ ap Done (faces-read (writtenOn ws E))
+      by (Declines r) e = answer-declines (tableOf ws) E r e
 
-  good-on : Good (put (editedOn ws E))
-  good-on = rw edited-on at (edited-good (put ws) E g)
+  good-on : Good (tableOf (editedOn ws E))
+  good-on = rw edited-on at (edited-good (tableOf ws) E g)
 
 unfoldable pub runOn : Writes → List Edit → Writes
 runOn ws [] = ws
@@ -111,12 +111,12 @@ unfoldable pub answersOn : Writes → List Edit → List ℤ
 answersOn ws [] = []
 answersOn ws (E ∷ Es) = codeOf (answerOn ws E) ∷ answersOn (editedOn ws E) Es
 
-pub run-on : (ws : Writes) (Es : List Edit) → Good (put ws) → run (put ws) Es ≡ put (runOn ws Es)
+pub run-on : (ws : Writes) (Es : List Edit) → Good (tableOf ws) → run (tableOf ws) Es ≡ tableOf (runOn ws Es)
 unfolding run runOn
 run-on ws [] g = refl
 run-on ws (E ∷ Es) g = ap (λ t. run t Es) (edited-on ws E g) ∙ run-on (editedOn ws E) Es (good-on ws E g)
 
-pub answers-on : (ws : Writes) (Es : List Edit) → Good (put ws) → answers (put ws) Es ≡ answersOn ws Es
+pub answers-on : (ws : Writes) (Es : List Edit) → Good (tableOf ws) → answers (tableOf ws) Es ≡ answersOn ws Es
 unfolding answers answersOn
 answers-on ws [] g = refl
 answers-on ws (E ∷ Es) g =

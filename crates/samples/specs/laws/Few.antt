@@ -20,10 +20,11 @@ use Rattle.tracing.specs.Listing.{only, starts, alones, loneCorner, faces, face
 use Rattle.tracing.specs.laws.Listing.{starts-suc, fresh-dead, alones-suc, lone-no}
 use Rattle.surface.specs.Links.{Spot, spot, links, liveEdges}
 use Rattle.surface.specs.Labels.{twisted, untwisted, spots, label, orientable}
-use Rattle.surface.specs.Counts.{vertexCount, edgeCount}
+use Rattle.surface.specs.Counts.{vertexCount}
 use Rattle.surface.specs.Parts.{root?, partsBelow, parts}
 use Rattle.surface.specs.Signed.{eulerOf, meshEuler}
 use Rattle.samples.specs.Samples.{walkLengths}
+use Rattle.tracing.specs.Met.{edgeCount}
 
 pub record Few (R : Rotation) (m n : ℕ) : Type 0 where
   pub edges-room : m ≤ edges

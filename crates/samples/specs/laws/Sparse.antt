@@ -1,6 +1,6 @@
 -- A table as the words that were written over the empty mesh, the latest first: a place and its word. A read costs as many steps as
 -- there are writes, whatever the place.
---     put                  the table;     read      what its words are
+--     tableOf                  the table;     read      what its words are
 --     span                 how many names of a kind may be live
 use Prim.Native.Nat.{ℕ, suc, _+_, _-_, _<_, _≤_, max}
 use native.Mathlib.Omega.{arith}
@@ -19,9 +19,9 @@ use Rattle.table.specs.laws.Empty.{emptyWord, empty-word, empty-size}
 abbrev pub Writes : Type 0
 Writes = List (ℕ × ℕ)
 
-unfoldable pub put : Writes → List ℕ
-put [] = emptyTable
-put (w ∷ ws) = set (put ws) (w .0) (w .1)
+unfoldable pub tableOf : Writes → List ℕ
+tableOf [] = emptyTable
+tableOf (w ∷ ws) = set (tableOf ws) (w .0) (w .1)
 
 unfoldable pub lookup : Writes → ℕ → ℕ
 lookup [] i = emptyWord i
@@ -30,29 +30,29 @@ lookup (w ∷ ws) i = elim (eqb i (w .0)) [ true ↦ w .1 | false ↦ lookup ws 
 unfoldable pub read : Writes → ℕ → ℕ
 read ws i = elim (ltb i words) [ true ↦ lookup ws i | false ↦ 0 ]
 
-put-size : (ws : Writes) → length (put ws) ≡ words
-unfolding put
+put-size : (ws : Writes) → length (tableOf ws) ≡ words
+unfolding tableOf
 put-size [] = empty-size
-put-size (w ∷ ws) = length-set (put ws) (w .0) (w .1) ∙ put-size ws
+put-size (w ∷ ws) = length-set (tableOf ws) (w .0) (w .1) ∙ put-size ws
 
-put-lookup : (ws : Writes) (i : ℕ) → i < words → getD (put ws) i 0 ≡ lookup ws i
-unfolding put lookup
+put-lookup : (ws : Writes) (i : ℕ) → i < words → getD (tableOf ws) i 0 ≡ lookup ws i
+unfolding tableOf lookup
 put-lookup [] i h = empty-word i h
 put-lookup (w ∷ ws) i h = elim (ℕ-discrete i (w .0)) [
   | yes e ↦
-      let same : getD (set (put ws) i (w .1)) i 0 ≡ w .1 = getD-set-same (put ws) i (w .1) 0 (rw (put-size ws) h) in
-      rw (eq-eqb i (w .0) e, lookup) (ap (λ k. getD (set (put ws) k (w .1)) i 0) (sym e) ∙ same)
-  | no n ↦ rw (ne-eqb i (w .0) n, lookup) (getD-set-other (put ws) (w .0) i (w .1) 0 n ∙ put-lookup ws i h)
+      let same : getD (set (tableOf ws) i (w .1)) i 0 ≡ w .1 = getD-set-same (tableOf ws) i (w .1) 0 (rw (put-size ws) h) in
+      rw (eq-eqb i (w .0) e, lookup) (ap (λ k. getD (set (tableOf ws) k (w .1)) i 0) (sym e) ∙ same)
+  | no n ↦ rw (ne-eqb i (w .0) n, lookup) (getD-set-other (tableOf ws) (w .0) i (w .1) 0 n ∙ put-lookup ws i h)
 ]
 
-read-at : (ws : Writes) (i : ℕ) → getD (put ws) i 0 ≡ read ws i
+read-at : (ws : Writes) (i : ℕ) → getD (tableOf ws) i 0 ≡ read ws i
 unfolding read
 read-at ws i = elim (decLt i words) [
   | yes h ↦ rw (lt-ltb i words h, read) (put-lookup ws i h)
-  | no h ↦ rw (le-ltb i words (omega arith), read) (List·getD-eq-default (put ws) 0 (rw (put-size ws) (omega arith)))
+  | no h ↦ rw (le-ltb i words (omega arith), read) (List·getD-eq-default (tableOf ws) 0 (rw (put-size ws) (omega arith)))
 ]
 
-pub put-read : (ws : Writes) → (λ i. getD (put ws) i 0) ≡ read ws
+pub put-read : (ws : Writes) → (λ i. getD (tableOf ws) i 0) ≡ read ws
 put-read ws = fun-ext (read-at ws)
 
 -- one more than the last of the places from a on, below b, that are written, counted from a

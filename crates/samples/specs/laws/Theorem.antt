@@ -11,14 +11,14 @@ use Rattle.tracing.specs.Walk.{onward, walk, corners}
 use Rattle.tracing.specs.Listing.{has, gather, fresh, starts, lone, alones}
 use Rattle.tracing.specs.Corner.{wellFormed, present}
 use Rattle.edits.specs.Turns.{turnsIn}
-use Rattle.surface.specs.Links.{spot, links, link, moved, liveEdges}
+use Rattle.surface.specs.Links.{spot, links, joinedBy, moved, liveEdges}
 use Rattle.surface.specs.Labels.{twisted, agrees}
 use Rattle.surface.specs.Signed.{eulerOf}
 use Rattle.weave.specs.Letters.{crossings, letter, crossed, lettersOn, apart, alternating, every}
 use Rattle.samples.specs.Samples.{Fact, F, Euler, Marks, Steps, Plain, Turns, Has, All, Sample, Holds, samples}
-use Rattle.samples.specs.laws.Sparse.{Writes, put, lookup, read, put-read, span}
+use Rattle.samples.specs.laws.Sparse.{Writes, tableOf, lookup, read, put-read, span}
 use Rattle.samples.specs.laws.Few.{facesFew, eulerFew, spotsFew, ownLabels, marksFew, lengthsFew}
-use Rattle.samples.specs.laws.Reading.{plainBy, facesOn, eulerOn, marksOn, lengthsOn, plainOn, faces-read, euler-read, marks-read, lengths-read, plain-read}
+use Rattle.samples.specs.laws.SparseMesh.{plainBy, facesOn, eulerOn, marksOn, lengthsOn, plainOn, faces-read, euler-read, marks-read, lengths-read, plain-read}
 use Rattle.samples.specs.laws.Writing.{spliceOn, linkOn, writtenOn}
 use Rattle.samples.specs.laws.Editing.{verdictOn, editedOn, answerOn, runOn, answersOn, run-on, answers-on}
 
@@ -31,7 +31,7 @@ found ws (Steps l) = Steps (lengthsOn ws)
 found ws (Plain b) = Plain (plainOn ws)
 found ws (Turns e z) = Turns e (turnsIn (read ws (edgeAt + e)))
 
-has-found : (ws : Writes) (f : Fact) → found ws f ≡ f → Has (put ws) f
+has-found : (ws : Writes) (f : Fact) → found ws f ≡ f → Has (tableOf ws) f
 has-found ws (F n) p = faces-read ws ∙ cc
 has-found ws (Euler z) p = euler-read ws ∙ cc
 has-found ws (Marks l) p = marks-read ws ∙ cc
@@ -53,7 +53,7 @@ abbrev computed : Sample → Sample
 computed s = record { edits = s .edits; answered = answersOn [] (s .edits); facts = map (found (runOn [] (s .edits))) (s .facts) }
 
 holds-computed : (s : Sample) → computed s ≡ s → Holds s
-unfolding put
+unfolding tableOf
 holds-computed s e =
     let ws = runOn [] (s .edits) in
     record {
@@ -62,5 +62,5 @@ holds-computed s e =
     }
 
 pub samples-hold : All Holds samples
-unfolding runOn answersOn editedOn answerOn verdictOn writtenOn linkOn spliceOn facesOn eulerOn marksOn lengthsOn plainOn read lookup span facesFew eulerFew spotsFew ownLabels marksFew lengthsFew plainBy wellFormed present starts fresh has gather corners walk onward step stepType around corner alones lone count eulerOf spot links link moved liveEdges twisted agrees every alternating apart lettersOn crossed crossings letter
+unfolding runOn answersOn editedOn answerOn verdictOn writtenOn linkOn spliceOn facesOn eulerOn marksOn lengthsOn plainOn read lookup span facesFew eulerFew spotsFew ownLabels marksFew lengthsFew plainBy wellFormed present starts fresh has gather corners walk onward step stepType around corner alones lone count eulerOf spot links joinedBy moved liveEdges twisted agrees every alternating apart lettersOn crossed crossings letter
 samples-hold = all-map holds-computed samples (each-same computed samples refl)

@@ -1,5 +1,5 @@
 -- The words that an edit writes, on sparse tables.
---     linkOn, unlinkOn, writtenOn      as `link`, `unlink`, `written` on the table that is put;     link-on, unlink-on, written-on
+--     linkOn, unlinkOn, writtenOn      as `link`, `unlink`, `written` on the table that is tableOf;     link-on, unlink-on, written-on
 use Prim.Native.Nat.{ℕ, zero, suc, _+_, _-_, _*_}
 use native.Mathlib.Omega.{arith}
 use native.Mathlib.Decide.{ℕ-discrete, decLt}
@@ -17,9 +17,9 @@ use Rattle.edits.specs.laws.Edge.{dart-link, link-past}
 use Rattle.edits.specs.Edits.{written}
 use Rattle.edits.specs.declared.edit.Edit.{Edit}
 use Rattle.edits.specs.declared.edit.Edit.the-variants.{AddVertex, RemoveVertex, InsertEdge, DeleteEdge, TurnEdge}
-use Rattle.samples.specs.laws.Sparse.{Writes, put, read, put-read}
+use Rattle.samples.specs.laws.Sparse.{Writes, tableOf, read, put-read}
 
--- a dart put into a corner
+-- a dart tableOf into a corner
 unfoldable pub spliceOn : Writes → ℕ → ℕ → ℕ → ℕ → ℕ → Writes
 spliceOn ws x d p v w = (vertexAt + v, w) ∷ (leavesAt + x, v) ∷ (prevAt + x, p) ∷ (p, x) ∷ (prevAt + d, x) ∷ (x, d) ∷ ws
 
@@ -29,19 +29,19 @@ linkOn ws x c = elim (ltb c darts) [
   | false ↦ spliceOn ws x x x (c - loneAt) x
 ]
 
-splice-on : (ws : Writes) (x d p v w : ℕ) → splice (put ws) x d p v w ≡ put (spliceOn ws x d p v w)
-unfolding put spliceOn
+splice-on : (ws : Writes) (x d p v w : ℕ) → splice (tableOf ws) x d p v w ≡ tableOf (spliceOn ws x d p v w)
+unfolding tableOf spliceOn
 splice-on ws x d p v w = refl
 
-link-on : (ws : Writes) (x c : ℕ) → link (put ws) x c ≡ put (linkOn ws x c)
+link-on : (ws : Writes) (x c : ℕ) → link (tableOf ws) x c ≡ tableOf (linkOn ws x c)
 unfolding linkOn
 link-on ws x c = elim (decLt c darts) [
   | yes h ↦
       rw (lt-ltb c darts h, linkOn)
-      (sym (dart-link (put ws) x c _ h refl)
-      ∙ ap (λ g. splice (put ws) x c (g (prevAt + c)) (g (leavesAt + c)) (lesser (g (vertexAt + g (leavesAt + c))) x)) (put-read ws)
+      (sym (dart-link (tableOf ws) x c _ h refl)
+      ∙ ap (λ g. splice (tableOf ws) x c (g (prevAt + c)) (g (leavesAt + c)) (lesser (g (vertexAt + g (leavesAt + c))) x)) (put-read ws)
       ∙ splice-on ws x c (read ws (prevAt + c)) (read ws (leavesAt + c)) (lesser (read ws (vertexAt + read ws (leavesAt + c))) x))
-  | no h ↦ rw (le-ltb c darts (omega arith), linkOn) (link-past (put ws) x c (omega arith) ∙ splice-on ws x x x (c - loneAt) x)
+  | no h ↦ rw (le-ltb c darts (omega arith), linkOn) (link-past (tableOf ws) x c (omega arith) ∙ splice-on ws x x x (c - loneAt) x)
 ]
 
 -- the first of k darts from d on that leaves v, by `read`
@@ -68,19 +68,19 @@ refoundOn ws x v w = (vertexAt + v, cond (eqb w x) (seekBy (read ws) v x (darts 
 unfoldable pub unlinkOn : Writes → ℕ → Writes
 unlinkOn ws x = refoundOn (cutOn ws x (read ws x) (read ws (prevAt + x))) x (read ws (leavesAt + x)) (read ws (vertexAt + read ws (leavesAt + x)))
 
-cut-on : (ws : Writes) (x n p : ℕ) → cut (put ws) x n p ≡ put (cutOn ws x n p)
-unfolding put cutOn
+cut-on : (ws : Writes) (x n p : ℕ) → cut (tableOf ws) x n p ≡ tableOf (cutOn ws x n p)
+unfolding tableOf cutOn
 cut-on ws x n p = refl
 
-refound-on : (ws : Writes) (x v w : ℕ) → set (put ws) (vertexAt + v) (successor (put ws) v x w) ≡ put (refoundOn ws x v w)
-unfolding put refoundOn
+refound-on : (ws : Writes) (x v w : ℕ) → set (tableOf ws) (vertexAt + v) (successor (tableOf ws) v x w) ≡ tableOf (refoundOn ws x v w)
+unfolding tableOf refoundOn
 refound-on ws x v w =
-    ap (λ k. set (put ws) (vertexAt + v) (cond (eqb w x) k w)) (seek-by (put ws) v x (darts - x) ∙ ap (λ g. seekBy g v x (darts - x)) (put-read ws))
+    ap (λ k. set (tableOf ws) (vertexAt + v) (cond (eqb w x) k w)) (seek-by (tableOf ws) v x (darts - x) ∙ ap (λ g. seekBy g v x (darts - x)) (put-read ws))
 
-unlink-on : (ws : Writes) (x : ℕ) → unlink (put ws) x ≡ put (unlinkOn ws x)
+unlink-on : (ws : Writes) (x : ℕ) → unlink (tableOf ws) x ≡ tableOf (unlinkOn ws x)
 unfolding unlinkOn
 unlink-on ws x =
-    ap (λ g. let c = cut (put ws) x (g x) (g (prevAt + x)) in set c (vertexAt + g (leavesAt + x)) (successor c (g (leavesAt + x)) x (g (vertexAt + g (leavesAt + x))))) (put-read ws)
+    ap (λ g. let c = cut (tableOf ws) x (g x) (g (prevAt + x)) in set c (vertexAt + g (leavesAt + x)) (successor c (g (leavesAt + x)) x (g (vertexAt + g (leavesAt + x))))) (put-read ws)
     ∙ ap (λ c. set c (vertexAt + read ws (leavesAt + x)) (successor c (read ws (leavesAt + x)) x (read ws (vertexAt + read ws (leavesAt + x))))) (cut-on ws x (read ws x) (read ws (prevAt + x)))
     ∙ refound-on (cutOn ws x (read ws x) (read ws (prevAt + x))) x (read ws (leavesAt + x)) (read ws (vertexAt + read ws (leavesAt + x)))
 
@@ -91,10 +91,10 @@ writtenOn ws (InsertEdge e c₁ c₂ k) = (edgeAt + e, turnedWord 100 k) ∷ lin
 writtenOn ws (DeleteEdge e) = (edgeAt + e, 0) ∷ unlinkOn (unlinkOn ws (2 * e)) (2 * e + 1)
 writtenOn ws (TurnEdge e a) = (edgeAt + e, turnedWord (read ws (edgeAt + e)) a) ∷ ws
 
-pub written-on : (ws : Writes) (E : Edit) → written (put ws) E ≡ put (writtenOn ws E)
-unfolding put writtenOn
+pub written-on : (ws : Writes) (E : Edit) → written (tableOf ws) E ≡ tableOf (writtenOn ws E)
+unfolding tableOf writtenOn
 written-on ws (AddVertex v) = refl
 written-on ws (RemoveVertex v) = refl
 written-on ws (InsertEdge e c₁ c₂ k) = rw (link-on ws (2 * e + 1) c₂, link-on (linkOn ws (2 * e + 1) c₂) (2 * e) (firstCorner e c₁ c₂))
 written-on ws (DeleteEdge e) = rw (unlink-on ws (2 * e), unlink-on (unlinkOn ws (2 * e)) (2 * e + 1))
-written-on ws (TurnEdge e a) = ap (λ g. set (put ws) (edgeAt + e) (turnedWord (g (edgeAt + e)) a)) (put-read ws)
+written-on ws (TurnEdge e a) = ap (λ g. set (tableOf ws) (edgeAt + e) (turnedWord (g (edgeAt + e)) a)) (put-read ws)

@@ -19,7 +19,7 @@ use Rattle.table.specs.declared.answer.Answer.the-variants.{Done, Declined}
 use Rattle.table.specs.declared.answer.Refusal.the-variants.{ShortSlice}
 use Rattle.surface.specs.Parts.{root?}
 use Rattle.surface.specs.laws.Rows.{Written}
-use Rattle.surface.specs.laws.Mesh.{MeshCounts, Counted, parts-count, rows-length}
+use Rattle.surface.specs.laws.Mesh.{MeshCounts, AddedUp, parts-count, rows-length}
 use Rattle.surface.specs.Calls.{fiveWords, countsOf, countsAnswer, countsOut, partRows, partsAnswer, partsOut}
 
 -- five stores
@@ -52,7 +52,7 @@ module _ (t : List ℕ) (out : List ℤ) (g : good? t ≡ true) where
       let stored : _ ≡ sets out 0 text = w ∙ rw (toZ-ofZ (m .euler-fits), m .vertices-are, m .edges-are, m .walks-are, m .parts-are, m .euler-is) in
       output-done t text out g refl h (stored ∙ sets-front text out h)
 
-module _ (t : List ℕ) {k : ℕ} (c : Counted (root? (rotation t)) vertices k) where
+module _ (t : List ℕ) {k : ℕ} (c : AddedUp (root? (rotation t)) vertices k) where
   pub rows-size : length (partRows (rotation t)) ≡ 6 * k
   rows-size = let a = rows-length (rotation t) in let b = parts-count (rotation t) in let p = c .passed in omega arith
 

@@ -13,7 +13,7 @@ use Rattle.table.specs.Layout.{rev}
 use Rattle.table.specs.Rotation.{Rotation, Lawful}
 use Rattle.table.specs.laws.Lawful.{rev-rev}
 use Rattle.orbits.specs.laws.Truth.{same-truth}
-use Rattle.surgery.specs.laws.PlacesIn.{Kept}
+use Rattle.surgery.specs.laws.PlacesIn.{EndsTogether}
 use Rattle.tracing.specs.laws.Step.{type?, is-zero, is-one}
 use Rattle.surface.specs.Chain.{Chain, here, along, PartOf, Orientable}
 
@@ -37,7 +37,7 @@ pub chain-sym : {R : Rotation} {u v : ℕ} → Lawful R → Chain R u v → Chai
 chain-sym {R} {u} {v} L c = chain-ind R u (λ w. Chain R w u) here (λ d l m t. chain-trans (chain-back L d l) t) v c
 
 -- the ends of an edge of a part are both in it
-pub part-kept : {R : Rotation} {r : ℕ} {Q : ℕ → Bool} → Lawful R → PartOf R r Q → Kept R Q
+pub part-kept : {R : Rotation} {r : ℕ} {Q : ℕ → Bool} → Lawful R → PartOf R r Q → EndsTogether R Q
 part-kept {R} {r} {Q} L P = record {
   edge = λ d l. same-truth (Q (R .from (rev d))) (Q (R .from d))
       (λ t. P .all (R .from d) (chain-trans (P .joins (R .from (rev d)) t) (chain-back L d l)))

@@ -17,7 +17,7 @@ use Rattle.tracing.specs.Step.{steps, around, stepType, step}
 use Rattle.tracing.specs.laws.Step.{Type?, is-zero, is-one, type?, around-next, around-prev, step-type, step-word, mirror-type}
 use Rattle.tracing.specs.laws.Place.{places, trace, flip, on, place, is-step, is-still, trace-step, trace-still, flip-step, flip-still, on-step}
 use Rattle.tracing.specs.laws.Mirrored.{mirrored}
-use Rattle.surgery.specs.laws.PlacesIn.{vertexAt, placesIn, Kept, vertex-step, vertex-flip, part-within, placesIn-part}
+use Rattle.surgery.specs.laws.PlacesIn.{placeVertex, placesIn, EndsTogether, vertex-step, vertex-flip, part-within, placesIn-part}
 use Rattle.surface.specs.laws.Chain.{MarksOn}
 
 module _ (R : Rotation) where
@@ -25,11 +25,11 @@ module _ (R : Rotation) where
   unfolding stepType
   trace-type s h = rw (trace-step R s h) (step-type R s)
 
-  pub in-vertex : (Q : ℕ → Bool) (s : ℕ) → placesIn R Q s ≡ true → Q (vertexAt R s) ≡ true
+  pub in-vertex : (Q : ℕ → Bool) (s : ℕ) → placesIn R Q s ≡ true → Q (placeVertex R s) ≡ true
   unfolding placesIn
-  in-vertex Q s t = both-right (on R s) (Q (vertexAt R s)) t
+  in-vertex Q s t = both-right (on R s) (Q (placeVertex R s)) t
 
-  pub on-in : (Q : ℕ → Bool) (s : ℕ) → on R s ≡ true → Q (vertexAt R s) ≡ true → placesIn R Q s ≡ true
+  pub on-in : (Q : ℕ → Bool) (s : ℕ) → on R s ≡ true → Q (placeVertex R s) ≡ true → placesIn R Q s ≡ true
   unfolding placesIn
   on-in Q s o q = both o q
 
@@ -42,16 +42,16 @@ module _ {R : Rotation} (L : Lawful R) where
       let half : (2 * R .prev d + 1) / 2 ≡ R .prev d = omega arith in
       rw (around-prev R t d e, half) (sym (L .from-next (R .prev d)) ∙ ap (R .from) (L .next-prev d))
 
-  pub vertex-trace : (s : ℕ) → s < steps → vertexAt R (trace R s) ≡ R .from (rev (s / 2))
+  pub vertex-trace : (s : ℕ) → s < steps → placeVertex R (trace R s) ≡ R .from (rev (s / 2))
   unfolding step stepType
   vertex-trace s h =
       rw (trace-step R s h) (vertex-step R (step R s) (step-word R L s h) ∙ around-from ((s + R .turns (s / 2)) % 2) (rev (s / 2)) (type? (s + R .turns (s / 2))))
 
 -- the type of a place and the mark of its vertex
 unfoldable pub colour : Rotation → (ℕ → ℕ) → ℕ → ℕ
-colour R m s = (s % 2 + m (vertexAt R s)) % 2
+colour R m s = (s % 2 + m (placeVertex R s)) % 2
 
-module _ {R : Rotation} (L : Lawful R) {Q : ℕ → Bool} (K : Kept R Q) {m : ℕ → ℕ} (M : MarksOn R Q m) where
+module _ {R : Rotation} (L : Lawful R) {Q : ℕ → Bool} (K : EndsTogether R Q) {m : ℕ → ℕ} (M : MarksOn R Q m) where
   colour-trace : (s : ℕ) → placesIn R Q s ≡ true → colour R m (trace R s) ≡ colour R m s
   unfolding colour
   colour-trace s t = elim (place s) [

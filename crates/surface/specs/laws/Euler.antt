@@ -16,12 +16,13 @@ use Rattle.surface.specs.Chain.{PartOf}
 use Rattle.surface.specs.laws.Chain.{part-kept}
 use Rattle.surface.specs.laws.Links.{live-edge, live-edge-low}
 use Rattle.surface.specs.laws.Labels.{chain-dec}
-use Rattle.surface.specs.Counts.{edgeCount, walksIn}
+use Rattle.surface.specs.Counts.{walksIn}
 use Rattle.surface.specs.laws.Counts.{facesAt, walks-faces, EulerLaws}
 use Rattle.surface.specs.laws.WithEdge.{edge-fewer}
 use Rattle.surface.specs.laws.NoEdges.{bare-laws}
 use Rattle.surface.specs.laws.Inside.{away-part, away-laws, inside-part, inside-laws}
 use Rattle.surface.specs.laws.Joint.{first-part, second-part, joint-laws}
+use Rattle.tracing.specs.Met.{edgeCount}
 
 -- a class of lawful rotation systems in which any edge can be taken out
 pub record Closed (C : Rotation → Type 0) : Type 0 where

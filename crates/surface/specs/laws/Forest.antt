@@ -4,7 +4,7 @@
 --     Points, Forest       the arrays stand for s
 --     Moved, moved-shape, moved-forest     one vertex points elsewhere
 --     lift, liftTurn       a vertex points up to its parent's parent;     lift-shape, lift-forest     that changes nothing of s
---     Found, Finding       the root of a vertex, and the loop that climbs to it
+--     RootFound, Finding       the root of a vertex, and the loop that climbs to it
 --     FlatBelow, Flattening     each vertex points to its root, and the loop that makes it so
 use Prim.Native.Nat.{ℕ, _+_, _%_, _<_, _≤_}
 use native.Mathlib.Omega.{arith}
@@ -117,7 +117,7 @@ module _ {up turn : List ℕ} (S : Shape up turn) {v : ℕ} (h : v < vertices) w
   lift-turn = own-turn lift-moved
 
 -- the root r of v, with the mark m of v
-pub record Found (up₀ turn₀ : List ℕ) (v r m : ℕ) (up turn : List ℕ) : Type 0 where
+pub record RootFound (up₀ turn₀ : List ℕ) (v r m : ℕ) (up turn : List ℕ) : Type 0 where
   pub shape : Shape up turn
   pub low : r < vertices
   pub bit : m < 2
@@ -166,7 +166,7 @@ module _ {up₀ turn₀ : List ℕ} {v at m : ℕ} {up turn : List ℕ} (K : Fin
         let g = K .shape .down (getD up at 0) (up-low (K .shape) (K .low)) in
         rw (e, lift-up (K .shape) (K .low)) (omega arith)
 
-  pub finding-all : getD up at 0 ≡ at → Found up₀ turn₀ v at m up turn
+  pub finding-all : getD up at 0 ≡ at → RootFound up₀ turn₀ v at m up turn
   finding-all e = record {
     shape = K .shape;
     low = K .low;

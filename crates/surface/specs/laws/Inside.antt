@@ -17,7 +17,7 @@ use Rattle.orbits.specs.laws.Mirror.{mirror-world}
 use Rattle.orbits.specs.Faces.{Face, along, mirrored}
 use Rattle.tracing.specs.laws.Place.{places, trace, flip, on}
 use Rattle.tracing.specs.laws.Mirrored.{mirrored as tracing-mirror}
-use Rattle.surgery.specs.laws.PlacesIn.{Kept, without-kept, placesIn, placesIn-part}
+use Rattle.surgery.specs.laws.PlacesIn.{EndsTogether, without-kept, placesIn, placesIn-part}
 use Rattle.surgery.specs.Without.{Without}
 use Rattle.surgery.specs.laws.Between.{Between, between}
 use Rattle.surface.specs.Chain.{Chain, here, PartOf, Orientable}
@@ -28,7 +28,7 @@ use Rattle.surface.specs.laws.WithEdge.{out, home, other, edge-step, wea
 
 -- one edge put in
 module _ {R R′ : Rotation} {e : ℕ} (L : Lawful R) (L′ : Lawful R′) (W : Without R e R′) {r : ℕ} {Q : ℕ → Bool} (P : PartOf R r Q) where
-  K : Kept R Q
+  K : EndsTogether R Q
   K = part-kept L P
 
   -- the places at its ends where it goes in
@@ -81,7 +81,7 @@ module _ {R R′ : Rotation} {e : ℕ} (L : Lawful R) (L′ : Lawful R′) (W : 
           | other l′ a b ↦ onward L L′ W d l′ a b t
         ]
 
-    K′ : Kept R′ Q
+    K′ : EndsTogether R′ Q
     K′ = without-kept L L′ W K
 
     first-in : On places (placesIn R′ Q) (ends .first)

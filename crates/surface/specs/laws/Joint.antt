@@ -17,7 +17,7 @@ use Rattle.orbits.specs.Faces.{Face}
 use Rattle.orbits.specs.laws.Faces.{faces-split, face-keeps}
 use Rattle.tracing.specs.laws.Place.{places, trace, flip, on}
 use Rattle.tracing.specs.laws.Mirrored.{mirrored as tracing-mirror}
-use Rattle.surgery.specs.laws.PlacesIn.{Kept, vertexAt, placesIn, placesIn-part}
+use Rattle.surgery.specs.laws.PlacesIn.{EndsTogether, placeVertex, placesIn, placesIn-part}
 use Rattle.surgery.specs.Without.{Without}
 use Rattle.surgery.specs.laws.Between.{Between, between}
 use Rattle.surface.specs.Chain.{Chain, here, PartOf, Orientable}
@@ -38,7 +38,7 @@ module _ {R R′ : Rotation} {e : ℕ} (L : Lawful R) (L′ : Lawful R′) (W : 
   abbrev B : ℕ → Bool
   B = inPart R′ (label R′ (R .from (2 * e + 1)))
 
-  K : Kept R Q
+  K : EndsTogether R Q
   K = part-kept L P
 
   -- the places at its ends where it goes in
@@ -82,7 +82,7 @@ module _ {R R′ : Rotation} {e : ℕ} (L : Lawful R) (L′ : Lawful R′) (W : 
       from-either (holds a) t = member (R .from (2 * e)) mine (first-part .joins w a)
       from-either (fails a) t = member (R .from (2 * e + 1)) (ends-kept L L′ W K ∙ mine) (second-part .joins w (rw a at t))
 
-  KA : Kept R′ A
+  KA : EndsTogether R′ A
   KA = part-kept L′ first-part
 
   -- a count over tests b i && Q (x i) is the sum of those of the two parts
@@ -95,8 +95,8 @@ module _ {R R′ : Rotation} {e : ℕ} (L : Lawful R) (L′ : Lawful R′) (W : 
   unfolding placesIn
   faces-two =
       faces-split (trace R′) (flip R′) places (placesIn R′ Q) (placesIn R′ A) (placesIn R′ B)
-      (λ i h. rw (two-parts (vertexAt R′ i)) (and-or-distrib-left (on R′ i) (A (vertexAt R′ i)) (B (vertexAt R′ i))))
-      (λ i h s t. both-parts (vertexAt R′ i) (both-right (on R′ i) _ s) (both-right (on R′ i) _ t))
+      (λ i h. rw (two-parts (placeVertex R′ i)) (and-or-distrib-left (on R′ i) (A (placeVertex R′ i)) (B (placeVertex R′ i))))
+      (λ i h s t. both-parts (placeVertex R′ i) (both-right (on R′ i) _ s) (both-right (on R′ i) _ t))
 
   -- a face stays in its part
   two-walks : ¬ Face (trace R′) (flip R′) (ends .first) (ends .second)

@@ -18,7 +18,7 @@ use Rattle.table.specs.Layout.{edges, rev}
 use Rattle.table.specs.Rotation.{Rotation, Lawful}
 use Rattle.orbits.specs.laws.Truth.{truth, holds, fails, clash, both, both-left, both-right, same-truth, false-unless}
 use Rattle.orbits.specs.laws.Count.{none-counted, count-none}
-use Rattle.surgery.specs.laws.PlacesIn.{Kept}
+use Rattle.surgery.specs.laws.PlacesIn.{EndsTogether}
 use Rattle.surface.specs.Chain.{Chain, PartOf, Orientable}
 use Rattle.surface.specs.laws.Chain.{chain-ind, chain-trans, chain-sym, MarksOn, orient-fits, fits-orient}
 use Rattle.surface.specs.Links.{Spot}
@@ -70,7 +70,7 @@ module _ {R : Rotation} (L : Lawful R) {s : ℕ → Spot} (G : Labelling R s) wh
     all = λ w c. eq-eqb (s w .label) r (chain-label c ∙ e);
   }
 
-  pub labelled-kept : (r : ℕ) → Kept R (labelled s r)
+  pub labelled-kept : (r : ℕ) → EndsTogether R (labelled s r)
   labelled-kept r = record { edge = λ d l. ap (λ k. eqb k r) (G .same d l) }
 
   -- marks that exist agree with those found
@@ -166,7 +166,7 @@ module _ {R : Rotation} (L : Lawful R) where
     all = λ v c. eq-eqb (label R v) (label R w) (sym (same-label w v .1 c));
   }
 
-  pub inPart-kept : (r : ℕ) → Kept R (inPart R r)
+  pub inPart-kept : (r : ℕ) → EndsTogether R (inPart R r)
   unfolding inPart label
   inPart-kept r = labelled-kept L spots-labelling r
 

@@ -18,9 +18,9 @@ use Rattle.table.specs.Good.{Good}
 use Rattle.table.specs.Rotation.{Rotation, rotation, live?, turnsOf}
 use Rattle.table.specs.laws.Rotation.{live-yes, yes-live}
 use Rattle.table.specs.laws.Lawful.{good-lawful}
-use Rattle.surface.specs.Links.{Link, Spot, own, moved, link}
+use Rattle.surface.specs.Links.{Link, Spot, own, moved, joinedBy}
 use Rattle.surface.specs.laws.Links.{Sound, Labelling, link-links, Moves, moves, stays, goes, begin-sound, moved-sound, moved-same, link-same, side, first-side, second-side, live-edge, live-edge-low}
-use Rattle.surface.specs.laws.Forest.{Shape, Points, Forest, Moved, moved-shape, moved-forest, Found, Flattening}
+use Rattle.surface.specs.laws.Forest.{Shape, Points, Forest, Moved, moved-shape, moved-forest, RootFound, Flattening}
 
 -- the labels and marks after edge e was taken in
 pub record After (R : Rotation) (e : ℕ) (s : ℕ → Spot) (up turn : List ℕ) : Type 0 where
@@ -34,7 +34,7 @@ pub record Taken (t : List ℕ) (e : ℕ) (up₀ turn₀ up turn : List ℕ) : T
   pub shape : Shape up turn
   pub after : (s : ℕ → Spot) → Sound (rotation t) s → Forest s up₀ turn₀ → After (rotation t) e s up turn
 
--- a link between two roots, as a pointer
+-- a joinedBy between two roots, as a pointer
 module _ {up turn : List ℕ} {s : ℕ → Spot} (k : Link) (M : Moved up turn (k .high) (k .low) (k .shift)) (F : Forest s up turn) (less : k .low < k .high)
     (high-root : s (k .high) .label ≡ k .high) (high-even : s (k .high) .mark % 2 ≡ 0)
     (low-root : s (k .low) .label ≡ k .low) (low-even : s (k .low) .mark % 2 ≡ 0) where
@@ -74,8 +74,8 @@ module _ {up turn : List ℕ} {s : ℕ → Spot} (k : Link) (M : Moved up turn (
       ])
 
 link-is : (R : Rotation) (e : ℕ) (a b : Spot) {h l n : ℕ} → max (a .label) (b .label) ≡ h → min (a .label) (b .label) ≡ l
-    → (a .mark + b .mark + R .turns (2 * e)) % 2 ≡ n → link R e a b ≡ record { high = h; low = l; shift = n }
-unfolding link
+    → (a .mark + b .mark + R .turns (2 * e)) % 2 ≡ n → joinedBy R e a b ≡ record { high = h; low = l; shift = n }
+unfolding joinedBy
 link-is R e a b p q r = λ i. record { high = p i; low = q i; shift = r i }
 
 -- a good table, arrays, and an edge
@@ -116,8 +116,8 @@ module _ {t up turn : List ℕ} {e : ℕ} (K : Taking t up turn e) where
     second-low = K .good .leaves-low (2 * e + 1) (live-yes t (2 * e + 1) other-on)
 
     -- the roots x and y of the ends are found, and their marks m and n
-    module _ {x y m n : ℕ} {up₁ turn₁ up₂ turn₂ : List ℕ} (A : Found up turn (leaves t (2 * e)) x m up₁ turn₁)
-        (B : Found up₁ turn₁ (leaves t (2 * e + 1)) y n up₂ turn₂) where
+    module _ {x y m n : ℕ} {up₁ turn₁ up₂ turn₂ : List ℕ} (A : RootFound up turn (leaves t (2 * e)) x m up₁ turn₁)
+        (B : RootFound up₁ turn₁ (leaves t (2 * e + 1)) y n up₂ turn₂) where
       abbrev shift : ℕ
       shift = (m + n + edgeWord t e % 2) % 2
 
@@ -132,7 +132,7 @@ module _ {t up turn : List ℕ} {e : ℕ} (K : Taking t up turn e) where
             let b = B .mark s (A .kept s F) in
             rw half (omega arith)
 
-        -- the edge's link is the pointer from h to l
+        -- the edge's joinedBy is the pointer from h to l
         after-link : {h l : ℕ} → max (s (leaves t (2 * e)) .label) (s (leaves t (2 * e + 1)) .label) ≡ h
             → min (s (leaves t (2 * e)) .label) (s (leaves t (2 * e + 1)) .label) ≡ l
             → Forest (λ w. moved (record { high = h; low = l; shift = shift }) (s w)) (set up₂ h l) (set turn₂ h shift)
@@ -144,7 +144,7 @@ module _ {t up turn : List ℕ} {e : ℕ} (K : Taking t up turn e) where
             let k = link-is (rotation t) e a b p q shift-is in
             record {
               next = λ w. moved (record { high = h; low = l; shift = shift }) (s w);
-              sound = rw k at (moved-sound L s (link (rotation t) e a b) (link-links L s S e edge-on) S);
+              sound = rw k at (moved-sound L s (joinedBy (rotation t) e a b) (link-links L s S e edge-on) S);
               forest = G;
               kept = λ c d r. moved-same _ (s c) (s d) r;
               edge = λ z. rw k at (link-same (rotation t) e a b);

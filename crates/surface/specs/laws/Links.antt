@@ -1,7 +1,7 @@
 -- The parts and their marks found: a fold over the live edges. Each edge links two labels, and a vertex follows the links made so far
 -- from itself to the label of its part. Two vertices have one label exactly if a chain joins them, and the label is the smallest of them.
---     Link, Spot, spot     a link; where a vertex has come to, and its mark there
---     links                one link for each edge of a list
+--     Link, Spot, spot     a joinedBy; where a vertex has come to, and its mark there
+--     links                one joinedBy for each edge of a list
 --     Labelling            what labels and marks must keep to, however they are found
 --     links-label          the fold over all live edges does
 use Prim.Native.Nat.{ℕ, zero, suc, _+_, _*_, _/_, _%_, _<_, _≤_, min, max}
@@ -19,10 +19,10 @@ use Rattle.tracing.specs.laws.Listing.{has-here}
 use Rattle.tracing.specs.laws.Has.{has-empty, has-cons, here, later, has-tail, has-head, has-parts, has-left, has-right, left, right}
 use Rattle.orbits.specs.laws.Truth.{Truth, truth, holds, fails}
 use Rattle.tracing.specs.laws.Step.{type?, is-zero, is-one}
-use Rattle.surgery.specs.laws.PlacesIn.{Kept}
+use Rattle.surgery.specs.laws.PlacesIn.{EndsTogether}
 use Rattle.surface.specs.Chain.{Chain}
 use Rattle.surface.specs.laws.Chain.{chain-trans, chain-sym, chain-edge, Fits}
-use Rattle.surface.specs.Links.{Link, Spot, moved, spot, link, links, liveEdges, own}
+use Rattle.surface.specs.Links.{Link, Spot, moved, spot, joinedBy, links, liveEdges, own}
 
 -- marks that agree with each edge of the part of w
 pub record FitsAt (R : Rotation) (w : ℕ) (m : ℕ → ℕ) : Type 0 where
@@ -39,7 +39,7 @@ pub record Labelling (R : Rotation) (s : ℕ → Spot) : Type 0 where
   pub sound : Sound R s
   pub same : (d : ℕ) → R .live d ≡ true → s (R .from (rev d)) .label ≡ s (R .from d) .label
 
--- the two ways of a link
+-- the two ways of a joinedBy
 pub data Moves (k : Link) (s t : Spot) : Type 0 where
   stays : s .label ≢ k .high → t ≡ s → Moves k s t
   goes : s .label ≡ k .high → t .label ≡ k .low → t .mark ≡ (s .mark + k .shift) % 2 → Moves k s t
@@ -58,7 +58,7 @@ begin-sound R = record { joined = λ w. Chain.here; low = λ w. omega arith; for
 fits-joined : {R : Rotation} {v w : ℕ} {m : ℕ → ℕ} → Chain R v w → FitsAt R v m → FitsAt R w m
 fits-joined c f = record { fits = λ d l k. f .fits d l (chain-trans c k) }
 
--- a link of two labels that are joined, whose shift is the difference of their marks
+-- a joinedBy of two labels that are joined, whose shift is the difference of their marks
 pub record Links (R : Rotation) (k : Link) : Type 0 where
   pub down : k .low ≤ k .high
   pub chain : Chain R (k .low) (k .high)
@@ -97,7 +97,7 @@ ordered {R} L a b n c f = elim (decLe a b) [
       rw (x, y) (record { down = omega arith; chain = chain-sym L c; shift = λ m g. let k = f m g in omega arith })
 ]
 
--- one more link, between the labels of the ends of a live edge
+-- one more joinedBy, between the labels of the ends of a live edge
 module _ {R : Rotation} (L : Lawful R) (s : ℕ → Spot) (S : Sound R s) (e : ℕ) (l : R .live (2 * e) ≡ true) where
   edge-chain : Chain R (R .from (2 * e)) (R .from (2 * e + 1))
   edge-chain = let q : rev (2 * e) ≡ 2 * e + 1 = omega arith in rw q at (chain-edge R (2 * e) l)
@@ -114,8 +114,8 @@ module _ {R : Rotation} (L : Lawful R) (s : ℕ → Spot) (S : Sound R s) (e : �
       let y = S .forced (R .from (2 * e + 1)) m (fits-joined edge-chain f) in
       omega arith
 
-  pub link-links : Links R (link R e (s (R .from (2 * e))) (s (R .from (2 * e + 1))))
-  unfolding link
+  pub link-links : Links R (joinedBy R e (s (R .from (2 * e))) (s (R .from (2 * e + 1))))
+  unfolding joinedBy
   link-links =
       ordered L (s (R .from (2 * e)) .label) (s (R .from (2 * e + 1)) .label) _ label-chain
       (λ m g. label-shift m (fits-joined (S .joined (R .from (2 * e))) g))
@@ -125,7 +125,7 @@ unfolding links spot
 links-sound {R} L [] on = begin-sound R
 links-sound {R} L (e ∷ es) on =
     let S = links-sound L es (λ k h. on k (has-tail k e es h)) in
-    moved-sound L (spot (links R es)) (link R e (spot (links R es) (R .from (2 * e))) (spot (links R es) (R .from (2 * e + 1))))
+    moved-sound L (spot (links R es)) (joinedBy R e (spot (links R es) (R .from (2 * e))) (spot (links R es) (R .from (2 * e + 1))))
     (link-links L (spot (links R es)) S e (on e (has-here e es))) S
 
 -- equal labels stay equal
@@ -138,12 +138,12 @@ moved-same k s t q = by (moves k s) (moves k t)
     by (goes n e h) (stays p f) = absurd (p (sym q ∙ n))
     by (goes n e h) (goes p f g) = e ∙ sym f
 
--- the ends of the edge that makes a link get one label
-pub link-same : (R : Rotation) (e : ℕ) (a b : Spot) → moved (link R e a b) a .label ≡ moved (link R e a b) b .label
-unfolding link
-link-same R e a b = by (moves (link R e a b) a) (moves (link R e a b) b)
+-- the ends of the edge that makes a joinedBy get one label
+pub link-same : (R : Rotation) (e : ℕ) (a b : Spot) → moved (joinedBy R e a b) a .label ≡ moved (joinedBy R e a b) b .label
+unfolding joinedBy
+link-same R e a b = by (moves (joinedBy R e a b) a) (moves (joinedBy R e a b) b)
   where
-    by : Moves (link R e a b) a (moved (link R e a b) a) → Moves (link R e a b) b (moved (link R e a b) b) → moved (link R e a b) a .label ≡ moved (link R e a b) b .label
+    by : Moves (joinedBy R e a b) a (moved (joinedBy R e a b) a) → Moves (joinedBy R e a b) b (moved (joinedBy R e a b) b) → moved (joinedBy R e a b) a .label ≡ moved (joinedBy R e a b) b .label
     by (stays n f) (stays p g) = absurd (omega arith)
     by (stays n f) (goes p g h) = ap (λ z. z .label) f ∙ (omega arith)
     by (goes n f g) (stays p h) = f ∙ (omega arith) ∙ sym (ap (λ z. z .label) h)
@@ -223,7 +223,7 @@ edge-fits {R} L m d = elim (side d) [
 ]
 
 -- the ends of an edge pass such a test alike
-pub edge-kept : {R : Rotation} {Q : ℕ → Bool} → Kept R Q → (d : ℕ) → R .live d ≡ true → Q (R .from (2 * (d / 2))) ≡ Q (R .from d)
+pub edge-kept : {R : Rotation} {Q : ℕ → Bool} → EndsTogether R Q → (d : ℕ) → R .live d ≡ true → Q (R .from (2 * (d / 2))) ≡ Q (R .from d)
 edge-kept {R} {Q} K d l = elim (side d) [
   | first-side a b ↦ ap (λ k. Q (R .from k)) (sym a)
   | second-side a b ↦ ap (λ k. Q (R .from k)) (sym b) ∙ K .edge d l

@@ -1,5 +1,5 @@
 -- V, E, F, the number of parts and V-E+F of a mesh, as the code counts them.
---     Counted              a loop that adds up a test's answers;     counted-none, counted-more
+--     AddedUp              a loop that adds up a test's answers;     counted-none, counted-more
 --     parts-count, rows-length     the number of parts, and of the words that are written of them
 --     MeshCounts           the five numbers
 use Prim.Native.Nat.{ℕ, zero, suc, _+_, _*_, _/_, _<_, _≤_}
@@ -19,7 +19,7 @@ use Rattle.orbits.specs.laws.Truth.{Truth, truth, holds, fails, both, false-unl
 use Rattle.orbits.specs.Count.{count, more}
 use Rattle.orbits.specs.laws.Count.{count-le}
 use Rattle.orbits.specs.laws.Classes.{classes-le}
-use Rattle.orbits.specs.Faces.{faced, faces}
+use Rattle.orbits.specs.Faces.{faced, faceClasses}
 use Rattle.tracing.specs.laws.Place.{places, trace, flip, on}
 use Rattle.tracing.specs.Listing.{faceCount, only, bit}
 use Rattle.tracing.specs.laws.FaceCount.{face-count}
@@ -28,27 +28,28 @@ use mir.Val.{SFits, toZ, ofZ}
 use mir.Facts.{toZ-ofZ}
 use Rattle.surface.specs.laws.EulerWord.{euler-sfits}
 use Rattle.surface.specs.Labels.{label}
-use Rattle.surface.specs.Counts.{vertexCount, edgeCount}
+use Rattle.surface.specs.Counts.{vertexCount}
 use Rattle.surface.specs.Parts.{root?, partsBelow, parts}
-use Rattle.surface.specs.laws.Sums.{root-there, root-label}
+use Rattle.surface.specs.laws.Parts.{root-there, root-label}
 use Rattle.surface.specs.Signed.{eulerOf, meshEuler}
 use Rattle.surface.specs.Rows.{rows, rowIf, row}
 use Rattle.surface.specs.laws.Tally.{Keyed}
+use Rattle.tracing.specs.Met.{edgeCount}
 
 -- k of the numbers below n pass
-pub record Counted (b : ℕ → Bool) (n k : ℕ) : Type 0 where
+pub record AddedUp (b : ℕ → Bool) (n k : ℕ) : Type 0 where
   pub passed : k ≡ count b n
   pub few : k ≤ n
 
-pub counted-none : (b : ℕ → Bool) → Counted b 0 0
+pub counted-none : (b : ℕ → Bool) → AddedUp b 0 0
 unfolding count
 counted-none b = record { passed = refl; few = omega arith }
 
-pub counted-more : {b : ℕ → Bool} {n k j : ℕ} → Counted b n k → j ≡ bit (b n) → Counted b (n + 1) (k + j)
+pub counted-more : {b : ℕ → Bool} {n k j : ℕ} → AddedUp b n k → j ≡ bit (b n) → AddedUp b (n + 1) (k + j)
 unfolding count
 counted-more {b} {n} {k} {j} K e = by (truth (b n))
   where
-    by : Truth (b n) → Counted b (n + 1) (k + j)
+    by : Truth (b n) → AddedUp b (n + 1) (k + j)
     by (holds t) =
         let one : j ≡ 1 = e ∙ rw t in
         let p = K .passed in
@@ -121,7 +122,7 @@ pub rows-length : (R : Rotation) → length (rows R vertices) ≡ 6 * length (pa
 rows-length R = let a = rows-count R vertices in let b = parts-count R in omega arith
 
 pub faces-low : {R : Rotation} → Lawful R → faceCount R ≤ places
-unfolding faces
+unfolding faceClasses
 faces-low {R} L =
     let a = classes-le (faced (trace R) (flip R) places) places (on R) in
     let b = count-le (on R) places in
@@ -138,8 +139,8 @@ pub record MeshCounts (R : Rotation) (v e f p : ℕ) (x : ℤ) : Type 0 where
   pub euler-fits : SFits w32 x
 
 -- the word that holds V-E+F
-pub mesh-counts : {R : Rotation} → Lawful R → {v e f p : ℕ} {x : ℤ} → Counted (R .there) vertices v → Counted (λ e. R .live (2 * e)) edges e → f ≡ faceCount R
-    → Counted (root? R) vertices p → x ≡ eulerOf v e f → MeshCounts R v e f p (toZ w32 (ofZ w32 x))
+pub mesh-counts : {R : Rotation} → Lawful R → {v e f p : ℕ} {x : ℤ} → AddedUp (R .there) vertices v → AddedUp (λ e. R .live (2 * e)) edges e → f ≡ faceCount R
+    → AddedUp (root? R) vertices p → x ≡ eulerOf v e f → MeshCounts R v e f p (toZ w32 (ofZ w32 x))
 unfolding vertexCount edgeCount meshEuler
 mesh-counts {R} L {v} {e} {f} A B F P X =
     let p = A .passed in

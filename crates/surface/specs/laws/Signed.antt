@@ -2,14 +2,13 @@
 --     eulerOf              V-E+F;     partEuler, meshEuler     of a part and of the mesh
 --     PartLaws, part-laws      at most 2, even if the part is orientable, at most 1 if not
 --     mesh-sum             the mesh's is the sum of its parts';     empty-euler     of the empty mesh 0
-use Prim.Native.Nat.{ℕ, suc, _+_, _-_, _%_, _<_, _≤_}
+use Prim.Native.Nat.{ℕ, _+_, _-_, _%_, _≤_}
 use native.Mathlib.Omega.{arith}
-use native.Mathlib.Decide.{decLe}
 use mathlib.Core.Path.{_≡_, refl, sym, _∙_, ap}
 use mathlib.Core.Bool.{true, false}
 use mathlib.Core.List.{List, [], _∷_}
 use lib.Dec.{le→leb}
-use lib.IntN.{ℤ, pos, negsuc, negℤ, natAbs, _+ℤ_, _-ℤ_, +ℤ-assoc, +ℤ-comm, negℤ-+ℤ, negℤ-negℤ, +ℤ-negℤ-cancel}
+use lib.IntN.{ℤ, pos, negℤ, natAbs, _+ℤ_, _-ℤ_, +ℤ-assoc, +ℤ-comm, negℤ-+ℤ}
 use lib.Signed.{_≤ℤ_}
 use Rattle.table.specs.Rotation.{Rotation, Lawful}
 use Rattle.orbits.specs.laws.Truth.{clash}
@@ -18,28 +17,9 @@ use Rattle.surface.specs.laws.Labels.{inPart-of, orientable-marks}
 use Rattle.surface.specs.Counts.{verticesIn, edgesIn, walksIn}
 use Rattle.surface.specs.laws.Euler.{Closed, euler}
 use Rattle.surface.specs.Parts.{root?, parts, total}
-use Rattle.surface.specs.laws.Sums.{root-there, root-label, vertices-sum, edges-sum, faces-sum, empty-vertices, empty-edges, empty-faces}
+use Rattle.surface.specs.laws.Parts.{root-there, root-label, vertices-sum, edges-sum, faces-sum, empty-vertices, empty-edges, empty-faces}
 use Rattle.surface.specs.Signed.{eulerOf, partEuler, meshEuler, PartLaws, totalℤ}
-
--- a difference of natural numbers is one or the opposite of one
-pub data Difference (a b : ℕ) (z : ℤ) : Type 0 where
-  above : b ≤ a → z ≡ pos (a - b) → Difference a b z
-  under : a < b → z ≡ negsuc (b - suc a) → Difference a b z
-
-minus : (a b : ℕ) → b ≤ a → pos a -ℤ pos b ≡ pos (a - b)
-minus a b h =
-    let sum : a ≡ a - b + b = omega arith in
-    ap (λ k. pos k -ℤ pos b) sum ∙ +ℤ-negℤ-cancel (pos (a - b)) (pos b)
-
-pub difference : (a b : ℕ) → Difference a b (pos a -ℤ pos b)
-difference a b = elim (decLe b a) [
-  | yes h ↦ above h (minus a b h)
-  | no h ↦
-      let back : pos a -ℤ pos b ≡ negℤ (pos b -ℤ pos a) =
-      sym (negℤ-+ℤ (pos b) (negℤ (pos a)) ∙ ap (λ z. negℤ (pos b) +ℤ z) (negℤ-negℤ (pos a)) ∙ +ℤ-comm (negℤ (pos b)) (pos a)) in
-      let one : b - a ≡ suc (b - suc a) = omega arith in
-      under (omega arith) (back ∙ ap negℤ (minus b a (omega arith)) ∙ ap (λ k. negℤ (pos k)) one)
-]
+use Rattle.table.specs.laws.Signed.{minus-difference, above, below}
 
 move : (a b c : ℤ) → a +ℤ b +ℤ c ≡ a +ℤ c +ℤ b
 move a b c = +ℤ-assoc a b c ∙ ap (λ z. a +ℤ z) (+ℤ-comm b c) ∙ sym (+ℤ-assoc a c b)
@@ -49,15 +29,15 @@ unfolding eulerOf
 euler-difference v e f = move (pos v) (negℤ (pos e)) (pos f)
 
 at-most : (v e f k : ℕ) → v + f ≤ e + k → eulerOf v e f ≤ℤ pos k
-at-most v e f k h = rw (euler-difference v e f) (elim (difference (v + f) e) [
+at-most v e f k h = rw (euler-difference v e f) (elim (minus-difference (v + f) e) [
   | above l q ↦ rw q (record { le = le→leb (v + f - e) k (omega arith) })
-  | under l q ↦ rw q (record { le = tt })
+  | below l q ↦ rw q (record { le = tt })
 ])
 
 even-number : (v e f : ℕ) → (v + e + f) % 2 ≡ 0 → natAbs (eulerOf v e f) % 2 ≡ 0
-even-number v e f h = rw (euler-difference v e f) (elim (difference (v + f) e) [
+even-number v e f h = rw (euler-difference v e f) (elim (minus-difference (v + f) e) [
   | above l q ↦ rw q (omega arith)
-  | under l q ↦ rw q (omega arith)
+  | below l q ↦ rw q (omega arith)
 ])
 
 pub part-laws : {C : Rotation → Type 0} → Closed C → {R : Rotation} → C R → (r : ℕ) → root? R r ≡ true → PartLaws R r

@@ -30,7 +30,7 @@ use Rattle.tracing.specs.laws.Size.{Looked, Seen, seen-none, seen-more, unmet-f
 use Rattle.tracing.specs.laws.Marks.{unmarked}
 use Rattle.surface.specs.Labels.{label, inPart, agrees, untwisted, twisted, orientable}
 use Rattle.surface.specs.laws.Labels.{label-is, orientable-is}
-use Rattle.surgery.specs.laws.PlacesIn.{vertexAt, vertex-step, vertex-still, placesIn}
+use Rattle.surgery.specs.laws.PlacesIn.{placeVertex, vertex-step, vertex-still, placesIn}
 use Rattle.surface.specs.Counts.{verticesIn, edgesIn, walksIn}
 use Rattle.surface.specs.laws.Forest.{Shape}
 use Rattle.surface.specs.laws.Linking.{Labelled, Taking, first-low, second-low, edge-on}
@@ -90,7 +90,7 @@ module _ {t up turn : List ℕ} {n : ℕ} {es odd : List ℕ} (K : Edging t up t
 
   module _ (l : edgeWord t n ≢ 0) where
     -- the words that the edge leads to
-    pub record EdgeNear : Type 0 where
+    pub record EdgeWords : Type 0 where
       pub first : leaves t (2 * n) < vertices
       pub second : leaves t (2 * n + 1) < vertices
       pub key : getD up (leaves t (2 * n)) 0 < vertices
@@ -99,7 +99,7 @@ module _ {t up turn : List ℕ} {n : ℕ} {es odd : List ℕ} (K : Edging t up t
       pub edge-word : getD es (getD up (leaves t (2 * n)) 0) 0 ≤ 1024
       pub odd-word : getD odd (getD up (leaves t (2 * n)) 0) 0 ≤ 1024
 
-    pub edge-near : EdgeNear
+    pub edge-near : EdgeWords
     edge-near =
         let a = first-low taking l in
         let b = second-low taking l in
@@ -221,7 +221,7 @@ module _ {t : List ℕ} (g : Good t) (r : ℕ) where
       by (holds s) =
           let half : 2 * d / 2 ≡ d = omega arith in
           let live : on (rotation t) (2 * d) ≡ true = on-step (rotation t) (2 * d) (omega arith) ∙ rw half (start-live (rotation t) d s) in
-          let at : vertexAt (rotation t) (2 * d) ≡ leaves t d = vertex-step (rotation t) (2 * d) (omega arith) ∙ rw half in
+          let at : placeVertex (rotation t) (2 * d) ≡ leaves t d = vertex-step (rotation t) (2 * d) (omega arith) ∙ rw half in
           rw (s, place-dart d (omega arith), live, at)
 
   lone-in : (v : ℕ) → v < vertices → (alone? t v && placesIn (rotation t) (inPart (rotation t) r) (placeOf (loneCorner v))) ≡ (alone? t v && eqb (label (rotation t) v) r)
@@ -233,7 +233,7 @@ module _ {t : List ℕ} (g : Good t) (r : ℕ) where
       by (holds s) =
           let same : (2 * (darts + v) - steps) / 2 ≡ v = omega arith in
           let live : on (rotation t) (2 * (darts + v)) ≡ true = on-still (rotation t) (2 * (darts + v)) (omega arith) ∙ rw same s in
-          let at : vertexAt (rotation t) (2 * (darts + v)) ≡ v = vertex-still (rotation t) (2 * (darts + v)) (omega arith) ∙ same in
+          let at : placeVertex (rotation t) (2 * (darts + v)) ≡ v = vertex-still (rotation t) (2 * (darts + v)) (omega arith) ∙ same in
           rw (s, place-lone v, live, at)
 
   walks-count : walksIn (rotation t) (inPart (rotation t) r) ≡ startsIn t r + count (λ v. alone? t v && eqb (label (rotation t) v) r) vertices

@@ -13,13 +13,14 @@ use Rattle.table.specs.Layout.{vertices, edges, rev, edgeOf}
 use Rattle.table.specs.Rotation.{Rotation, Lawful}
 use Rattle.orbits.specs.laws.Truth.{Truth, truth, holds, fails, both}
 use Rattle.orbits.specs.laws.Count.{count-same, count-one}
-use Rattle.surgery.specs.laws.PlacesIn.{Kept}
+use Rattle.surgery.specs.laws.PlacesIn.{EndsTogether}
 use Rattle.surgery.specs.Without.{Without}
 use Rattle.surgery.specs.laws.Without.{were, gone, kept}
 use Rattle.surface.specs.Chain.{Chain, along}
 use Rattle.surface.specs.laws.Chain.{chain-ind, Fits, MarksOn}
 use Rattle.surface.specs.laws.Links.{live-edge-low}
-use Rattle.surface.specs.Counts.{edgeCount, verticesIn, edgesIn}
+use Rattle.surface.specs.Counts.{verticesIn, edgesIn}
+use Rattle.tracing.specs.Met.{edgeCount}
 
 -- a live dart: the edge's first, its second, or another's
 pub data EdgeStep (R R′ : Rotation) (e d : ℕ) : Type 0 where
@@ -56,7 +57,7 @@ module _ {R R′ : Rotation} {e : ℕ} (L : Lawful R) (L′ : Lawful R′) (W : 
       let k : Chain R′ a (R′ .from (rev d)) = along d l (rw x c) in
       rw y at k
 
-  pub ends-kept : {Q : ℕ → Bool} → Kept R Q → Q (R .from (2 * e + 1)) ≡ Q (R .from (2 * e))
+  pub ends-kept : {Q : ℕ → Bool} → EndsTogether R Q → Q (R .from (2 * e + 1)) ≡ Q (R .from (2 * e))
   ends-kept {Q} K = let r : rev (2 * e) ≡ 2 * e + 1 = omega arith in rw r at (K .edge (2 * e) (W .here))
 
   -- marks that agree with the edges agree without the edge; and with it, if they agree with it too
@@ -69,7 +70,7 @@ module _ {R R′ : Rotation} {e : ℕ} (L : Lawful R) (L′ : Lawful R′) (W : 
         rw (a, from-rev d l) (omega arith);
   }
 
-  pub marks-up : {Q : ℕ → Bool} {m : ℕ → ℕ} → Kept R Q → MarksOn R′ Q m
+  pub marks-up : {Q : ℕ → Bool} {m : ℕ → ℕ} → EndsTogether R Q → MarksOn R′ Q m
       → (Q (R .from (2 * e)) ≡ true → (R .turns (2 * e) + m (R .from (2 * e)) + m (R .from (2 * e + 1))) % 2 ≡ 0) → MarksOn R Q m
   marks-up {Q} {m} K M own = record { fits = λ d l q. by d q (edge-step d l) }
     where

@@ -24,22 +24,22 @@ use Rattle.surgery.specs.laws.Delete.{delete-elsewhere}
 use Rattle.surgery.specs.laws.Insert.{bend, bend-zero, bend-one, insert-less, insert-more, insert-same}
 use Rattle.surgery.specs.Sits.{Sits, just-before, before-other, at-vertex, Inserted}
 use Rattle.surgery.specs.laws.Sits.{place-live, live-low, sits-on, inserted-somewhere, enters, first-in, second-in}
-use Rattle.surgery.specs.laws.PlacesIn.{vertexAt, placesIn, Kept, vertex-step, vertex-still, vertex-flip, without-parts, inside-of, outside-of}
+use Rattle.surgery.specs.laws.PlacesIn.{placeVertex, placesIn, EndsTogether, vertex-step, vertex-still, vertex-flip, without-parts, inside-of, outside-of}
 
 pub record Between (R : Rotation) (e : ℕ) (R′ : Rotation) : Type 0 where
   pub first : ℕ
   pub second : ℕ
   pub first-on : On places (on R′) first
   pub second-on : On places (on R′) second
-  pub first-at : vertexAt R′ first ≡ R .from (2 * e)
-  pub second-at : vertexAt R′ second ≡ R .from (2 * e + 1)
+  pub first-at : placeVertex R′ first ≡ R .from (2 * e)
+  pub second-at : placeVertex R′ second ≡ R .from (2 * e + 1)
   pub sum : (first + second + R .turns (2 * e)) % 2 ≡ 0
-  pub away : (Q : ℕ → Bool) → Kept R Q → Q (R .from (2 * e)) ≡ false → facesOf R (placesIn R Q) ≡ facesOf R′ (placesIn R′ Q)
-  pub joins : (Q : ℕ → Bool) → Kept R Q → Q (R .from (2 * e)) ≡ true → ¬ Face (trace R′) (flip R′) first second
+  pub away : (Q : ℕ → Bool) → EndsTogether R Q → Q (R .from (2 * e)) ≡ false → facesOf R (placesIn R Q) ≡ facesOf R′ (placesIn R′ Q)
+  pub joins : (Q : ℕ → Bool) → EndsTogether R Q → Q (R .from (2 * e)) ≡ true → ¬ Face (trace R′) (flip R′) first second
       → facesOf R′ (placesIn R′ Q) ≡ suc (facesOf R (placesIn R Q))
-  pub splits : (Q : ℕ → Bool) → Kept R Q → Q (R .from (2 * e)) ≡ true → Reach (trace R′) first second
+  pub splits : (Q : ℕ → Bool) → EndsTogether R Q → Q (R .from (2 * e)) ≡ true → Reach (trace R′) first second
       → facesOf R (placesIn R Q) ≡ suc (facesOf R′ (placesIn R′ Q))
-  pub crosses : (Q : ℕ → Bool) → Kept R Q → Q (R .from (2 * e)) ≡ true → Reach (trace R′) first (flip R′ second)
+  pub crosses : (Q : ℕ → Bool) → EndsTogether R Q → Q (R .from (2 * e)) ≡ true → Reach (trace R′) first (flip R′ second)
       → facesOf R (placesIn R Q) ≡ facesOf R′ (placesIn R′ Q)
 
 -- the mirror of a place has the other type
@@ -50,15 +50,15 @@ flip-type R s = elim (place s) [
 ]
 
 module _ {R R′ : Rotation} {e : ℕ} (L : Lawful R) (L′ : Lawful R′) (W : Without R e R′) where
-  sits-vertex : (x : ℕ) {c : ℕ} → Sits R e R′ x c → vertexAt R′ (placeOf c) ≡ R .from x
+  sits-vertex : (x : ℕ) {c : ℕ} → Sits R e R′ x c → placeVertex R′ (placeOf c) ≡ R .from x
   sits-vertex x {c} S = by S
     where
-      at-dart : R′ .live c ≡ true → vertexAt R′ (placeOf c) ≡ R .from c
+      at-dart : R′ .live c ≡ true → placeVertex R′ (placeOf c) ≡ R .from c
       at-dart l =
           let half : 2 * c / 2 ≡ c = omega arith in
           rw (place-live L L′ W c l) (vertex-step R′ (2 * c) (live-low L L′ W c l) ∙ rw half (W .from c l))
 
-      by : Sits R e R′ x c → vertexAt R′ (placeOf c) ≡ R .from x
+      by : Sits R e R′ x c → placeVertex R′ (placeOf c) ≡ R .from x
       by (just-before l n) = at-dart l ∙ ap (R .from) (sym n) ∙ L .from-next x
       by (before-other l q n) = at-dart l ∙ ap (R .from) (sym n) ∙ L .from-next (R .next x) ∙ L .from-next x
       by (at-vertex v z a f) =
@@ -80,7 +80,7 @@ module _ {R R′ : Rotation} {e : ℕ} (L : Lawful R) (L′ : Lawful R′) (W : 
       | is-one z ↦ rw (bend-one R′ (placeOf c₂) z) (mirror-on (mirrored R′ L′ (on R′) (whole R′ L′)) (sits-on L L′ W (2 * e + 1) (N .second)))
     ]
 
-    other-at : vertexAt R′ other ≡ R .from (2 * e + 1)
+    other-at : placeVertex R′ other ≡ R .from (2 * e + 1)
     other-at = elim (parity-type R e) [
       | is-zero z ↦ rw (bend-zero R′ (placeOf c₂) z) (sits-vertex (2 * e + 1) (N .second))
       | is-one z ↦ rw (bend-one R′ (placeOf c₂) z) (vertex-flip L′ (placeOf c₂) ∙ sits-vertex (2 * e + 1) (N .second))

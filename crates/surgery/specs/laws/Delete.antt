@@ -1,5 +1,5 @@
--- An edge deleted. Its two sides on different faces: one face less. The far side on the walk of the near side, so that one walk
--- passes by both darts: one face more. The far side on the mirror of that walk: as many faces.
+-- An edge deleted. Its two sides on different faceClasses: one face less. The far side on the walk of the near side, so that one walk
+-- passes by both darts: one face more. The far side on the mirror of that walk: as many faceClasses.
 --     delete-less, delete-more, delete-same     in a part that has the edge
 --     delete-elsewhere     in any other part as many
 use mathlib.Core.Path.{_≡_, _∙_}
@@ -7,7 +7,7 @@ use mathlib.Core.Bool.{Bool}
 use Prim.Native.Nat.{ℕ, suc}
 use Rattle.table.specs.Rotation.{Rotation, Lawful}
 use Rattle.orbits.specs.Reach.{Reach}
-use Rattle.orbits.specs.Faces.{Face, along, mirrored, faces}
+use Rattle.orbits.specs.Faces.{Face, along, mirrored, faceClasses}
 use Rattle.orbits.specs.laws.Follow.{faces-agree}
 use Rattle.orbits.specs.laws.Truth.{clash}
 use Rattle.orbits.specs.laws.FaceExchange.{faces-less, faces-more, faces-same}
@@ -20,7 +20,7 @@ use Rattle.surgery.specs.laws.Past.{facesOf, Parts, Inside, Outside, lev
 
 module _ {R R′ : Rotation} {e : ℕ} (L : Lawful R) (L′ : Lawful R′) (W : Without R e R′) {P P′ : ℕ → Bool} (K : Parts R e R′ P P′) where
   module _ (i : Inside R e P) where
-    after : facesOf R′ P′ ≡ faces (through R e) (flip R) places P
+    after : facesOf R′ P′ ≡ faceClasses (through R e) (flip R) places P
     after = past-faces L L′ W K (through-mirror L (W .here) (K .before) (level-in i))
 
     pub delete-less : ¬ Face (trace R) (flip R) (near e) (far R e) → facesOf R P ≡ suc (facesOf R′ P′)

@@ -8,7 +8,7 @@ use mathlib.Core.Logic.{_≢_}
 use mathlib.Core.Bool.{Bool}
 use Prim.Native.Nat.{ℕ, _<_}
 use Rattle.orbits.specs.Exchange.{tr, exch2, tr2}
-use Rattle.orbits.specs.laws.Swap.{tr-left, tr-right, tr-off, place, at-left, at-right, off}
+use Rattle.orbits.specs.laws.Swap.{tr-left, tr-right, tr-off, position, at-left, at-right, off}
 use Rattle.orbits.specs.Mirror.{Mirror}
 use Rattle.orbits.specs.laws.Mirror.{opposite-low}
 use Rattle.orbits.specs.laws.MirrorExchange.{exch2-at}
@@ -43,10 +43,10 @@ exchanged-back {f} {m} {h} X = record {
 
 pub exchanged-keeps : {N : ℕ} {f m h : ℕ → ℕ} {live : ℕ → Bool} {x y u v : ℕ} → Mirror N f m live → x < N → y < N → Exchanged f m h x y u v
     → (P : ℕ → Bool) → ((i : ℕ) → i < N → P (f i) ≡ P i) → ((i : ℕ) → i < N → P (m i) ≡ P i) → P x ≡ P y → (i : ℕ) → i < N → P (h i) ≡ P i
-exchanged-keeps {N} {f} {m} {h} {live} {x} {y} {u} {v} E a b X P inv keep level i l = elim (place u v i) [
+exchanged-keeps {N} {f} {m} {h} {live} {x} {y} {u} {v} E a b X P inv keep level i l = elim (position u v i) [
   | at-left e ↦ rw (e, X .at-u) (inv v low-v ∙ home ∙ sym level ∙ sym over)
   | at-right e ↦ rw (e, X .at-v) (inv u low-u ∙ over ∙ level ∙ sym home)
-  | off r s ↦ elim (place x y i) [
+  | off r s ↦ elim (position x y i) [
     | at-left e ↦ rw (e, X .at-x) (inv y b ∙ sym level)
     | at-right e ↦ rw (e, X .at-y) (inv x a ∙ level)
     | off p q ↦ rw (X .beside i p q r s) (inv i l)
@@ -77,10 +77,10 @@ exchanged-is {f} {m} {h} {x} {y} {u} {v} X = fun-ext (λ i. exch2-at f m x y i �
     there i = ap₂ (λ p q. tr x y (tr p q i)) (X .over) (X .home)
 
     goes : (i : ℕ) → f (moved i) ≡ h i
-    goes i = elim (place u v i) [
+    goes i = elim (position u v i) [
       | at-left e ↦ rw (e, tr-left u v, tr-off x y v (λ q. X .x-v (sym q)) (λ q. X .y-v (sym q))) (sym (X .at-u))
       | at-right e ↦ rw (e, tr-right u v, tr-off x y u (λ q. X .x-u (sym q)) (λ q. X .y-u (sym q))) (sym (X .at-v))
-      | off r s ↦ rw (tr-off u v i r s) (elim (place x y i) [
+      | off r s ↦ rw (tr-off u v i r s) (elim (position x y i) [
         | at-left e ↦ rw (e, tr-left x y) (sym (X .at-x))
         | at-right e ↦ rw (e, tr-right x y) (sym (X .at-y))
         | off p q ↦ rw (tr-off x y i p q) (sym (X .beside i p q r s))

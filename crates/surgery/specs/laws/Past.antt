@@ -1,9 +1,9 @@
--- Tracing past an edge has the faces of tracing without it, in the whole and in each part.
---     facesOf              the number of faces in a part of the places
+-- Tracing past an edge has the faceClasses of tracing without it, in the whole and in each part.
+--     facesOf              the number of faceClasses in a part of the places
 --     Parts, whole-parts   a part with the edge, and the same part without it
 --     Inside, Outside, Level     the edge's steps are in the part; none is; one of the two
 --     through-mirror       tracing past the edge has the same mirror
---     past-faces           it has as many faces as tracing without the edge;     past-reach    and the same orbits
+--     past-faces           it has as many faceClasses as tracing without the edge;     past-reach    and the same orbits
 use mathlib.Core.Path.{_≡_, sym, _∙_, ap}
 use mathlib.Core.Logic.{_↔_}
 use mathlib.Core.Bool.{Bool, true, false}
@@ -11,14 +11,14 @@ use Prim.Native.Nat.{ℕ, _+_, _-_, _*_, _/_, _<_}
 use native.Mathlib.Omega.{arith}
 use Rattle.table.specs.Layout.{edgeOf, rev}
 use Rattle.table.specs.Rotation.{Rotation, Lawful}
-use Rattle.orbits.specs.laws.Swap.{place, at-left, at-right, off}
+use Rattle.orbits.specs.laws.Swap.{position, at-left, at-right, off}
 use Rattle.orbits.specs.Reach.{Reach}
 use Rattle.orbits.specs.Orbits.{World, On}
 use Rattle.orbits.specs.laws.Orbits.{reach-live}
 use Rattle.orbits.specs.Mirror.{Mirror}
 use Rattle.orbits.specs.laws.Mirror.{mirror-world, mirror-part}
 use Rattle.orbits.specs.laws.MirrorExchange.{exch2-mirror}
-use Rattle.orbits.specs.Faces.{faces}
+use Rattle.orbits.specs.Faces.{faceClasses}
 use Rattle.orbits.specs.Follow.{Follows}
 use Rattle.orbits.specs.laws.Follow.{faces-follow, reach-follow}
 use Rattle.tracing.specs.laws.Place.{places, trace, flip, on, trace-low, on-step}
@@ -26,13 +26,13 @@ use Rattle.tracing.specs.laws.Mirrored.{Part, whole, mirrored}
 use Rattle.surgery.specs.Without.{Without}
 use Rattle.surgery.specs.laws.Exchanged.{exchanged-is, exchanged-keeps}
 use Rattle.surgery.specs.laws.Through.{parity, parity-low, near, far, through, through-exchanged, near-low, far-low, near-back, far-back, own-four}
-use Rattle.surgery.specs.laws.Seat.{seat, taken}
+use Rattle.surgery.specs.laws.Seat.{seat, passedOver}
 use Rattle.surgery.specs.laws.SeatFollows.{seat-follows}
 
 abbrev pub facesOf : Rotation → (ℕ → Bool) → ℕ
-facesOf R P = faces (trace R) (flip R) places P
+facesOf R P = faceClasses (trace R) (flip R) places P
 
--- P a part with the edge, P′ the same part without it: each place is in P′ exactly if its seat is in P
+-- P a part with the edge, P′ the same part without it: each position is in P′ exactly if its seat is in P
 pub record Parts (R : Rotation) (e : ℕ) (R′ : Rotation) (P P′ : ℕ → Bool) : Type 0 where
   pub before : Part R P
   pub after : Part R′ P′
@@ -96,10 +96,10 @@ module _ {R : Rotation} {e : ℕ} (L : Lawful R) (live : R .live (2 * e) ≡ tru
   module _ {P : ℕ → Bool} (K : Part R P) (level : Level R e P) where
     -- the edge's steps are in the part, or none is
     pub own-level : (s : ℕ) → edgeOf (s / 2) ≡ e → P s ≡ P (near e)
-    own-level s q = elim (place (near e) (far R e) s) [
+    own-level s q = elim (position (near e) (far R e) s) [
       | at-left z ↦ ap P z
       | at-right z ↦ ap P z ∙ sym (level .both-sides)
-      | off a b ↦ elim (place (4 * e + 2 + (1 - parity R e)) (near e + 1) s) [
+      | off a b ↦ elim (position (4 * e + 2 + (1 - parity R e)) (near e + 1) s) [
         | at-left z ↦ ap P (z ∙ sym (near-back R L e live)) ∙ opposite (near e) (near-low R L e live)
         | at-right z ↦ ap P (z ∙ sym (far-back R L e live)) ∙ opposite (far R e) (far-low R L e live) ∙ sym (level .both-sides)
         | off c d ↦ absurd (own-four R L e live s a b c d q)
@@ -125,11 +125,11 @@ whole-parts {R} {R′} L L′ W = record {
 }
 
 module _ {R R′ : Rotation} {e : ℕ} (L : Lawful R) (L′ : Lawful R′) (W : Without R e R′) {P P′ : ℕ → Bool} (K : Parts R e R′ P P′) where
-  pub past-follows : World places (through R e) P → Follows places places (trace R′) (through R e) P′ P (taken R e R′) (seat R e)
+  pub past-follows : World places (through R e) P → Follows places places (trace R′) (through R e) P′ P (passedOver R e R′) (seat R e)
   past-follows U =
       follows-part (seat-follows L L′ W) U (λ i o. K .before .within i (o .lt) (o .on)) (λ j o. K .after .within j (o .lt) (o .on)) (K .seats)
 
-  pub past-faces : Mirror places (through R e) (flip R) P → facesOf R′ P′ ≡ faces (through R e) (flip R) places P
+  pub past-faces : Mirror places (through R e) (flip R) P → facesOf R′ P′ ≡ faceClasses (through R e) (flip R) places P
   past-faces G = faces-follow (mirrored R′ L′ P′ (K .after)) G (past-follows (mirror-world G))
 
   pub past-reach : Mirror places (through R e) (flip R) P → {i j : ℕ} → On places P′ i → On places P′ j

@@ -1,11 +1,11 @@
 -- The places of a set of vertices that edges keep: each edge has both its ends in the set, or none, as in a connected part. They are a part
 -- of the tracing. The same set of vertices is such a part before an edit and after it, and it has the edge exactly if it has the edge's first vertex.
---     vertexAt, placesIn   the vertex of a place; the places that are there at these vertices
---     Kept, placesIn-part  edges keep the set: then its places are a part
+--     placeVertex, placesIn   the vertex of a place; the places that are there at these vertices
+--     EndsTogether, placesIn-part  edges keep the set: then its places are a part
 --     without-kept, without-parts     with an edge and without it;     inside-of, outside-of    its steps are in the part, or none is
 --     turned-part          an edge turned: the same places
 --     added-kept, added-parts, added-in     a vertex added
-use mathlib.Core.Path.{_≡_, sym, _∙_, ap, fun-ext}
+use mathlib.Core.Path.{_≡_, sym, _∙_, ap}
 use mathlib.Core.Bool.{Bool, true, false, _&&_, cond}
 use Prim.Native.Nat.{ℕ, _+_, _-_, _*_, _/_, _%_, _<_, _≤_}
 use native.Mathlib.Omega.{arith}
@@ -17,7 +17,7 @@ use Rattle.orbits.specs.laws.Truth.{truth, holds, fails, both-left}
 use Rattle.orbits.specs.Orbits.{On}
 use Rattle.tracing.specs.Step.{steps}
 use Rattle.tracing.specs.laws.Step.{Type?, type?, step-word, mirror-word}
-use Rattle.tracing.specs.laws.Place.{places, trace, flip, on, place, is-step, is-still, trace-step, trace-still, flip-step, flip-still, on-step, on-still, on-trace, on-flip, rev-vertex}
+use Rattle.tracing.specs.laws.Place.{places, trace, flip, on, place, is-step, is-still, trace-step, trace-still, flip-step, flip-still, on-step, on-trace, on-flip, rev-vertex}
 use Rattle.tracing.specs.laws.Mirrored.{Part}
 use Rattle.surgery.specs.laws.Spin.{spin, spin-from, step-type?, trace-spin, flip-spin, other-type}
 use Rattle.surgery.specs.Without.{Without}
@@ -25,32 +25,28 @@ use Rattle.surgery.specs.laws.Without.{were, here-both}
 use Rattle.surgery.specs.laws.Through.{near, far, parity-low}
 use Rattle.surgery.specs.laws.Seat.{seat, halves, Seated, a-step, a-vertex, a-bare, seated}
 use Rattle.surgery.specs.laws.SeatFollows.{seat-follows}
-use Rattle.surgery.specs.Turn.{Turned}
-use Rattle.surgery.specs.laws.Turn.{turned-on}
-use Rattle.surgery.specs.Vertex.{Added}
-use Rattle.surgery.specs.laws.Vertex.{VertexParts, vertex-whole, stillAt}
 use Rattle.surgery.specs.laws.Past.{Parts, Inside, Outside, inside-whole}
 
-unfoldable pub vertexAt : Rotation → ℕ → ℕ
-vertexAt R s = cond (ltb s steps) (R .from (s / 2)) ((s - steps) / 2)
+unfoldable pub placeVertex : Rotation → ℕ → ℕ
+placeVertex R s = cond (ltb s steps) (R .from (s / 2)) ((s - steps) / 2)
 
 unfoldable pub placesIn : Rotation → (ℕ → Bool) → ℕ → Bool
-placesIn R Q s = on R s && Q (vertexAt R s)
+placesIn R Q s = on R s && Q (placeVertex R s)
 
-pub record Kept (R : Rotation) (Q : ℕ → Bool) : Type 0 where
+pub record EndsTogether (R : Rotation) (Q : ℕ → Bool) : Type 0 where
   pub edge : (d : ℕ) → R .live d ≡ true → Q (R .from (rev d)) ≡ Q (R .from d)
 
 module _ (R : Rotation) where
-  pub vertex-step : (s : ℕ) → s < steps → vertexAt R s ≡ R .from (s / 2)
-  unfolding vertexAt
+  pub vertex-step : (s : ℕ) → s < steps → placeVertex R s ≡ R .from (s / 2)
+  unfolding placeVertex
   vertex-step s h = rw (lt-ltb s steps h)
 
-  pub vertex-still : (s : ℕ) → steps ≤ s → vertexAt R s ≡ (s - steps) / 2
-  unfolding vertexAt
+  pub vertex-still : (s : ℕ) → steps ≤ s → placeVertex R s ≡ (s - steps) / 2
+  unfolding placeVertex
   vertex-still s h = rw (le-ltb s steps h)
 
   module _ (Q : ℕ → Bool) where
-    pub part-on : (s : ℕ) → on R s ≡ true → placesIn R Q s ≡ Q (vertexAt R s)
+    pub part-on : (s : ℕ) → on R s ≡ true → placesIn R Q s ≡ Q (placeVertex R s)
     unfolding placesIn
     part-on s e = rw e
 
@@ -60,20 +56,20 @@ module _ (R : Rotation) where
 
     pub part-within : (s : ℕ) → placesIn R Q s ≡ true → on R s ≡ true
     unfolding placesIn
-    part-within s e = both-left (on R s) (Q (vertexAt R s)) e
+    part-within s e = both-left (on R s) (Q (placeVertex R s)) e
 
     -- two places that are there together, at vertices that the set has together
-    part-same : (s k : ℕ) → on R k ≡ on R s → (on R s ≡ true → Q (vertexAt R k) ≡ Q (vertexAt R s)) → placesIn R Q k ≡ placesIn R Q s
+    part-same : (s k : ℕ) → on R k ≡ on R s → (on R s ≡ true → Q (placeVertex R k) ≡ Q (placeVertex R s)) → placesIn R Q k ≡ placesIn R Q s
     part-same s k same q = elim (truth (on R s)) [
       | holds e ↦ part-on k (same ∙ e) ∙ q e ∙ sym (part-on s e)
       | fails e ↦ part-off k (same ∙ e) ∙ sym (part-off s e)
     ]
 
 module _ {R : Rotation} (L : Lawful R) where
-  at-step : {t : ℕ} → Type? t → (s d : ℕ) → s < steps → s ≡ 2 * spin R t d + t → vertexAt R s ≡ R .from d
+  at-step : {t : ℕ} → Type? t → (s d : ℕ) → s < steps → s ≡ 2 * spin R t d + t → placeVertex R s ≡ R .from d
   at-step {t} T s d h q = vertex-step R s h ∙ rw (q, halves (spin R t d) t T .0) (spin-from L T d)
 
-  pub vertex-flip : (s : ℕ) → vertexAt R (flip R s) ≡ vertexAt R s
+  pub vertex-flip : (s : ℕ) → placeVertex R (flip R s) ≡ placeVertex R s
   vertex-flip s = elim (place s) [
     | is-step h ↦
         let w : flip R s < steps = rw (flip-step R s h) (mirror-word R L s h) in
@@ -81,7 +77,7 @@ module _ {R : Rotation} (L : Lawful R) where
     | is-still h ↦ rw (flip-still R s h) (vertex-still R (rev s) (omega arith) ∙ rev-vertex s h ∙ sym (vertex-still R s h))
   ]
 
-module _ {R : Rotation} (L : Lawful R) {Q : ℕ → Bool} (C : Kept R Q) where
+module _ {R : Rotation} (L : Lawful R) {Q : ℕ → Bool} (C : EndsTogether R Q) where
   pub placesIn-part : Part R (placesIn R Q)
   placesIn-part = record {
     traced = λ s l. part-same R Q s (trace R s) (on-trace R L s) (λ e. traced s e);
@@ -89,7 +85,7 @@ module _ {R : Rotation} (L : Lawful R) {Q : ℕ → Bool} (C : Kept R Q) where
     within = λ s l. part-within R Q s;
   }
     where
-      traced : (s : ℕ) → on R s ≡ true → Q (vertexAt R (trace R s)) ≡ Q (vertexAt R s)
+      traced : (s : ℕ) → on R s ≡ true → Q (placeVertex R (trace R s)) ≡ Q (placeVertex R s)
       traced s e = elim (place s) [
         | is-step h ↦
             let w : trace R s < steps = rw (trace-step R s h) (step-word R L s h) in
@@ -98,18 +94,18 @@ module _ {R : Rotation} (L : Lawful R) {Q : ℕ → Bool} (C : Kept R Q) where
         | is-still h ↦ rw (trace-still R s h)
       ]
 
-module _ {R R′ : Rotation} {e : ℕ} (L : Lawful R) (L′ : Lawful R′) (W : Without R e R′) {Q : ℕ → Bool} (C : Kept R Q) where
-  pub without-kept : Kept R′ Q
+module _ {R R′ : Rotation} {e : ℕ} (L : Lawful R) (L′ : Lawful R′) (W : Without R e R′) {Q : ℕ → Bool} (C : EndsTogether R Q) where
+  pub without-kept : EndsTogether R′ Q
   without-kept = record {
     edge = λ d l.
         rw (W .from (rev d) (L′ .live-rev d ∙ l), W .from d l) (C .edge d (were L L′ W d l));
   }
 
   -- a place and its seat are at one vertex
-  pub seat-vertex-at : (s : ℕ) → On places (on R′) s → vertexAt R (seat R e s) ≡ vertexAt R′ s
+  pub seat-vertex-at : (s : ℕ) → On places (on R′) s → placeVertex R (seat R e s) ≡ placeVertex R′ s
   seat-vertex-at s o = by (seated L L′ W s o)
     where
-      by : Seated R e R′ s → vertexAt R (seat R e s) ≡ vertexAt R′ s
+      by : Seated R e R′ s → placeVertex R (seat R e s) ≡ placeVertex R′ s
       by (a-step h l q) = rw q (vertex-step R s h ∙ sym (W .from (s / 2) l) ∙ sym (vertex-step R′ s h))
       by (a-vertex h a q) = rw q (vertex-still R s h ∙ sym (vertex-still R′ s h))
       by (a-bare h d x v a p q) =
@@ -125,7 +121,7 @@ module _ {R R′ : Rotation} {e : ℕ} (L : Lawful R) (L′ : Lawful R′) (W : 
         part-on R′ Q s (o .on) ∙ ap Q (sym (seat-vertex-at s o)) ∙ sym (part-on R Q (seat R e s) (seat-follows L L′ W .lives s o .on));
   }
 
-module _ {R : Rotation} (L : Lawful R) (e : ℕ) (live : R .live (2 * e) ≡ true) {Q : ℕ → Bool} (C : Kept R Q) where
+module _ {R : Rotation} (L : Lawful R) (e : ℕ) (live : R .live (2 * e) ≡ true) {Q : ℕ → Bool} (C : EndsTogether R Q) where
   at-near : placesIn R Q (near e) ≡ Q (R .from (2 * e))
   at-near =
       let low = L .dart-low (2 * e) live in
@@ -144,43 +140,3 @@ module _ {R : Rotation} (L : Lawful R) (e : ℕ) (live : R .live (2 * e) ≡ tru
 
   pub outside-of : Q (R .from (2 * e)) ≡ false → Outside R e (placesIn R Q)
   outside-of q = record { near-out = at-near ∙ q; far-out = at-far ∙ q }
-
--- the vertex of a place does not change where the darts keep theirs
-vertex-alike : (R R₁ : Rotation) → ((d : ℕ) → R .live d ≡ true → R₁ .from d ≡ R .from d) → (s : ℕ) → on R s ≡ true → vertexAt R₁ s ≡ vertexAt R s
-vertex-alike R R₁ from s e = elim (place s) [
-  | is-step h ↦ rw (vertex-step R₁ s h, vertex-step R s h) (from (s / 2) (rw (on-step R s h) at e))
-  | is-still h ↦ rw (vertex-still R₁ s h, vertex-still R s h)
-]
-
-part-alike : (R R₁ : Rotation) → ((d : ℕ) → R .live d ≡ true → R₁ .from d ≡ R .from d) → (Q : ℕ → Bool) (s : ℕ) → on R₁ s ≡ on R s
-    → placesIn R₁ Q s ≡ placesIn R Q s
-part-alike R R₁ from Q s same = elim (truth (on R s)) [
-  | fails e ↦ part-off R₁ Q s (same ∙ e) ∙ sym (part-off R Q s e)
-  | holds e ↦ part-on R₁ Q s (same ∙ e) ∙ ap Q (vertex-alike R R₁ from s e) ∙ sym (part-on R Q s e)
-]
-
-pub turned-part : {R R₁ : Rotation} {e : ℕ} → Lawful R → Lawful R₁ → Turned R e R₁ → ((d : ℕ) → R .live d ≡ true → R₁ .from d ≡ R .from d)
-    → (Q : ℕ → Bool) → placesIn R₁ Q ≡ placesIn R Q
-turned-part {R} {R₁} L L₁ W from Q = fun-ext (λ s. part-alike R R₁ from Q s (ap (λ f. f s) (turned-on L L₁ W)))
-
-module _ {R R₁ : Rotation} {v : ℕ} (L : Lawful R) (L₁ : Lawful R₁) (A : Added R v R₁) (from : (d : ℕ) → R .live d ≡ true → R₁ .from d ≡ R .from d)
-    {Q : ℕ → Bool} (C : Kept R Q) where
-  pub added-kept : Kept R₁ Q
-  added-kept = record {
-    edge = λ d l.
-        let was : R .live d ≡ true = sym (A .live d) ∙ l in
-        rw (from (rev d) (L .live-rev d ∙ was), from d was) (C .edge d was);
-  }
-
-  pub added-parts : VertexParts R v R₁ (placesIn R Q) (placesIn R₁ Q)
-  added-parts = record {
-    before = placesIn-part L C;
-    after = placesIn-part L₁ added-kept;
-    others = λ s l p q. part-alike R R₁ from Q s (vertex-whole L L₁ A .others s l p q);
-  }
-
-  -- the vertex is in the part exactly if the set has it
-  pub added-in : placesIn R₁ Q (stillAt v) ≡ Q v
-  added-in =
-      let same : (stillAt v - steps) / 2 ≡ v = omega arith in
-      part-on R₁ Q (stillAt v) (on-still R₁ (stillAt v) (omega arith) ∙ rw same (A .now)) ∙ ap Q (vertex-still R₁ (stillAt v) (omega arith) ∙ same)

@@ -36,8 +36,8 @@ unfoldable pub seat : Rotation → ℕ → ℕ → ℕ
 seat R e s = cond (ltb s steps) s (cond (R .alone ((s - steps) / 2)) s (2 * dartAt R e ((s - steps) / 2) + s % 2))
 
 -- is something seated there: not at the steps of the edge, but for those that a vertex took
-unfoldable pub taken : Rotation → ℕ → Rotation → ℕ → Bool
-taken R e R′ s = apart e (s / 2) || (R′ .alone (R .from (s / 2)) && eqb (dartAt R e (R .from (s / 2))) (s / 2))
+unfoldable pub passedOver : Rotation → ℕ → Rotation → ℕ → Bool
+passedOver R e R′ s = apart e (s / 2) || (R′ .alone (R .from (s / 2)) && eqb (dartAt R e (R .from (s / 2))) (s / 2))
 
 pub data Seated (R : Rotation) (e : ℕ) (R′ : Rotation) (s : ℕ) : Type 0 where
   a-step : s < steps → R′ .live (s / 2) ≡ true → seat R e s ≡ s → Seated R e R′ s
@@ -73,20 +73,20 @@ module _ (R : Rotation) (e : ℕ) where
   ]
 
 module _ (R : Rotation) (e : ℕ) (R′ : Rotation) where
-  pub taken-other : (s d : ℕ) → s / 2 ≡ d → apart e d ≡ true → taken R e R′ s ≡ true
-  unfolding taken
+  pub taken-other : (s d : ℕ) → s / 2 ≡ d → apart e d ≡ true → passedOver R e R′ s ≡ true
+  unfolding passedOver
   taken-other s d q a = rw (q, a)
 
-  pub taken-bare : (s d : ℕ) → s / 2 ≡ d → R′ .alone (R .from d) ≡ true → dartAt R e (R .from d) ≡ d → taken R e R′ s ≡ true
-  unfolding taken
+  pub taken-bare : (s d : ℕ) → s / 2 ≡ d → R′ .alone (R .from d) ≡ true → dartAt R e (R .from d) ≡ d → passedOver R e R′ s ≡ true
+  unfolding passedOver
   taken-bare s d q a p = rw (q, a, eq-eqb (dartAt R e (R .from d)) d p) (or-true (apart e d))
 
-  taken-full : (s d : ℕ) → s / 2 ≡ d → apart e d ≡ false → R′ .alone (R .from d) ≡ false → taken R e R′ s ≡ false
-  unfolding taken
+  taken-full : (s d : ℕ) → s / 2 ≡ d → apart e d ≡ false → R′ .alone (R .from d) ≡ false → passedOver R e R′ s ≡ false
+  unfolding passedOver
   taken-full s d q a f = rw (q, a, f)
 
-  taken-second : (s d : ℕ) → s / 2 ≡ d → apart e d ≡ false → R′ .alone (R .from d) ≡ true → dartAt R e (R .from d) ≢ d → taken R e R′ s ≡ false
-  unfolding taken
+  taken-second : (s d : ℕ) → s / 2 ≡ d → apart e d ≡ false → R′ .alone (R .from d) ≡ true → dartAt R e (R .from d) ≢ d → passedOver R e R′ s ≡ false
+  unfolding passedOver
   taken-second s d q a f n = rw (q, a, f, ne-eqb (dartAt R e (R .from d)) d n)
 
 -- the step by dart d with type t
@@ -120,7 +120,7 @@ module _ {R R′ : Rotation} {e : ℕ} (L : Lawful R) (L′ : Lawful R′) (W : 
 
   -- around a vertex that keeps a dart: past the edge's darts to the next dart
   pub skip-around : {t : ℕ} → Type? t → {d k : ℕ} → Skip (spin R t) (apart e) d k → R′ .alone (R .from d) ≡ false
-      → (s : ℕ) → through R e s ≡ 2 * spin R t d + t → Skip (through R e) (taken R e R′) s (2 * k + t)
+      → (s : ℕ) → through R e s ≡ 2 * spin R t d + t → Skip (through R e) (passedOver R e R′) s (2 * k + t)
   skip-around {t} T {d} {k} (land on q) f s p =
       land (taken-other R e R′ (2 * k + t) k (halves k t T .0) on) (p ∙ rw q)
   skip-around {t} T {d} {k} (pass off w) f s p =
@@ -135,7 +135,7 @@ module _ {R R′ : Rotation} {e : ℕ} (L : Lawful R) (L′ : Lawful R′) (W : 
 
   -- a vertex with the edge's darts alone: around it and back
   pub skip-bare : {t : ℕ} → Type? t → (d : ℕ) → edgeOf d ≡ e → R′ .alone (R .from d) ≡ true → dartAt R e (R .from d) ≡ d
-      → Skip (through R e) (taken R e R′) (2 * d + t) (2 * d + t)
+      → Skip (through R e) (passedOver R e R′) (2 * d + t) (2 * d + t)
   skip-bare {t} T d q a p = elim (ℕ-discrete (spin R t d) d) [
     | yes s ↦ land here (past T d q ∙ rw s)
     | no n ↦
@@ -149,7 +149,7 @@ module _ {R R′ : Rotation} {e : ℕ} (L : Lawful R) (L′ : Lawful R′) (W : 
         (land here (past T (spin R t d) k ∙ rw back))
   ]
     where
-      here : taken R e R′ (2 * d + t) ≡ true
+      here : passedOver R e R′ (2 * d + t) ≡ true
       here = taken-bare R e R′ (2 * d + t) d (halves d t T .0) a p
 
       own : (i : ℕ) → edgeOf i ≡ e → R′ .alone (R .from i) ≡ true → edgeOf (spin R t i) ≡ e

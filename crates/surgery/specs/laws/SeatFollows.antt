@@ -23,7 +23,7 @@ use Rattle.surgery.specs.laws.Spin.{spin, spin-live, spin-from, spin-rea
 use Rattle.surgery.specs.Without.{Without}
 use Rattle.surgery.specs.laws.Without.{apart-other, here-both, kept, not-own, were, spin-skip, alone-stays, bare-edge, filled, full}
 use Rattle.surgery.specs.laws.Through.{through, through-other}
-use Rattle.surgery.specs.laws.Seat.{dartAt, seat, taken, Seated, a-step, a-vertex, a-bare, seated, seat-step, seat-vertex, seat-bare, dartAt-own, dartAt-from, taken-other, taken-bare, halves, past, skip-around, reach-around, skip-bare, same-type}
+use Rattle.surgery.specs.laws.Seat.{dartAt, seat, passedOver, Seated, a-step, a-vertex, a-bare, seated, seat-step, seat-vertex, seat-bare, dartAt-own, dartAt-from, taken-other, taken-bare, halves, past, skip-around, reach-around, skip-bare, same-type}
 
 dart-step : {t : ℕ} (d : ℕ) → d < darts → Type? t → 2 * d + t < steps
 dart-step d h (is-zero z) = omega arith
@@ -53,7 +53,7 @@ module _ {R R′ : Rotation} {e : ℕ} (L : Lawful R) (L′ : Lawful R′) (W : 
       let low = own-low (type? s) d o in
       rw q (record { lt = omega arith; on = on-step R (2 * d + s % 2) low ∙ rw (halves d (s % 2) (type? s) .0) (here-both L L′ W d o) })
 
-  seat-taken : (s : ℕ) → Seated R e R′ s → taken R e R′ (seat R e s) ≡ true
+  seat-taken : (s : ℕ) → Seated R e R′ s → passedOver R e R′ (seat R e s) ≡ true
   seat-taken s (a-step h l q) = rw q (taken-other R e R′ s (s / 2) refl (apart-other e (s / 2) (not-own L L′ W (s / 2) l)))
   seat-taken s (a-vertex h a q) = rw q (taken-other R e R′ s (s / 2) refl (apart-other e (s / 2) (still-other s h)))
   seat-taken s (a-bare h d o v a p q) = rw q (taken-bare R e R′ (2 * d + s % 2) d (halves d (s % 2) (type? s) .0) a p)
@@ -80,7 +80,7 @@ module _ {R R′ : Rotation} {e : ℕ} (L : Lawful R) (L′ : Lawful R′) (W : 
       let vertex : (i - steps) / 2 ≡ (j - steps) / 2 = sym v ∙ ap (R .from) dart ∙ w in
       omega arith
 
-  seat-skip : (s : ℕ) → s < places → Seated R e R′ s → Skip (through R e) (taken R e R′) (seat R e s) (seat R e (trace R′ s))
+  seat-skip : (s : ℕ) → s < places → Seated R e R′ s → Skip (through R e) (passedOver R e R′) (seat R e s) (seat R e (trace R′ s))
   seat-skip s b (a-step h l q) =
       let t = stepType R′ s in
       let T = step-type? R′ s in
@@ -176,7 +176,7 @@ module _ {R R′ : Rotation} {e : ℕ} (L : Lawful R) (L′ : Lawful R′) (W : 
             }
       ]
 
-  pub seat-follows : Follows places places (trace R′) (through R e) (on R′) (on R) (taken R e R′) (seat R e)
+  pub seat-follows : Follows places places (trace R′) (through R e) (on R′) (on R) (passedOver R e R′) (seat R e)
   seat-follows = record {
     lives = λ s o. seat-on s (o .lt) (seated L L′ W s o);
     mark = λ s o. seat-taken s (seated L L′ W s o);

@@ -18,8 +18,6 @@ use Rattle.orbits.specs.Mirror.{Mirror}
 use Rattle.orbits.specs.laws.Mirror.{mirror-world, mirror-next}
 use Rattle.orbits.specs.Exchange.{exch2}
 use Rattle.orbits.specs.Faces.{Face, along, mirrored}
-use Rattle.orbits.specs.laws.Follow.{faces-agree}
-use Rattle.orbits.specs.laws.Truth.{clash}
 use Rattle.orbits.specs.laws.FaceExchange.{faces-less, faces-more, faces-same}
 use Rattle.tracing.specs.Step.{steps}
 use Rattle.tracing.specs.laws.Step.{is-zero, is-one}
@@ -27,9 +25,9 @@ use Rattle.tracing.specs.laws.Place.{places, trace, flip, on, place, is-step, i
 use Rattle.tracing.specs.laws.Mirrored.{Part, mirrored as tracing-mirror}
 use Rattle.surgery.specs.laws.Spin.{other-type}
 use Rattle.surgery.specs.laws.Alike.{alike-around, alike-flip, alike-trace}
-use Rattle.surgery.specs.laws.Exchanged.{Exchanged, exchanged-is, exchanged-keeps}
-use Rattle.surgery.specs.laws.Through.{parity, parity-low, parity-type, near, far, near-low, far-low, own-four, trace-near, trace-far, trace-near-back, trace-far-back, near-back, far-back, far-back-back}
-use Rattle.surgery.specs.laws.Past.{facesOf, Inside, Outside, Level, level-in, level-out, own-level, near-on}
+use Rattle.surgery.specs.laws.Exchanged.{Exchanged, exchanged-is}
+use Rattle.surgery.specs.laws.Through.{parity, parity-low, parity-type, near, far, far-low, own-four, trace-near, trace-far, trace-near-back, trace-far-back, near-back, far-back, far-back-back}
+use Rattle.surgery.specs.laws.Past.{facesOf, Inside, level-in, own-level, near-on}
 use Rattle.surgery.specs.Turn.{Turned}
 
 module _ {R R₁ : Rotation} {e : ℕ} (L : Lawful R) (L₁ : Lawful R₁) (W : Turned R e R₁) where
@@ -85,22 +83,6 @@ module _ {R R₁ : Rotation} {e : ℕ} (L : Lawful R) (L₁ : Lawful R₁) (W : 
 
       second-low : near e + 1 < places
       second-low = let l = L .dart-low (2 * e) (W .here) in omega arith
-
-      -- the edge's steps in the part, or none: it stays a part
-      pub turn-part : Level R e P → Part R₁ P
-      turn-part level = record {
-        traced =
-            exchanged-keeps E (near-low R L e (W .here)) second-low turned-exchanged P (K .traced) (K .flipped)
-            (sym (own-level L (W .here) K level (near e + 1) (omega arith)));
-        flipped = rw (alike-flip L L₁ (W .next)) (K .flipped);
-        within = rw turned-on (K .within);
-      }
-
-      pub turn-elsewhere : Outside R e P → facesOf R₁ P ≡ facesOf R P
-      turn-elsewhere o =
-          let level = level-out o in
-          faces-agree (tracing-mirror R₁ L₁ P (turn-part level)) E
-          (λ s p. alike-trace L L₁ (W .next) s (W .turns (s / 2) (λ q. clash (p .on) (own-level L (W .here) K level s q ∙ o .near-out))))
 
       module _ (i : Inside R e P) where
         second-on : On places P (near e + 1)

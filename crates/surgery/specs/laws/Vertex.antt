@@ -9,9 +9,9 @@ use Prim.Native.Nat.{ℕ, suc, _+_, _-_, _*_, _/_, _<_, _≤_}
 use native.Mathlib.Omega.{arith}
 use Rattle.table.specs.Rotation.{Rotation, Lawful}
 use Rattle.orbits.specs.laws.Truth.{clash, false-unless}
-use Rattle.orbits.specs.laws.Swap.{place, at-left, at-right, off}
+use Rattle.orbits.specs.laws.Swap.{position, at-left, at-right, off}
 use Rattle.orbits.specs.laws.Count.{without, without-at, without-other}
-use Rattle.orbits.specs.Faces.{faces}
+use Rattle.orbits.specs.Faces.{faceClasses}
 use Rattle.orbits.specs.laws.Faces.{faces-live}
 use Rattle.orbits.specs.laws.PassThrough.{faces-alone}
 use Rattle.tracing.specs.Step.{steps}
@@ -21,7 +21,7 @@ use Rattle.surgery.specs.laws.Past.{facesOf}
 use Rattle.surgery.specs.laws.Alike.{alike-flip, alike-trace}
 use Rattle.surgery.specs.Vertex.{Added}
 
--- the first still place of a vertex; the other is the next number
+-- the first still position of a vertex; the other is the next number
 abbrev pub stillAt : ℕ → ℕ
 stillAt v = steps + 2 * v
 
@@ -31,7 +31,7 @@ pub record VertexParts (R : Rotation) (v : ℕ) (R₁ : Rotation) (P P₁ : ℕ 
   pub others : (s : ℕ) → s < places → s ≢ stillAt v → s ≢ stillAt v + 1 → P₁ s ≡ P s
 
 module _ {R R₁ : Rotation} {v : ℕ} (L : Lawful R) (L₁ : Lawful R₁) (A : Added R v R₁) where
-  -- the vertex of a place that is no still place of v
+  -- the vertex of a position that is no still position of v
   other-vertex : (s : ℕ) → steps ≤ s → s ≢ stillAt v → s ≢ stillAt v + 1 → (s - steps) / 2 ≢ v
   other-vertex s h p q = omega arith
 
@@ -54,7 +54,7 @@ module _ {R R₁ : Rotation} {v : ℕ} (L : Lawful R) (L₁ : Lawful R₁) (A : 
   low : stillAt v + 1 < places
   low = let h = L₁ .there-low v (L₁ .alone-there v (A .now)) in omega arith
 
-  -- neither still place is there before
+  -- neither still position is there before
   absent : (s : ℕ) → steps ≤ s → (s - steps) / 2 ≡ v → on R s ≡ false
   absent s h q = on-still R s h ∙ rw q (false-unless (R .alone v) (λ a. clash (L .alone-there v a) (A .fresh)))
 
@@ -71,7 +71,7 @@ module _ {R R₁ : Rotation} {v : ℕ} (L : Lawful R) (L₁ : Lawful R₁) (A : 
     second : flip R₁ (stillAt v) ≡ stillAt v + 1
     second = flip-still R₁ (stillAt v) (omega arith) ∙ omega arith
 
-    same-faces : {Q : ℕ → Bool} → ((s : ℕ) → s < places → Q s ≡ P s) → faces (trace R₁) (flip R₁) places Q ≡ facesOf R P
+    same-faces : {Q : ℕ → Bool} → ((s : ℕ) → s < places → Q s ≡ P s) → faceClasses (trace R₁) (flip R₁) places Q ≡ facesOf R P
     same-faces {Q} q = rw (same-trace, alike-flip L L₁ (A .next)) (faces-live (trace R) (flip R) places Q P q)
 
     pub add-vertex : P₁ (stillAt v) ≡ true → facesOf R₁ P₁ ≡ suc (facesOf R P)
@@ -81,16 +81,9 @@ module _ {R R₁ : Rotation} {v : ℕ} (L : Lawful R) (L₁ : Lawful R₁) (A : 
         ∙ ap suc (same-faces left)
       where
         left : (s : ℕ) → s < places → without (without P₁ (stillAt v)) (flip R₁ (stillAt v)) s ≡ P s
-        left s l = rw second (elim (place (stillAt v) (stillAt v + 1) s) [
+        left s l = rw second (elim (position (stillAt v) (stillAt v + 1) s) [
           | at-left z ↦ rw z (without-other (without P₁ (stillAt v)) (stillAt v + 1) (stillAt v) (omega arith) ∙ without-at P₁ (stillAt v) ∙ sym first-not)
           | at-right z ↦ rw z (without-at (without P₁ (stillAt v)) (stillAt v + 1) ∙ sym second-not)
           | off p q ↦
               without-other (without P₁ (stillAt v)) (stillAt v + 1) s q ∙ without-other P₁ (stillAt v) s p ∙ K .others s l p q
         ])
-
-    pub add-elsewhere : P₁ (stillAt v) ≡ false → facesOf R₁ P₁ ≡ facesOf R P
-    add-elsewhere f = same-faces (λ s l. elim (place (stillAt v) (stillAt v + 1) s) [
-      | at-left z ↦ rw z (f ∙ sym first-not)
-      | at-right z ↦ rw z (let h = low in ap P₁ (sym second) ∙ K .after .flipped (stillAt v) (omega arith) ∙ f ∙ sym second-not)
-      | off p q ↦ K .others s l p q
-    ])

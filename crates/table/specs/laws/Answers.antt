@@ -12,14 +12,14 @@ use Rattle.table.specs.Answers.{numberOf, refusalCode, unless}
 use Rattle.table.specs.declared.answer.Refusal.{Refusal}
 use Rattle.table.specs.declared.answer.Refusal.the-variants.{Torn, NoSuchName, Taken, Absent, Joined, Overturned, ShortSlice, ManyTurns, Far, BadMark, CutRecord}
 
--- where tests let a call through, the first of them holds and the others let it through
-pub record Through {A : Type 0} (test : Bool) (x y : A) : Type 0 where
+-- where tests let a call let-through, the first of them holds and the others let it let-through
+pub record LetThrough {A : Type 0} (test : Bool) (x y : A) : Type 0 where
   pub held : test ≡ true
   pub rest : x ≡ y
 
-pub through : {A : Type 0} (test : Bool) {refusal rest y : A} → (refusal ≡ y → ⊥) → unless test refusal rest ≡ y → Through test rest y
-through true n e = record { held = refl; rest = e }
-through false n e = absurd (n e)
+pub let-through : {A : Type 0} (test : Bool) {refusal rest y : A} → (refusal ≡ y → ⊥) → unless test refusal rest ≡ y → LetThrough test rest y
+let-through true n e = record { held = refl; rest = e }
+let-through false n e = absurd (n e)
 
 -- a refusal's number has at most two digits
 pub number-low : (r : Refusal) → numberOf r < 100

@@ -62,13 +62,13 @@ module _ (t : List ℕ) (d : ℕ) where
   rule-live on h l = record { turns = h; bare = λ e. absurd (on e); linked = λ _. l }
 
 -- The loop over the darts: those below d keep their rules, and n of them are live.
-pub record Passed (t : List ℕ) (n d : ℕ) : Type 0 where
+pub record RuledBelow (t : List ℕ) (n d : ℕ) : Type 0 where
   pub low : d ≤ darts
   pub rules : Ruled t d
   pub counted : n ≡ count (live? t) d
 
 module _ (t : List ℕ) where
-  pub passed-none : Passed t 0 0
+  pub passed-none : RuledBelow t 0 0
   unfolding count
   passed-none = record { low = omega arith; rules = λ d h. absurd (none d h); counted = refl }
     where
@@ -81,22 +81,22 @@ module _ (t : List ℕ) where
     | no e ↦ r k (omega arith)
   ]
 
-  pub passed-live : (n d : ℕ) → Passed t n d → d < darts → DartRule t d → edgeWord t (edgeOf d) ≢ 0 → Passed t (n + 1) (d + 1)
+  pub passed-live : (n d : ℕ) → RuledBelow t n d → d < darts → DartRule t d → edgeWord t (edgeOf d) ≢ 0 → RuledBelow t (n + 1) (d + 1)
   unfolding count
   passed-live n d p h r on =
       let l : live? t d ≡ true = yes-live t d (record { low = h; on = on }) in
       record { low = omega arith; rules = rules-more d (p .rules) r; counted = rw (add-one d, l) (rw (add-one n) (ap suc (p .counted))) }
 
-  pub passed-dead : (n d : ℕ) → Passed t n d → d < darts → DartRule t d → edgeWord t (edgeOf d) ≡ 0 → Passed t n (d + 1)
+  pub passed-dead : (n d : ℕ) → RuledBelow t n d → d < darts → DartRule t d → edgeWord t (edgeOf d) ≡ 0 → RuledBelow t n (d + 1)
   unfolding count
   passed-dead n d p h r off =
       let l : live? t d ≡ false = not-live t d (λ v. v .on off) in
       record { low = omega arith; rules = rules-more d (p .rules) r; counted = rw (add-one d, l) (p .counted) }
 
-  pub passed-few : (n d : ℕ) → Passed t n d → n ≤ d
+  pub passed-few : (n d : ℕ) → RuledBelow t n d → n ≤ d
   passed-few n d p = rw (p .counted) (count-le (live? t) d)
 
-  pub passed-all : (n d : ℕ) → Passed t n d → darts ≤ d → DartsSay t (Of n)
+  pub passed-all : (n d : ℕ) → RuledBelow t n d → darts ≤ d → DartsSay t (Of n)
   passed-all n d p h =
       let e : d ≡ darts = omega (arith, p .low) in
       counts (ap Of (rw e at (p .counted))) (rw e at (p .rules))

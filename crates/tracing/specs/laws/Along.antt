@@ -12,7 +12,7 @@ use Rattle.orbits.specs.Iterate.{iter}
 use Rattle.orbits.specs.laws.Iterate.{iter-zero, iter-suc, Period}
 use Rattle.tracing.specs.Step.{steps, step}
 use Rattle.tracing.specs.Walk.{walk}
-use Rattle.tracing.specs.laws.Walk.{run, walk-run, walk-period, walk-period-le}
+use Rattle.tracing.specs.laws.Walk.{iterates, walk-run, walk-period, walk-period-le}
 use Rattle.tracing.specs.laws.Stands.{Stands, stands-step, stands-low}
 
 pub record Along (f : ℕ → ℕ) (s n at : ℕ) : Type 0 where
@@ -73,7 +73,7 @@ walking-few {t} {s} w =
     omega arith
 
 pub walking-all : {t : List ℕ} {s n at next : ℕ} → Walking t s n at → next ≡ step (rotation t) at → next ≡ s
-    → walk (rotation t) s ≡ run (step (rotation t)) s (n + 1)
+    → walk (rotation t) s ≡ iterates (step (rotation t)) s (n + 1)
 unfolding along-period
 walking-all {t} {s} {n} w e b =
     let L = good-lawful t (w .start .good) in

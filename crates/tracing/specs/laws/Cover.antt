@@ -6,13 +6,13 @@ use mathlib.Core.Path.{_≡_, refl, sym, _∙_, ap}
 use mathlib.Core.Bool.{true, false, not}
 use Rattle.table.specs.Layout.{darts}
 use Rattle.table.specs.Rotation.{Rotation, Lawful}
-use Rattle.orbits.specs.laws.Truth.{same-truth, truth, holds, fails, clash, both}
+use Rattle.orbits.specs.laws.Truth.{truth, holds, fails, clash, both}
 use Rattle.orbits.specs.laws.Reach.{reach-here}
 use Rattle.orbits.specs.Faces.{Face, along, mirrored}
-use Rattle.orbits.specs.laws.Faces.{face-flip, face-trans}
-use Rattle.tracing.specs.Step.{steps, mirror, corner}
-use Rattle.tracing.specs.laws.Step.{mirror-word, corner-dart}
-use Rattle.tracing.specs.laws.Place.{trace, flip, on, flip-flip, flip-step, flip-still}
+use Rattle.orbits.specs.laws.Faces.{face-flip}
+use Rattle.tracing.specs.Step.{steps, corner}
+use Rattle.tracing.specs.laws.Step.{corner-dart}
+use Rattle.tracing.specs.laws.Place.{trace, flip, on, flip-step, flip-still}
 use Rattle.tracing.specs.Walk.{corners}
 use Rattle.tracing.specs.Listing.{has, metBy, starts}
 use Rattle.tracing.specs.laws.Has.{has-gathered, has-gather}
@@ -84,13 +84,3 @@ module _ (R : Rotation) (L : Lawful R) where
         let turn : flip R (2 * corner R s) ≡ s = flip-step R (2 * corner R s) (omega arith) ∙ sym q in
         mirrored (rw turn reach-here)
   ]
-
-  -- "Every face is traced in two senses": the walk in the other sense meets the same corners
-  pub other-sense : (s c : ℕ) → s < steps → c < darts → has c (corners R (mirror R s)) ≡ has c (corners R s)
-  other-sense s c h l =
-      let E = tracing-mirror R L (on R) (whole R L) in
-      let m = mirror-word R L s h in
-      let turn : Face (trace R) (flip R) s (mirror R s) = mirrored (rw (← flip-step R s h, flip-flip R L s) reach-here) in
-      same-truth (has c (corners R (mirror R s))) (has c (corners R s))
-      (λ e. corners-has R L s c h l (face-trans E (omega arith) (omega arith) turn (has-corners R L (mirror R s) c m l e)))
-      (λ e. corners-has R L (mirror R s) c m l (face-trans E (omega arith) (omega arith) (face-flip E (omega arith) (omega arith) turn) (has-corners R L s c h l e)))

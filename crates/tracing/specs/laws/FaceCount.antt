@@ -16,9 +16,8 @@ use Rattle.orbits.specs.Count.{count, Partner}
 use Rattle.orbits.specs.laws.Count.{count-same, count-sum}
 use Rattle.orbits.specs.laws.Reach.{reach-here}
 use Rattle.orbits.specs.laws.Classes.{reps-count}
-use Rattle.orbits.specs.Orbits.{orbits}
-use Rattle.orbits.specs.Faces.{Face, along, mirrored, faces as faceClasses}
-use Rattle.orbits.specs.laws.Faces.{face-flip, face-trans, face-partition, face-keeps, orbits-pair}
+use Rattle.orbits.specs.Faces.{Face, along, mirrored, faceClasses}
+use Rattle.orbits.specs.laws.Faces.{face-flip, face-trans, face-partition, face-keeps}
 use Rattle.tracing.specs.Step.{steps, corner}
 use Rattle.tracing.specs.laws.Step.{type?, is-zero, is-one, corner-live}
 use Rattle.tracing.specs.laws.Place.{places, trace, flip, on, place, is-step, is-still, flip-still, on-step, on-still}
@@ -76,11 +75,11 @@ module _ (R : Rotation) where
       ∙ sym (count-sum (named R P) darts vertices)
 
 -- a number that names a listed walk in P
-data Named (R : Rotation) (P : ℕ → Bool) (j : ℕ) : Type 0 where
-  dart-named : j < darts → start? R j ≡ true → P (2 * j) ≡ true → Named R P j
-  lone-named : darts ≤ j → R .alone (j - darts) ≡ true → P (2 * j) ≡ true → Named R P j
+data NamesWalk (R : Rotation) (P : ℕ → Bool) (j : ℕ) : Type 0 where
+  dart-named : j < darts → start? R j ≡ true → P (2 * j) ≡ true → NamesWalk R P j
+  lone-named : darts ≤ j → R .alone (j - darts) ≡ true → P (2 * j) ≡ true → NamesWalk R P j
 
-named-means : (R : Rotation) (P : ℕ → Bool) (j : ℕ) → named R P j ≡ true → Named R P j
+named-means : (R : Rotation) (P : ℕ → Bool) (j : ℕ) → named R P j ≡ true → NamesWalk R P j
 named-means R P j e = elim (decLt j darts) [
   | yes h ↦
       let t = sym (named-dart R P j h) ∙ e in
@@ -99,7 +98,7 @@ all-pass q [] h = refl
 all-pass q (x ∷ l) h = rw (h x (has-here x l), all-pass q l (λ c e. h c (has-tail c x l e)))
 
 module _ (R : Rotation) (L : Lawful R) where
-  named-apart : (P : ℕ → Bool) → Part R P → (i j : ℕ) → i < 2560 → j < 2560 → Named R P i → Named R P j → Face (trace R) (flip R) (2 * i) (2 * j) → i ≡ j
+  named-apart : (P : ℕ → Bool) → Part R P → (i j : ℕ) → i < 2560 → j < 2560 → NamesWalk R P i → NamesWalk R P j → Face (trace R) (flip R) (2 * i) (2 * j) → i ≡ j
   named-apart P K i j h l (dart-named a s p) (dart-named b t q) f = starts-one R L i j a b s t f
   named-apart P K i j h l (dart-named a s p) (lone-named b t q) f = absurd (lone-apart R L i j a b f)
   named-apart P K i j h l (lone-named a s p) (dart-named b t q) f =
@@ -168,7 +167,3 @@ module _ (R : Rotation) (L : Lawful R) where
   pub face-count : faceCount R ≡ faceClasses (trace R) (flip R) places (on R)
   unfolding faceCount facesIn
   face-count = sym (all-pass (λ c. on R (placeOf c)) (faces R) listed-on) ∙ faces-part (on R) (whole R L)
-
-  -- and each face is two orbits of tracing: its two senses
-  pub twice-faces : 2 * faceCount R ≡ orbits (trace R) places (on R)
-  twice-faces = ap (λ k. 2 * k) face-count ∙ sym (orbits-pair (tracing-mirror R L (on R) (whole R L)))

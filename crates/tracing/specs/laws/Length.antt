@@ -96,7 +96,7 @@ module _ (R : Rotation) (L : Lawful R) where
       ∙ sym (iter-suc (step R) k s)
 
   -- the walk's number of steps is its start's period
-  pub record Closed (s : ℕ) : Type 0 where
+  pub record ClosedWalk (s : ℕ) : Type 0 where
     pub some : 0 < length (walk R s)
     pub back : iter (step R) (length (walk R s)) s ≡ s
     pub first : (k : ℕ) → 0 < k → k < length (walk R s) → iter (step R) k s ≢ s
@@ -105,7 +105,7 @@ module _ (R : Rotation) (L : Lawful R) where
   walk-length s h p = ap length (walk-run R s p (walk-period-le R L s h p)) ∙ run-length (step R) s (p .steps)
 
   -- "A walk ends when both dart and type are those of its start": there, and not before
-  pub walk-closed : (s : ℕ) → s < steps → Closed s
+  pub walk-closed : (s : ℕ) → s < steps → ClosedWalk s
   walk-closed s h =
       let p = walk-period R L s h in
       let e = walk-length s h p in

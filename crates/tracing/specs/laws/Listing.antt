@@ -11,7 +11,7 @@ use borrow.Author.Tests.{eq-eqb, ne-eqb, lt-ltb, le-ltb}
 use Rattle.table.specs.Rotation.{Rotation}
 use Rattle.orbits.specs.laws.Truth.{truth, holds, fails}
 use Rattle.tracing.specs.Walk.{walk}
-use Rattle.tracing.specs.Listing.{has, gather, metBy, fresh, starts, lone, alones, loneAt, loneCorner, written}
+use Rattle.tracing.specs.Listing.{has, gather, metBy, fresh, starts, lone, alones, loneAt, loneCorner, walkText}
 
 -- laws
 
@@ -76,17 +76,17 @@ module _ (R : Rotation) where
   unfolding fresh
   fresh-start before d e m = rw (e, fresh, m)
 
-  pub written-walk : (c : ℕ) → c < loneAt → written R c ≡ length (walk R (2 * c)) ∷ walk R (2 * c)
-  unfolding written
-  written-walk c h = rw (lt-ltb c loneAt h, written)
+  pub written-walk : (c : ℕ) → c < loneAt → walkText R c ≡ length (walk R (2 * c)) ∷ walk R (2 * c)
+  unfolding walkText
+  written-walk c h = rw (lt-ltb c loneAt h, walkText)
 
-  pub written-lone : (v : ℕ) → written R (loneCorner v) ≡ 0 ∷ loneCorner v ∷ []
-  unfolding written
-  written-lone v = rw (le-ltb (loneCorner v) loneAt (omega arith), written)
+  pub written-lone : (v : ℕ) → walkText R (loneCorner v) ≡ 0 ∷ loneCorner v ∷ []
+  unfolding walkText
+  written-lone v = rw (le-ltb (loneCorner v) loneAt (omega arith), walkText)
 
-  pub written-some : (c : ℕ) → 0 < length (written R c)
-  unfolding written
+  pub written-some : (c : ℕ) → 0 < length (walkText R c)
+  unfolding walkText
   written-some c = elim (truth (ltb c loneAt)) [
-    | holds e ↦ rw (e, written) (omega arith)
-    | fails e ↦ rw (e, written) (omega arith)
+    | holds e ↦ rw (e, walkText) (omega arith)
+    | fails e ↦ rw (e, walkText) (omega arith)
   ]

@@ -10,7 +10,7 @@ use lib.Seq.{getD-set-same, getD-set-other}
 use Rattle.table.specs.Layout.{darts}
 use Rattle.table.specs.Rotation.{Rotation}
 use Rattle.tracing.specs.Step.{step, corner}
-use Rattle.tracing.specs.laws.Walk.{run, run-suc}
+use Rattle.tracing.specs.laws.Walk.{iterates, run-suc}
 use Rattle.tracing.specs.Listing.{has, bit}
 use Rattle.tracing.specs.laws.Listing.{has-here, has-there}
 
@@ -61,11 +61,11 @@ mark-reads cs c h = mark-has unmarked cs c (rw length-replicate h) (getD-replica
 
 -- the corners of the first n steps, and of one more
 pub mark-step : (R : Rotation) (m : List ℕ) (s n at : ℕ) → Rattle.orbits.specs.Iterate.iter (step R) n s ≡ at
-    → set (mark m (map (corner R) (run (step R) s n))) (corner R at) 1 ≡ mark m (map (corner R) (run (step R) s (n + 1)))
+    → set (mark m (map (corner R) (iterates (step R) s n))) (corner R at) 1 ≡ mark m (map (corner R) (iterates (step R) s (n + 1)))
 unfolding mark
 mark-step R m s n at e =
-    rw (add-one, run-suc, e, map-append (corner R) (run (step R) s n) (at ∷ []))
-    (sym (mark-append m (map (corner R) (run (step R) s n)) (corner R at ∷ [])))
+    rw (add-one, run-suc, e, map-append (corner R) (iterates (step R) s n) (at ∷ []))
+    (sym (mark-append m (map (corner R) (iterates (step R) s n)) (corner R at ∷ [])))
   where
     map-append : (f : ℕ → ℕ) (a b : List ℕ) → map f (a ++ b) ≡ map f a ++ map f b
     map-append f [] b = refl

@@ -15,17 +15,17 @@ use Rattle.tracing.specs.Step.{steps, step, mirror, corner}
 use Rattle.tracing.specs.laws.Step.{type?, is-zero, is-one, mirror-zero, corner-zero, corner-one, corner-mirror, step-word}
 use Rattle.tracing.specs.laws.Place.{trace, flip, trace-step, trace-still, flip-step}
 use Rattle.tracing.specs.Walk.{walk, corners}
-use Rattle.tracing.specs.laws.Walk.{run, walk-run, walk-period, walk-period-le}
+use Rattle.tracing.specs.laws.Walk.{iterates, walk-run, walk-period, walk-period-le}
 use Rattle.tracing.specs.Listing.{has}
 use Rattle.tracing.specs.laws.Listing.{has-here}
 use Rattle.tracing.specs.laws.Has.{has-empty, has-parts, left, right, has-left, has-right, has-cons, here, later, has-map, has-mapped}
 
--- the points of a run
+-- the points of a iterates
 
-pub has-run : (f : ℕ → ℕ) (s x n : ℕ) → has x (run f s n) ≡ true → Within f s x n
-unfolding run
+pub has-run : (f : ℕ → ℕ) (s x n : ℕ) → has x (iterates f s n) ≡ true → Within f s x n
+unfolding iterates
 has-run f s x zero e = absurd (has-empty x e)
-has-run f s x (suc n) e = elim (has-parts x (run f s n) (iter f n s ∷ []) e) [
+has-run f s x (suc n) e = elim (has-parts x (iterates f s n) (iter f n s ∷ []) e) [
   | left h ↦
       let w = has-run f s x n h in
       let few = w .few in
@@ -36,16 +36,16 @@ has-run f s x (suc n) e = elim (has-parts x (run f s n) (iter f n s ∷ []) e) [
   ]
 ]
 
-pub run-has : (f : ℕ → ℕ) (s x n : ℕ) → Within f s x n → has x (run f s n) ≡ true
-unfolding run
+pub run-has : (f : ℕ → ℕ) (s x n : ℕ) → Within f s x n → has x (iterates f s n) ≡ true
+unfolding iterates
 run-has f s x zero w = let few = w .few in absurd (omega arith)
 run-has f s x (suc n) w = elim (ℕ-discrete (w .steps) n) [
   | yes q ↦
       let last : iter f n s ≡ x = ap (λ k. iter f k s) (sym q) ∙ w .lands in
-      has-right x (run f s n) (iter f n s ∷ []) (rw last (has-here x []))
+      has-right x (iterates f s n) (iter f n s ∷ []) (rw last (has-here x []))
   | no q ↦
       let few = w .few in
-      has-left x (run f s n) (iter f n s ∷ []) (run-has f s x n (record { steps = w .steps; few = omega arith; lands = w .lands }))
+      has-left x (iterates f s n) (iter f n s ∷ []) (run-has f s x n (record { steps = w .steps; few = omega arith; lands = w .lands }))
 ]
 
 -- a step at corner c is one of its two places

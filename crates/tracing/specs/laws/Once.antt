@@ -23,7 +23,7 @@ use Rattle.tracing.specs.Step.{steps, step, mirror, corner}
 use Rattle.tracing.specs.laws.Step.{corner-dart}
 use Rattle.tracing.specs.laws.Place.{places, trace, flip, on, flip-step, on-step}
 use Rattle.tracing.specs.Walk.{walk, corners}
-use Rattle.tracing.specs.laws.Walk.{run, walk-run, walk-period, walk-period-le, step-inj}
+use Rattle.tracing.specs.laws.Walk.{iterates, walk-run, walk-period, walk-period-le, step-inj}
 use Rattle.tracing.specs.Listing.{has, starts, alones, loneAt, loneCorner, faces}
 use Rattle.tracing.specs.laws.Has.{has-empty, has-cons, here, later, has-parts, left, right, has-mapped, countIn-append, countIn-map, times-none, times-gather, count-single}
 use Rattle.tracing.specs.Met.{countIn, times, cornersOf, listedCorners}
@@ -32,11 +32,11 @@ use Rattle.tracing.specs.laws.Meets.{at-corner, plain, turned, has-run, 
 use Rattle.tracing.specs.laws.Starts.{start?, start-live, has-start, starts-count, alones-count, lone-there}
 use Rattle.tracing.specs.laws.Cover.{covered, starts-one}
 
-pub run-count : (q : ℕ → Bool) (f : ℕ → ℕ) (s n : ℕ) → countIn q (run f s n) ≡ count (λ k. q (iter f k s)) n
-unfolding run count countIn
+pub run-count : (q : ℕ → Bool) (f : ℕ → ℕ) (s n : ℕ) → countIn q (iterates f s n) ≡ count (λ k. q (iter f k s)) n
+unfolding iterates count countIn
 run-count q f s zero = refl
 run-count q f s (suc n) =
-    countIn-append q (run f s n) (iter f n s ∷ [])
+    countIn-append q (iterates f s n) (iter f n s ∷ [])
     ∙ rw (run-count q f s n) (last (q (iter f n s)) (count (λ k. q (iter f k s)) n))
   where
     last : (b : Bool) (k : ℕ) → k + more b 0 ≡ more b k

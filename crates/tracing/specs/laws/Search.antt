@@ -13,7 +13,7 @@ use Rattle.orbits.specs.laws.Iterate.{iter-zero, iter-suc, Period}
 use Rattle.orbits.specs.Reach.{Reach}
 use Rattle.orbits.specs.laws.Reach.{reach-within, reach-step}
 use Rattle.tracing.specs.Step.{steps, step}
-use Rattle.tracing.specs.laws.Walk.{run, run-length, onward-rest, walk-period, walk-period-le}
+use Rattle.tracing.specs.laws.Walk.{iterates, run-length, onward-rest, walk-period, walk-period-le}
 use Rattle.tracing.specs.Walk.{onward}
 use Rattle.tracing.specs.laws.Stands.{Stands, stands-low}
 use Rattle.tracing.specs.laws.Along.{Walking, walking-none, walking-more, along-few, along-period}
@@ -92,8 +92,8 @@ left-is {t} {s} {n} {at} w p =
     let L = good-lawful t (w .start .good) in
     let most = walk-period-le (rotation t) L s (stands-low (w .start)) p in
     let few = along-few (w .along) p in
-    let whole : run f s n ++ onward f s steps (iter f n s) ≡ run f s (p .steps) = onward-rest f s p steps n few (omega arith) in
-    let size = sym (length-append (run f s n) (onward f s steps (iter f n s))) ∙ ap length whole ∙ run-length f s (p .steps) in
+    let whole : iterates f s n ++ onward f s steps (iter f n s) ≡ iterates f s (p .steps) = onward-rest f s p steps n few (omega arith) in
+    let size = sym (length-append (iterates f s n) (onward f s steps (iter f n s))) ∙ ap length whole ∙ run-length f s (p .steps) in
     let part = run-length f s n in
     let here : left t s at ≡ length (onward f s steps (iter f n s)) = rw (w .along .here) in
     omega arith

@@ -82,11 +82,11 @@ keep-times q x (y ∷ l) =
     skip true h = omega arith
     skip false h = h
 
-record Kept (q : ℕ → Bool) (l : List ℕ) (x : ℕ) : Type 0 where
+record KeptStep (q : ℕ → Bool) (l : List ℕ) (x : ℕ) : Type 0 where
   among : has x l ≡ true
   pass : q x ≡ true
 
-keep-has : (q : ℕ → Bool) (x : ℕ) (l : List ℕ) → has x (keep q l) ≡ true → Kept q l x
+keep-has : (q : ℕ → Bool) (x : ℕ) (l : List ℕ) → has x (keep q l) ≡ true → KeptStep q l x
 unfolding keep
 keep-has q x [] h = absurd (has-empty x h)
 keep-has q x (y ∷ l) h = elim (truth (q y)) [
@@ -139,7 +139,7 @@ module _ (R : Rotation) where
   sidesBy-both s s′ e d = rw (e, sidesBy, ne-eqb (s / 2) (s′ / 2) d)
 
 -- a step that is listed as s is
-record Alike (R : Rotation) (s w : ℕ) : Type 0 where
+record SamePair (R : Rotation) (s w : ℕ) : Type 0 where
   low : w < steps
   live : R .live (w / 2) ≡ true
   same : times w (listedSteps R) ≡ times s (listedSteps R)
@@ -202,7 +202,7 @@ module _ (R : Rotation) (L : Lawful R) where
   -- along a walk, steps are listed or not alike
   reach-times : (s w : ℕ) → s < steps → R .live (s / 2) ≡ true → Reach (trace R) s w → times w (listedSteps R) ≡ times s (listedSteps R)
   reach-times s w h l r =
-      let all = reach-ind (step R) (Alike R s) s (record { low = h; live = l; same = refl }) (λ k q b.
+      let all = reach-ind (step R) (SamePair R s) s (record { low = h; live = l; same = refl }) (λ k q b.
       record {
         low = step-word R L k (b .low);
         live = step-live R L k ∙ b .live;

@@ -18,8 +18,8 @@ use Rattle.orbits.specs.laws.Truth.{truth, holds as yes-true, fails as yes-fals
 use Rattle.tracing.specs.declared.count.Size.{Size}
 use Rattle.tracing.specs.Step.{step, corner}
 use Rattle.tracing.specs.Walk.{walk, corners}
-use Rattle.tracing.specs.laws.Walk.{run, run-length}
-use Rattle.tracing.specs.Listing.{has, only, gather, metBy, fresh, starts, written, alones, loneCorner, faces, faceCount, listing, bit}
+use Rattle.tracing.specs.laws.Walk.{iterates, run-length}
+use Rattle.tracing.specs.Listing.{has, only, gather, metBy, fresh, starts, walkText, alones, loneCorner, faces, faceCount, listing, bit}
 use Rattle.tracing.specs.laws.Listing.{gather-one, gather-append, starts-suc, written-walk, written-lone, lone-yes, lone-no, alones-suc}
 use Rattle.tracing.specs.laws.Stands.{Stands, stands-corner}
 use Rattle.tracing.specs.laws.Along.{Walking, walking-none, walking-more, walking-all, walking-few}
@@ -34,15 +34,15 @@ pub record Marked (t : List ℕ) (s : ℕ) (m : List ℕ) (n : ℕ) (m′ : List
 -- the loop that marks a walk
 pub record Marking (t : List ℕ) (s : ℕ) (m₀ : List ℕ) (n at : ℕ) (m : List ℕ) : Type 0 where
   pub walking : Walking t s n at
-  pub marks : m ≡ mark m₀ (map (corner (rotation t)) (run (step (rotation t)) s n))
+  pub marks : m ≡ mark m₀ (map (corner (rotation t)) (iterates (step (rotation t)) s n))
   pub size : length m ≡ darts
 
 pub marking-none : {t : List ℕ} {s : ℕ} {m : List ℕ} → Stands t s → length m ≡ darts → Marking t s m zero s m
-unfolding run mark
+unfolding iterates mark
 marking-none h l = record { walking = walking-none h; marks = refl; size = l }
 
 marks-more : {t : List ℕ} {s : ℕ} {m₀ : List ℕ} {n at : ℕ} {m : List ℕ} {c : ℕ} → Marking t s m₀ n at m → c ≡ corner (rotation t) at
-    → set m c 1 ≡ mark m₀ (map (corner (rotation t)) (run (step (rotation t)) s (n + 1)))
+    → set m c 1 ≡ mark m₀ (map (corner (rotation t)) (iterates (step (rotation t)) s (n + 1)))
 marks-more {t} {s} {m₀} {n} {at} k e = rw (e, k .marks) (mark-step (rotation t) m₀ s n at (k .walking .along .here))
 
 pub marking-more : {t : List ℕ} {s : ℕ} {m₀ : List ℕ} {n at : ℕ} {m : List ℕ} {c next : ℕ} → Marking t s m₀ n at m → c ≡ corner (rotation t) at
@@ -70,7 +70,7 @@ pub marking-corner : {t : List ℕ} {s : ℕ} {m₀ : List ℕ} {n at : ℕ} {m 
 marking-corner {at = at} k e = rw e (stands-corner (k .walking .there))
 
 -- dart d of a good table, and marks
-pub record InRange (t m : List ℕ) (d : ℕ) : Type 0 where
+pub record LookReady (t m : List ℕ) (d : ℕ) : Type 0 where
   pub good : Good t
   pub size : length m ≡ darts
   pub low : d < darts
@@ -82,7 +82,7 @@ unmet t m d = elim (live? t d) [ true ↦ only (eqb (getD m d 0) 0) d | false �
 -- the walk that starts at d, if one does, has been counted and its corners marked
 pub record Looked (t : List ℕ) (d : ℕ) (m : List ℕ) (r : Size) (m′ : List ℕ) : Type 0 where
   pub walks : r .walks ≡ length (unmet t m d)
-  pub words : r .words ≡ length (gather (written (rotation t)) (unmet t m d))
+  pub words : r .words ≡ length (gather (walkText (rotation t)) (unmet t m d))
   pub marks : m′ ≡ mark m (metBy (rotation t) (unmet t m d))
   pub few : r .walks ≤ 1
   pub low : r .words ≤ 4097
@@ -116,7 +116,7 @@ unmet-case t m d = elim (truth (live? t d)) [
   ]
 ]
 
-edge-live : {t m : List ℕ} {d : ℕ} → InRange t m d → edgeWord t (edgeOf d) ≢ 0 → live? t d ≡ true
+edge-live : {t m : List ℕ} {d : ℕ} → LookReady t m d → edgeWord t (edgeOf d) ≢ 0 → live? t d ≡ true
 edge-live {t} {m} {d} h e = yes-live t d (record { low = h .low; on = e })
 
 edge-dead : (t : List ℕ) (d : ℕ) → edgeWord t (edgeOf d) ≡ 0 → live? t d ≡ false
@@ -133,18 +133,18 @@ pub looked-met : (t : List ℕ) (d : ℕ) (m : List ℕ) → getD m d 0 ≢ 0 �
 looked-met t d m e = looked-none t d m (unmet-marked t m d e)
 
 -- the first step of the walk that starts at d
-pub start-stands : {t m : List ℕ} {d : ℕ} → InRange t m d → edgeWord t (edgeOf d) ≢ 0 → Stands t (2 * d)
+pub start-stands : {t m : List ℕ} {d : ℕ} → LookReady t m d → edgeWord t (edgeOf d) ≢ 0 → Stands t (2 * d)
 start-stands {t} {m} {d} h e =
     let half : 2 * d / 2 ≡ d = omega arith in
     record { good = h .good; live = rw half (edge-live h e) }
 
-pub looked-walk : {t : List ℕ} {d : ℕ} {m : List ℕ} {n : ℕ} {m′ : List ℕ} → InRange t m d → edgeWord t (edgeOf d) ≢ 0 → getD m d 0 ≡ 0
+pub looked-walk : {t : List ℕ} {d : ℕ} {m : List ℕ} {n : ℕ} {m′ : List ℕ} → LookReady t m d → edgeWord t (edgeOf d) ≢ 0 → getD m d 0 ≡ 0
     → Marked t (2 * d) m n m′ → Looked t d m (record { walks = 1; words = n + 1 }) m′
 looked-walk {t} {d} {m} {n} h e f k =
     let u = unmet-start t m d (edge-live h e) f in
     let low : d < 32768 = let l = h .low in omega arith in
-    let text : gather (written (rotation t)) (d ∷ []) ≡ length (walk (rotation t) (2 * d)) ∷ walk (rotation t) (2 * d) =
-    gather-one (written (rotation t)) d ∙ written-walk (rotation t) d low in
+    let text : gather (walkText (rotation t)) (d ∷ []) ≡ length (walk (rotation t) (2 * d)) ∷ walk (rotation t) (2 * d) =
+    gather-one (walkText (rotation t)) d ∙ written-walk (rotation t) d low in
     let most = k .low in
     record {
       walks = rw u;
@@ -183,7 +183,7 @@ unmet-fresh {t} {d} {m = m} k h = elim (truth (live? t d)) [
     same true = refl
     same false = refl
 
-pub seen-range : {t : List ℕ} {d : ℕ} {m : List ℕ} → Seen t d m → d < darts → InRange t m d
+pub seen-range : {t : List ℕ} {d : ℕ} {m : List ℕ} → Seen t d m → d < darts → LookReady t m d
 seen-range {t} {d} {m = m} k h = record {
   good = k .good;
   size = rw (k .marks) (mark-length unmarked (metBy (rotation t) (starts (rotation t) d)) ∙ simp length-replicate);
@@ -200,19 +200,19 @@ seen-more {t} {d} {m} k h e =
     }
 
 -- the walks that start below d are counted, and their words
-pub record Counting (t : List ℕ) (d walks words : ℕ) (m : List ℕ) : Type 0 where
+pub record WalkCounting (t : List ℕ) (d walks words : ℕ) (m : List ℕ) : Type 0 where
   pub seen : Seen t d m
   pub count : walks ≡ length (starts (rotation t) d)
-  pub size : words ≡ length (gather (written (rotation t)) (starts (rotation t) d))
+  pub size : words ≡ length (gather (walkText (rotation t)) (starts (rotation t) d))
   pub few : walks ≤ d
   pub short : words ≤ 4097 * d
 
-pub counting-none : {t : List ℕ} → Good t → Counting t 0 0 0 unmarked
+pub counting-none : {t : List ℕ} → Good t → WalkCounting t 0 0 0 unmarked
 unfolding starts gather
 counting-none g = record { seen = seen-none g; count = refl; size = refl; few = omega arith; short = omega arith }
 
-pub counting-more : {t : List ℕ} {d walks words : ℕ} {m : List ℕ} {r : Size} {m′ : List ℕ} → Counting t d walks words m → d < darts → Looked t d m r m′
-    → Counting t (d + 1) (walks + r .walks) (words + r .words) m′
+pub counting-more : {t : List ℕ} {d walks words : ℕ} {m : List ℕ} {r : Size} {m′ : List ℕ} → WalkCounting t d walks words m → d < darts → Looked t d m r m′
+    → WalkCounting t (d + 1) (walks + r .walks) (words + r .words) m′
 counting-more {t} {d} {walks} {words} {m} {r} {m′} k h v =
     let u = unmet-fresh (k .seen) h in
     let R = rotation t in
@@ -223,7 +223,7 @@ counting-more {t} {d} {walks} {words} {m} {r} {m′} k h v =
     record {
       seen = seen-more (k .seen) h (v .marks);
       count = rw (add-one, starts-suc R d, length-append) (ap₂ _+_ (k .count) (v .walks ∙ ap length u));
-      size = rw (add-one, starts-suc R d, gather-append, length-append) (ap₂ _+_ (k .size) (v .words ∙ ap (λ l. length (gather (written R) l)) u));
+      size = rw (add-one, starts-suc R d, gather-append, length-append) (ap₂ _+_ (k .size) (v .words ∙ ap (λ l. length (gather (walkText R) l)) u));
       few = omega arith;
       short = omega arith;
     }
@@ -261,12 +261,12 @@ lone-skip {t} {v} {n} k h e =
     }
 
 -- an empty walk is two words
-lone-words : (R : Rotation) (l : List ℕ) → length (gather (written R) (map loneCorner l)) ≡ 2 * length l
+lone-words : (R : Rotation) (l : List ℕ) → length (gather (walkText R) (map loneCorner l)) ≡ 2 * length l
 unfolding gather
 lone-words R [] = refl
 lone-words R (v ∷ l) = let r = lone-words R l in rw (written-lone R v) (omega arith)
 
-pub measured : {t : List ℕ} {walks words n : ℕ} {m : List ℕ} → Counting t 2048 walks words m → Lone t 512 n
+pub measured : {t : List ℕ} {walks words n : ℕ} {m : List ℕ} → WalkCounting t 2048 walks words m → Lone t 512 n
     → Measured t (record { walks = walks + n; words = words + 2 * n })
 unfolding faceCount listing faces
 measured {t} {walks} {words} {n} k a =

@@ -30,7 +30,7 @@ use Rattle.tracing.specs.laws.Cover.{covered, corner-face, starts-one}
 use Rattle.tracing.specs.laws.Once.{walk-once, step-on}
 
 -- a listed walk that passes step x, in one sense or the other
-pub record Passed (R : Rotation) (x : ℕ) : Type 0 where
+pub record Passage (R : Rotation) (x : ℕ) : Type 0 where
   pub at : ℕ
   pub low : at < darts
   pub start : start? R at ≡ true
@@ -42,7 +42,7 @@ pub data Sense (R : Rotation) (x : ℕ) : Type 0 where
   other : times x (listedSteps R) ≡ 0 → times (mirror R x) (listedSteps R) ≡ 1 → Sense R x
 
 module _ (R : Rotation) (L : Lawful R) where
-  pub passed : (x : ℕ) → x < steps → R .live (x / 2) ≡ true → Passed R x
+  pub passed : (x : ℕ) → x < steps → R .live (x / 2) ≡ true → Passage R x
   passed x h l =
       let E = tracing-mirror R L (on R) (whole R L) in
       let c = covered R L (corner R x) (corner-live R L x ∙ l) in

@@ -1,5 +1,5 @@
 -- A walk: the steps from a start up to the first return to it, dart and type, document 01, "Corners and walks".
--- The definition computes; `walk-run` says that it is the run of as many steps as its start's period under `step`.
+-- The definition computes; `walk-run` says that it is the iterates of as many steps as its start's period under `step`.
 use Prim.Native.Nat.{ℕ, zero, suc, _+_, _<_, _≤_}
 use native.Mathlib.Omega.{arith}
 use native.Mathlib.Decide.{ℕ-discrete}
@@ -16,16 +16,16 @@ use Rattle.tracing.specs.laws.Step.{step-word, step-turn}
 use Rattle.tracing.specs.Walk.{onward, walk}
 
 -- the first n steps of f from s
-unfoldable pub run : (ℕ → ℕ) → ℕ → ℕ → List ℕ
-run f s zero = []
-run f s (suc n) = run f s n ++ (iter f n s ∷ [])
+unfoldable pub iterates : (ℕ → ℕ) → ℕ → ℕ → List ℕ
+iterates f s zero = []
+iterates f s (suc n) = iterates f s n ++ (iter f n s ∷ [])
 
-pub run-suc : (f : ℕ → ℕ) (s n : ℕ) → run f s (suc n) ≡ run f s n ++ (iter f n s ∷ [])
-unfolding run
+pub run-suc : (f : ℕ → ℕ) (s n : ℕ) → iterates f s (suc n) ≡ iterates f s n ++ (iter f n s ∷ [])
+unfolding iterates
 run-suc f s n = refl
 
-pub run-length : (f : ℕ → ℕ) (s n : ℕ) → length (run f s n) ≡ n
-unfolding run
+pub run-length : (f : ℕ → ℕ) (s n : ℕ) → length (iterates f s n) ≡ n
+unfolding iterates
 run-length f s zero = refl
 run-length f s (suc n) = let r = run-length f s n in simp length-append (omega arith)
 
@@ -38,25 +38,25 @@ module _ (f : ℕ → ℕ) (s : ℕ) where
   unfolding onward
   onward-more n i e = rw (ne-eqb (f i) s e)
 
-  pub onward-rest : (p : Period f s) (n k : ℕ) → k < p .steps → p .steps ≤ k + n → run f s k ++ onward f s n (iter f k s) ≡ run f s (p .steps)
+  pub onward-rest : (p : Period f s) (n k : ℕ) → k < p .steps → p .steps ≤ k + n → iterates f s k ++ onward f s n (iter f k s) ≡ iterates f s (p .steps)
   onward-rest p zero k h l = absurd (omega arith)
   onward-rest p (suc n) k h l = elim (ℕ-discrete (suc k) (p .steps)) [
     | yes e ↦
         let back : f (iter f k s) ≡ s = sym (iter-suc f k s) ∙ ap (λ j. iter f j s) e ∙ p .back in
-        rw (onward-last n (iter f k s) back) (sym (run-suc f s k) ∙ ap (run f s) e)
+        rw (onward-last n (iter f k s) back) (sym (run-suc f s k) ∙ ap (iterates f s) e)
     | no e ↦
         let early : f (iter f k s) ≢ s = λ b. p .least (suc k) (omega arith) (omega arith) (iter-suc f k s ∙ b) in
         let rest = onward-rest p n (suc k) (omega arith) (omega arith) in
         rw (onward-more n (iter f k s) early, ← iter-suc f k s)
-        (sym (append-assoc (run f s k) (iter f k s ∷ []) _) ∙ ap (λ l. l ++ onward f s n (iter f (suc k) s)) (sym (run-suc f s k)) ∙ rest)
+        (sym (append-assoc (iterates f s k) (iter f k s ∷ []) _) ∙ ap (λ l. l ++ onward f s n (iter f (suc k) s)) (sym (run-suc f s k)) ∙ rest)
   ]
 
-  pub onward-run : (p : Period f s) (n : ℕ) → p .steps ≤ n → onward f s n s ≡ run f s (p .steps)
-  unfolding run iter
+  pub onward-run : (p : Period f s) (n : ℕ) → p .steps ≤ n → onward f s n s ≡ iterates f s (p .steps)
+  unfolding iterates iter
   onward-run p n h = onward-rest p n zero (p .some) (omega arith)
 
 module _ (R : Rotation) where
-  pub walk-run : (s : ℕ) (p : Period (step R) s) → p .steps ≤ steps → walk R s ≡ run (step R) s (p .steps)
+  pub walk-run : (s : ℕ) (p : Period (step R) s) → p .steps ≤ steps → walk R s ≡ iterates (step R) s (p .steps)
   unfolding walk
   walk-run s p h = onward-run (step R) s p steps h
 

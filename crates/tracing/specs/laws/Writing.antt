@@ -20,13 +20,13 @@ use Rattle.orbits.specs.laws.Truth.{false-unless}
 use Rattle.tracing.specs.declared.count.Size.{Size}
 use Rattle.tracing.specs.Step.{step}
 use Rattle.tracing.specs.Walk.{walk}
-use Rattle.tracing.specs.laws.Walk.{run, run-suc, run-length, walk-run, walk-period, walk-period-le}
-use Rattle.tracing.specs.Listing.{gather, fresh, starts, lone, alones, loneCorner, written, metBy, faces, listing}
+use Rattle.tracing.specs.laws.Walk.{iterates, run-suc, run-length, walk-run, walk-period, walk-period-le}
+use Rattle.tracing.specs.Listing.{gather, fresh, starts, lone, alones, loneCorner, walkText, metBy, faces, listing}
 use Rattle.tracing.specs.laws.Listing.{gather-none, gather-one, gather-append, starts-suc, lone-yes, lone-no, alones-suc, written-walk, written-lone, written-some}
 use Rattle.tracing.specs.laws.Stands.{Stands, stands-low}
 use Rattle.tracing.specs.laws.Along.{Walking, walking-none, walking-more, walking-all, along-few}
 use Rattle.tracing.specs.laws.Marks.{mark, unmarked}
-use Rattle.tracing.specs.laws.Size.{InRange, Looked, unmet, Seen, seen-none, seen-range, seen-more, unmet-fresh, unmet-case, no-start, begins}
+use Rattle.tracing.specs.laws.Size.{LookReady, Looked, unmet, Seen, seen-none, seen-range, seen-more, unmet-fresh, unmet-case, no-start, begins}
 
 -- stores one after another
 
@@ -35,10 +35,10 @@ pub record Stepping (t : List ℕ) (s start : ℕ) (out₀ : List ℕ) (n at : �
   pub walking : Walking t s n at
   pub room : start + length (walk (rotation t) s) ≤ length out₀
   pub size : length out ≡ length out₀
-  pub words : out ≡ sets out₀ start (run (step (rotation t)) s n)
+  pub words : out ≡ sets out₀ start (iterates (step (rotation t)) s n)
 
 pub stepping-none : {t : List ℕ} {s start : ℕ} {out : List ℕ} → Stands t s → start + length (walk (rotation t) s) ≤ length out → Stepping t s start out zero s out
-unfolding run
+unfolding iterates
 stepping-none h l = record { walking = walking-none h; room = l; size = refl; words = refl }
 
 -- a step of the walk has a place in it
@@ -55,10 +55,10 @@ stepping-within {t} {s} k =
     omega arith
 
 stepping-words : {t : List ℕ} {s start n at : ℕ} {out₀ out : List ℕ} → Stepping t s start out₀ n at out
-    → set out (start + n) at ≡ sets out₀ start (run (step (rotation t)) s (n + 1))
+    → set out (start + n) at ≡ sets out₀ start (iterates (step (rotation t)) s (n + 1))
 stepping-words {t} {s} {start} {n} {at} {out₀} k =
     let f = step (rotation t) in
-    rw (add-one, run-suc, k .walking .along .here, sets-append out₀ start (run f s n) (at ∷ []), run-length f s n, k .words)
+    rw (add-one, run-suc, k .walking .along .here, sets-append out₀ start (iterates f s n) (at ∷ []), run-length f s n, k .words)
 
 pub stepping-more : {t : List ℕ} {s start n at next : ℕ} {out₀ out : List ℕ} → Stepping t s start out₀ n at out → next ≡ step (rotation t) at → next ≢ s
     → Stepping t s start out₀ (n + 1) next (set out (start + n) at)
@@ -70,30 +70,30 @@ stepping-all k e b = rw (walking-all (k .walking) e b) (stepping-words k)
 
 -- a dart in range, and room for the words of the walk that starts at it
 pub record RoomAt (t m out : List ℕ) (at d : ℕ) : Type 0 where
-  pub range : InRange t m d
-  pub room : at + length (gather (written (rotation t)) (unmet t m d)) ≤ length out
+  pub range : LookReady t m d
+  pub room : at + length (gather (walkText (rotation t)) (unmet t m d)) ≤ length out
 
 -- the walk that starts at d, if one does, stands from `at` on, and its corners are marked
 pub record Entered (t m out : List ℕ) (at d r : ℕ) (m′ out′ : List ℕ) : Type 0 where
-  pub end : r ≡ at + length (gather (written (rotation t)) (unmet t m d))
+  pub end : r ≡ at + length (gather (walkText (rotation t)) (unmet t m d))
   pub marks : m′ ≡ mark m (metBy (rotation t) (unmet t m d))
-  pub words : out′ ≡ sets out at (gather (written (rotation t)) (unmet t m d))
+  pub words : out′ ≡ sets out at (gather (walkText (rotation t)) (unmet t m d))
 
 -- a walk starts at d: its words are n and its steps
 pub record Begins (t m : List ℕ) (d n : ℕ) : Type 0 where
   pub stands : Stands t (2 * d)
-  pub text : gather (written (rotation t)) (unmet t m d) ≡ n ∷ walk (rotation t) (2 * d)
+  pub text : gather (walkText (rotation t)) (unmet t m d) ≡ n ∷ walk (rotation t) (2 * d)
 
 -- a count of words that is not 0 says that a walk starts at d
-pub looked-begins : {t : List ℕ} {d : ℕ} {m : List ℕ} {r : Size} {m′ : List ℕ} → InRange t m d → Looked t d m r m′ → r .words ≢ 0 → Begins t m d (r .words - 1)
+pub looked-begins : {t : List ℕ} {d : ℕ} {m : List ℕ} {r : Size} {m′ : List ℕ} → LookReady t m d → Looked t d m r m′ → r .words ≢ 0 → Begins t m d (r .words - 1)
 unfolding gather
 looked-begins {t} {d} {m} {r} h k e = elim (unmet-case t m d) [
-  | no-start u ↦ absurd (e (k .words ∙ ap (λ l. length (gather (written (rotation t)) l)) u))
+  | no-start u ↦ absurd (e (k .words ∙ ap (λ l. length (gather (walkText (rotation t)) l)) u))
   | begins l u ↦
       let half : 2 * d / 2 ≡ d = omega arith in
       let low : d < 32768 = let b = h .low in omega arith in
-      let text : gather (written (rotation t)) (unmet t m d) ≡ length (walk (rotation t) (2 * d)) ∷ walk (rotation t) (2 * d) =
-      rw u (gather-one (written (rotation t)) d ∙ written-walk (rotation t) d low) in
+      let text : gather (walkText (rotation t)) (unmet t m d) ≡ length (walk (rotation t) (2 * d)) ∷ walk (rotation t) (2 * d) =
+      rw u (gather-one (walkText (rotation t)) d ∙ written-walk (rotation t) d low) in
       let size : length (walk (rotation t) (2 * d)) ≡ r .words - 1 = let w = k .words in omega (arith, ap length text) in
       record {
         stands = record { good = h .good; live = rw half l };
@@ -104,11 +104,11 @@ looked-begins {t} {d} {m} {r} h k e = elim (unmet-case t m d) [
 pub entered-none : {t : List ℕ} {d : ℕ} {m : List ℕ} {r : Size} {m′ : List ℕ} (out : List ℕ) (at : ℕ) → Looked t d m r m′ → r .words ≡ 0 → Entered t m out at d at m′ out
 entered-none {t} {d} {m} out at k e = elim (unmet-case t m d) [
   | no-start u ↦
-      let blank : gather (written (rotation t)) (unmet t m d) ≡ [] = rw u (gather-none (written (rotation t))) in
+      let blank : gather (walkText (rotation t)) (unmet t m d) ≡ [] = rw u (gather-none (walkText (rotation t))) in
       record { end = rw blank (omega arith); marks = k .marks; words = rw blank }
   | begins l u ↦
-      let some : 0 < length (written (rotation t) d) = written-some (rotation t) d in
-      let w = k .words ∙ ap (λ l. length (gather (written (rotation t)) l)) u ∙ ap length (gather-one (written (rotation t)) d) in
+      let some : 0 < length (walkText (rotation t) d) = written-some (rotation t) d in
+      let w = k .words ∙ ap (λ l. length (gather (walkText (rotation t)) l)) u ∙ ap length (gather-one (walkText (rotation t)) d) in
       absurd (omega arith)
 ]
 
@@ -130,18 +130,18 @@ walk-room {t} {d} {m} {r} {out = out} {at = at} h k e x =
 pub record RoomLone (t out : List ℕ) (at v : ℕ) : Type 0 where
   pub good : Good t
   pub low : v < vertices
-  pub room : at + length (gather (written (rotation t)) (map loneCorner (lone (rotation t) v))) ≤ length out
+  pub room : at + length (gather (walkText (rotation t)) (map loneCorner (lone (rotation t) v))) ≤ length out
 
 pub record EnteredLone (t out : List ℕ) (at v r : ℕ) (out′ : List ℕ) : Type 0 where
-  pub end : r ≡ at + length (gather (written (rotation t)) (map loneCorner (lone (rotation t) v)))
-  pub words : out′ ≡ sets out at (gather (written (rotation t)) (map loneCorner (lone (rotation t) v)))
+  pub end : r ≡ at + length (gather (walkText (rotation t)) (map loneCorner (lone (rotation t) v)))
+  pub words : out′ ≡ sets out at (gather (walkText (rotation t)) (map loneCorner (lone (rotation t) v)))
 
 lone-text : (t : List ℕ) (v : ℕ) → v < vertices → vertexWord t v ≡ isolated
-    → gather (written (rotation t)) (map loneCorner (lone (rotation t) v)) ≡ 0 ∷ loneCorner v ∷ []
+    → gather (walkText (rotation t)) (map loneCorner (lone (rotation t) v)) ≡ 0 ∷ loneCorner v ∷ []
 lone-text t v h e =
-    rw (lone-yes (rotation t) v (alone-yes t v h e)) (gather-one (written (rotation t)) (loneCorner v) ∙ written-lone (rotation t) v)
+    rw (lone-yes (rotation t) v (alone-yes t v h e)) (gather-one (walkText (rotation t)) (loneCorner v) ∙ written-lone (rotation t) v)
 
-lone-blank : (t : List ℕ) (v : ℕ) → vertexWord t v ≢ isolated → gather (written (rotation t)) (map loneCorner (lone (rotation t) v)) ≡ []
+lone-blank : (t : List ℕ) (v : ℕ) → vertexWord t v ≢ isolated → gather (walkText (rotation t)) (map loneCorner (lone (rotation t) v)) ≡ []
 unfolding gather
 lone-blank t v e = rw (lone-no (rotation t) v (false-unless (alone? t v) (λ p. e (alone-word t v p .1))))
 
@@ -157,22 +157,22 @@ lone-room {t} {out} {at} {v} k e = let b = lone-text t v (k .low) e in let room 
 
 -- the words of the walks that start below d, and of the empty walks of vertices below v
 abbrev pub walksText : Rotation → ℕ → List ℕ
-walksText R d = gather (written R) (starts R d)
+walksText R d = gather (walkText R) (starts R d)
 
 abbrev pub lonesText : Rotation → ℕ → List ℕ
-lonesText R v = gather (written R) (map loneCorner (alones R v))
+lonesText R v = gather (walkText R) (map loneCorner (alones R v))
 
-walksText-suc : (R : Rotation) (d : ℕ) → walksText R (suc d) ≡ walksText R d ++ gather (written R) (fresh R (starts R d) d)
-walksText-suc R d = rw (starts-suc R d) (gather-append (written R) (starts R d) (fresh R (starts R d) d))
+walksText-suc : (R : Rotation) (d : ℕ) → walksText R (suc d) ≡ walksText R d ++ gather (walkText R) (fresh R (starts R d) d)
+walksText-suc R d = rw (starts-suc R d) (gather-append (walkText R) (starts R d) (fresh R (starts R d) d))
 
-lonesText-suc : (R : Rotation) (v : ℕ) → lonesText R (suc v) ≡ lonesText R v ++ gather (written R) (map loneCorner (lone R v))
+lonesText-suc : (R : Rotation) (v : ℕ) → lonesText R (suc v) ≡ lonesText R v ++ gather (walkText R) (map loneCorner (lone R v))
 lonesText-suc R v =
     rw (alones-suc R v, map-append loneCorner (alones R v) (lone R v))
-    (gather-append (written R) (map loneCorner (alones R v)) (map loneCorner (lone R v)))
+    (gather-append (walkText R) (map loneCorner (alones R v)) (map loneCorner (lone R v)))
 
 listing-parts : (R : Rotation) → listing R ≡ walksText R darts ++ lonesText R vertices
 unfolding listing faces
-listing-parts R = gather-append (written R) (starts R darts) (map loneCorner (alones R vertices))
+listing-parts R = gather-append (walkText R) (starts R darts) (map loneCorner (alones R vertices))
 
 -- a text that grows by parts leaves room for the next part
 grows : (f g : ℕ → List ℕ) → ((n : ℕ) → f (suc n) ≡ f n ++ g n) → (m n : ℕ) → n ≤ m → length (f n) ≤ length (f m)
@@ -224,7 +224,7 @@ writing-none {out = out} g h = record { seen = seen-none g; room = h; front = fr
 pub writing-room : {t : List ℕ} {d at : ℕ} {m out₀ out : List ℕ} → Writing t d at m out₀ out → d < darts → RoomAt t m out at d
 writing-room {t} {d} {at} {m} {out₀} {out} k h =
     let R = rotation t in
-    let next = next-room (walksText R) (λ n. gather (written R) (fresh R (starts R n) n)) (walksText-suc R) 2048 d h in
+    let next = next-room (walksText R) (λ n. gather (walkText R) (fresh R (starts R n) n)) (walksText-suc R) 2048 d h in
     let room = k .room in
     let end = k .front .end in
     let size = k .front .size in
@@ -238,7 +238,7 @@ writing-more {t} {d} {at} {r} {m} {m′} {out₀} {out} {out′} k h e =
     record {
       seen = seen-more (k .seen) h (e .marks);
       room = k .room;
-      front = rw (add-one, walksText-suc R d) (front-more (gather (written R) (fresh R (starts R d) d)) (k .front) (rw u at (e .end)) (rw u at (e .words)));
+      front = rw (add-one, walksText-suc R d) (front-more (gather (walkText R) (fresh R (starts R d) d)) (k .front) (rw u at (e .end)) (rw u at (e .words)));
     }
 
 pub writing-all : {t : List ℕ} {at : ℕ} {m out₀ out : List ℕ} → Writing t 2048 at m out₀ out → WroteWalks t out₀ at out
@@ -258,7 +258,7 @@ ending-none {start = start} {out = out} g h = record { good = g; low = omega ari
 pub ending-room : {t : List ℕ} {v start at : ℕ} {out₀ out : List ℕ} → Ending t v start at out₀ out → v < vertices → RoomLone t out at v
 ending-room {t} {v} k h =
     let R = rotation t in
-    let next = next-room (lonesText R) (λ n. gather (written R) (map loneCorner (lone R n))) (lonesText-suc R) 512 v h in
+    let next = next-room (lonesText R) (λ n. gather (walkText R) (map loneCorner (lone R n))) (lonesText-suc R) 512 v h in
     let room = k .room in
     let end = k .front .end in
     let size = k .front .size in
@@ -272,7 +272,7 @@ ending-more {t} {v} k h e =
       good = k .good;
       low = omega arith;
       room = k .room;
-      front = rw (add-one, lonesText-suc R v) (front-more (gather (written R) (map loneCorner (lone R v))) (k .front) (e .end) (e .words));
+      front = rw (add-one, lonesText-suc R v) (front-more (gather (walkText R) (map loneCorner (lone R v))) (k .front) (e .end) (e .words));
     }
 
 -- the walks and then the isolated vertices: the listing, at the front of the slice

@@ -25,7 +25,7 @@ use Rattle.tracing.specs.laws.Stands.{Stands}
 use Rattle.weave.specs.declared.call.Named.{Named}
 use Rattle.weave.specs.declared.call.Named.the-variants.{There, Refused}
 use Rattle.weave.specs.Letters.{letters, alternates, plain}
-use Rattle.weave.specs.laws.Passing.{Counted}
+use Rattle.weave.specs.laws.Passing.{LetterCount}
 use Rattle.weave.specs.Calls.{namedStep, alternatesBy, alternatesOf, plainOf, lettersOf, lettersOut}
 
 -- the ends of the naming
@@ -52,11 +52,11 @@ module _ (t : List ℕ) (d k : ℕ) where
   named-there g h l e = rw (g, lt-ltb d darts h, lt-ltb k 2 (omega arith), yes-live t d (record { low = h; on = e }))
 
   -- a step that is there stands on a live dart
-  pub record Steps (s : ℕ) : Type 0 where
+  pub record NamedThere (s : ℕ) : Type 0 where
     pub stands : Stands t s
     pub word : s ≡ 2 * d + k
 
-  pub there-steps : {s : ℕ} → There s ≡ namedStep t d k → Steps s
+  pub there-steps : {s : ℕ} → There s ≡ namedStep t d k → NamedThere s
   unfolding namedStep
   there-steps {s} e = elim (truth (good? t)) [
     | fails g ↦ absurd (other (rw g at e))
@@ -89,13 +89,13 @@ module _ (t : List ℕ) (d k : ℕ) {n : Named} (e : n ≡ namedStep t d k) wher
   pub letters-refused : {r : Refusal} (out : List ℕ) → n ≡ Refused r → (Declined r ≡ lettersOf t d k (length out)) × (out ≡ lettersOut t d k out)
   letters-refused out f = rw (← e, f) (refl, refl)
 
-  pub letters-short : {s size : ℕ} (out : List ℕ) → n ≡ There s → Counted t s size → length out < size
+  pub letters-short : {s size : ℕ} (out : List ℕ) → n ≡ There s → LetterCount t s size → length out < size
       → (Declined ShortSlice ≡ lettersOf t d k (length out)) × (out ≡ lettersOut t d k out)
   letters-short {s} out f c h =
       let count = c .count in
       rw (← e, f, lt-leb (length (letters t s)) (length out) (omega arith)) (refl, refl)
 
-  pub letters-done : {s size : ℕ} (out : List ℕ) {out′ : List ℕ} → n ≡ There s → Counted t s size → size ≤ length out → out′ ≡ sets out 0 (letters t s)
+  pub letters-done : {s size : ℕ} (out : List ℕ) {out′ : List ℕ} → n ≡ There s → LetterCount t s size → size ≤ length out → out′ ≡ sets out 0 (letters t s)
       → (Done size ≡ lettersOf t d k (length out)) × (out′ ≡ lettersOut t d k out)
   letters-done {s} {size} out f c h w =
       let count = c .count in

@@ -92,7 +92,7 @@ unfolding lettersOn letterAt
 letters-at w kind j l h = crossed-at (positive w) kind (crossings w) j l h
 
 -- a step of type `kind` on a live edge of word w, and room for its letters from `start` on
-pub record Room (w kind start size : ℕ) : Type 0 where
+pub record LetterRoom (w kind start size : ℕ) : Type 0 where
   pub type : kind < 2
   pub few : crossings w ≤ 99
   pub room : start + crossings w ≤ size
@@ -103,12 +103,12 @@ pub record Lettered (w kind start : ℕ) (out : List ℕ) (r : ℕ) (out′ : Li
 
 -- the loop that writes them
 pub record Crossing (w kind start n j : ℕ) (out₀ out : List ℕ) : Type 0 where
-  pub fits : Room w kind start (length out₀)
+  pub fits : LetterRoom w kind start (length out₀)
   pub all : n ≡ crossings w
   pub most : j ≤ n
   pub front : Front (crossed (positive w) kind j) out₀ start (start + j) out
 
-pub crossing-none : {w kind start n : ℕ} {out : List ℕ} → Room w kind start (length out) → n ≡ crossings w → Crossing w kind start n 0 out out
+pub crossing-none : {w kind start n : ℕ} {out : List ℕ} → LetterRoom w kind start (length out) → n ≡ crossings w → Crossing w kind start n 0 out out
 unfolding crossed
 crossing-none {start = start} {out = out} h e = record { fits = h; all = e; most = omega arith; front = let z : start ≡ start + 0 = omega arith in rw (← z) (front-none out start) }
 

@@ -10,7 +10,7 @@ use borrow.Author.Tests.{lt-ltb, le-ltb}
 use Rattle.table.specs.Rotation.{rotation}
 use Rattle.tracing.specs.Step.{step}
 use Rattle.tracing.specs.Walk.{walk}
-use Rattle.tracing.specs.laws.Walk.{run, run-suc}
+use Rattle.tracing.specs.laws.Walk.{iterates, run-suc}
 use Rattle.tracing.specs.laws.Stands.{Stands, stands-low}
 use Rattle.tracing.specs.laws.Along.{Walking, walking-none, walking-more, walking-all}
 use Rattle.tracing.specs.laws.Search.{left, searching-less}
@@ -60,16 +60,16 @@ walking-less {s = s} {n} w e b =
 pub record Seeing (t : List ℕ) (s at : ℕ) (h : Hands) : Type 0 where
   pub so-far : ℕ
   pub walking : Walking t s so-far at
-  pub seen : h ≡ handsAmong t (run (step (rotation t)) s so-far)
+  pub seen : h ≡ handsAmong t (iterates (step (rotation t)) s so-far)
 
 pub seeing-none : {t : List ℕ} {s : ℕ} → Stands t s → Seeing t s s (record { positive = false; negative = false })
-unfolding run handsAmong some
+unfolding iterates handsAmong some
 seeing-none h = record { so-far = zero; walking = walking-none h; seen = refl }
 
 seen-more : {t : List ℕ} {s at : ℕ} {h : Hands} {w : ℕ} {h′ : Hands} (k : Seeing t s at h) → EdgeWord t at w → h′ ≡ handsWith h w
-    → h′ ≡ handsAmong t (run (step (rotation t)) s (k .so-far + 1))
+    → h′ ≡ handsAmong t (iterates (step (rotation t)) s (k .so-far + 1))
 seen-more {t} {s} {at} k e f =
-    let l = run (step (rotation t)) s (k .so-far) in
+    let l = iterates (step (rotation t)) s (k .so-far) in
     f ∙ ap₂ handsWith (k .seen) (e .word) ∙ among-more t l at ∙ ap (handsAmong t) (rw (add-one, run-suc, k .walking .along .here))
 
 pub seeing-more : {t : List ℕ} {s at : ℕ} {h : Hands} {w : ℕ} {h′ : Hands} {next : ℕ} → Seeing t s at h → EdgeWord t at w → h′ ≡ handsWith h w

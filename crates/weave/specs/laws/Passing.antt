@@ -11,23 +11,23 @@ use Rattle.orbits.specs.Iterate.{iter}
 use Rattle.table.specs.Rotation.{rotation}
 use Rattle.table.specs.laws.Lawful.{good-lawful}
 use Rattle.tracing.specs.Step.{step}
-use Rattle.tracing.specs.laws.Walk.{run, run-suc, walk-run, walk-period, walk-period-le}
+use Rattle.tracing.specs.laws.Walk.{iterates, run-suc, walk-run, walk-period, walk-period-le}
 use Rattle.tracing.specs.Listing.{gather}
 use Rattle.tracing.specs.laws.Listing.{gather-one, gather-append}
 use Rattle.tracing.specs.laws.Stands.{Stands, stands-low}
 use Rattle.tracing.specs.laws.Along.{Walking, walking-none, walking-more, walking-all, walking-few, along-few}
 use Rattle.tracing.specs.laws.Writing.{Front, front-none, front-more, next-room}
 use Rattle.weave.specs.Letters.{crossings, lettersOn, wordOf, stepLetters, letters}
-use Rattle.weave.specs.laws.Crossing.{EdgeWord, crossings-few, letters-length, Room, Lettered}
+use Rattle.weave.specs.laws.Crossing.{EdgeWord, crossings-few, letters-length, LetterRoom, Lettered}
 
 -- the letters of the first n steps from s
 abbrev pub lettersBefore : List ℕ → ℕ → ℕ → List ℕ
-lettersBefore t s n = gather (stepLetters t) (run (step (rotation t)) s n)
+lettersBefore t s n = gather (stepLetters t) (iterates (step (rotation t)) s n)
 
 pub before-suc : (t : List ℕ) (s n : ℕ) → lettersBefore t s (suc n) ≡ lettersBefore t s n ++ stepLetters t (iter (step (rotation t)) n s)
 before-suc t s n =
     let f = step (rotation t) in
-    rw (run-suc f s n, gather-append (stepLetters t) (run f s n) (iter f n s ∷ []), gather-one (stepLetters t) (iter f n s))
+    rw (run-suc f s n, gather-append (stepLetters t) (iterates f s n) (iter f n s ∷ []), gather-one (stepLetters t) (iter f n s))
 
 module _ {t : List ℕ} {s n at : ℕ} where
   before-more : Walking t s n at → lettersBefore t s (n + 1) ≡ lettersBefore t s n ++ stepLetters t at
@@ -42,37 +42,37 @@ unfolding stepLetters
 step-length {t} {s} e = letters-length (wordOf t s) (s % 2) ∙ ap crossings (sym (e .word))
 
 -- so many letters
-pub record Counted (t : List ℕ) (s n : ℕ) : Type 0 where
+pub record LetterCount (t : List ℕ) (s n : ℕ) : Type 0 where
   pub count : n ≡ length (letters t s)
   pub low : n ≤ 405504
 
 -- the loop that counts them
-pub record Counting (t : List ℕ) (s at n : ℕ) : Type 0 where
+pub record LetterCounting (t : List ℕ) (s at n : ℕ) : Type 0 where
   pub so-far : ℕ
   pub walking : Walking t s so-far at
   pub count : n ≡ length (lettersBefore t s so-far)
   pub few : n ≤ 99 * so-far
 
-pub counting-none : {t : List ℕ} {s : ℕ} → Stands t s → Counting t s s 0
-unfolding run gather
+pub counting-none : {t : List ℕ} {s : ℕ} → Stands t s → LetterCounting t s s 0
+unfolding iterates gather
 counting-none h = record { so-far = zero; walking = walking-none h; count = refl; few = omega arith }
 
-count-more : {t : List ℕ} {s at n w c : ℕ} (k : Counting t s at n) → EdgeWord t at w → c ≡ crossings w → n + c ≡ length (lettersBefore t s (k .so-far + 1))
+count-more : {t : List ℕ} {s at n w c : ℕ} (k : LetterCounting t s at n) → EdgeWord t at w → c ≡ crossings w → n + c ≡ length (lettersBefore t s (k .so-far + 1))
 count-more {t} {s} {at} k e f = rw (before-more (k .walking), length-append, step-length e) (ap₂ _+_ (k .count) f)
 
-pub count-few : {t : List ℕ} {s at n w c : ℕ} (k : Counting t s at n) → EdgeWord t at w → c ≡ crossings w → (n + c ≤ 99 * (k .so-far + 1)) × (k .so-far < 4096)
+pub count-few : {t : List ℕ} {s at n w c : ℕ} (k : LetterCounting t s at n) → EdgeWord t at w → c ≡ crossings w → (n + c ≤ 99 * (k .so-far + 1)) × (k .so-far < 4096)
 count-few k e f =
     let few = k .few in
     let most = crossings-few (e .some) (e .most) in
     let low = walking-few (k .walking) in
     (omega arith, omega arith)
 
-pub counting-more : {t : List ℕ} {s at n w c next : ℕ} → Counting t s at n → EdgeWord t at w → c ≡ crossings w → next ≡ step (rotation t) at → next ≢ s
-    → Counting t s next (n + c)
+pub counting-more : {t : List ℕ} {s at n w c next : ℕ} → LetterCounting t s at n → EdgeWord t at w → c ≡ crossings w → next ≡ step (rotation t) at → next ≢ s
+    → LetterCounting t s next (n + c)
 counting-more k e f g b = record { so-far = k .so-far + 1; walking = walking-more (k .walking) g b; count = count-more k e f; few = count-few k e f .0 }
 
-pub counting-all : {t : List ℕ} {s at n w c next : ℕ} → Counting t s at n → EdgeWord t at w → c ≡ crossings w → next ≡ step (rotation t) at → next ≡ s
-    → Counted t s (n + c)
+pub counting-all : {t : List ℕ} {s at n w c next : ℕ} → LetterCounting t s at n → EdgeWord t at w → c ≡ crossings w → next ≡ step (rotation t) at → next ≡ s
+    → LetterCount t s (n + c)
 counting-all k e f g b =
     let few = count-few k e f in
     record { count = rw (before-all (k .walking) g b) (count-more k e f); low = omega arith }
@@ -85,11 +85,11 @@ pub record Lettering (t : List ℕ) (s at end : ℕ) (out₀ out : List ℕ) : T
   pub front : Front (lettersBefore t s so-far) out₀ 0 end out
 
 pub lettering-none : {t : List ℕ} {s : ℕ} {out : List ℕ} → Stands t s → length (letters t s) ≤ length out → Lettering t s s 0 out out
-unfolding run gather
+unfolding iterates gather
 lettering-none {out = out} h l = record { so-far = zero; walking = walking-none h; room = l; front = front-none out 0 }
 
 -- the letters of the present step are among those of the ribbon
-pub lettering-room : {t : List ℕ} {s at end w : ℕ} {out₀ out : List ℕ} → Lettering t s at end out₀ out → EdgeWord t at w → Room w (at % 2) end (length out)
+pub lettering-room : {t : List ℕ} {s at end w : ℕ} {out₀ out : List ℕ} → Lettering t s at end out₀ out → EdgeWord t at w → LetterRoom w (at % 2) end (length out)
 unfolding letters
 lettering-room {t} {s} {at} {end} {w} k e =
     let R = rotation t in

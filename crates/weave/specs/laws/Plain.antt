@@ -13,10 +13,10 @@ use Rattle.table.specs.Layout.{darts}
 use Rattle.table.specs.Good.{Good}
 use Rattle.table.specs.Rotation.{rotation}
 use Rattle.tracing.specs.declared.count.Size.{Size}
-use Rattle.tracing.specs.Listing.{gather, starts, fresh, metBy, written}
+use Rattle.tracing.specs.Listing.{gather, starts, fresh, metBy, walkText}
 use Rattle.tracing.specs.laws.Listing.{starts-suc, written-some, gather-one, gather-none}
 use Rattle.tracing.specs.laws.Marks.{mark, unmarked}
-use Rattle.tracing.specs.laws.Size.{InRange, Looked, unmet, unmet-case, no-start, begins, Seen, seen-none, seen-more, unmet-fresh}
+use Rattle.tracing.specs.laws.Size.{LookReady, Looked, unmet, unmet-case, no-start, begins, Seen, seen-none, seen-more, unmet-fresh}
 use Rattle.weave.specs.Letters.{alternates, every, plain}
 
 -- do the ribbons from these darts on alternate
@@ -33,22 +33,22 @@ pub record Judged (t : List ℕ) (d : ℕ) (m : List ℕ) (r : Bool) (m′ : Lis
   pub marks : m′ ≡ mark m (metBy (rotation t) (unmet t m d))
   pub verdict : r ≡ allAlternate t (unmet t m d)
 
-pub judged-none : {t : List ℕ} {d : ℕ} {m : List ℕ} {r : Size} {m′ : List ℕ} → InRange t m d → Looked t d m r m′ → r .words ≡ 0 → Judged t d m true m′
+pub judged-none : {t : List ℕ} {d : ℕ} {m : List ℕ} {r : Size} {m′ : List ℕ} → LookReady t m d → Looked t d m r m′ → r .words ≡ 0 → Judged t d m true m′
 unfolding every
 judged-none {t} {d} {m} h k e = elim (unmet-case t m d) [
   | no-start u ↦ record { marks = k .marks; verdict = rw u }
   | begins l u ↦
       let some = written-some (rotation t) d in
-      let none : length (gather (written (rotation t)) (d ∷ [])) ≡ 0 = ap (λ a. length (gather (written (rotation t)) a)) (sym u) ∙ sym (k .words) ∙ e in
-      let one = ap length (gather-one (written (rotation t)) d) in
+      let none : length (gather (walkText (rotation t)) (d ∷ [])) ≡ 0 = ap (λ a. length (gather (walkText (rotation t)) a)) (sym u) ∙ sym (k .words) ∙ e in
+      let one = ap length (gather-one (walkText (rotation t)) d) in
       absurd (omega arith)
 ]
 
-pub judged-one : {t : List ℕ} {d : ℕ} {m : List ℕ} {r : Size} {m′ : List ℕ} {b : Bool} → InRange t m d → Looked t d m r m′ → r .words ≢ 0 → b ≡ alternates t (2 * d)
+pub judged-one : {t : List ℕ} {d : ℕ} {m : List ℕ} {r : Size} {m′ : List ℕ} {b : Bool} → LookReady t m d → Looked t d m r m′ → r .words ≢ 0 → b ≡ alternates t (2 * d)
     → Judged t d m b m′
 unfolding every
 judged-one {t} {d} {m} h k e f = elim (unmet-case t m d) [
-  | no-start u ↦ absurd (e (k .words ∙ ap (λ a. length (gather (written (rotation t)) a)) u ∙ ap length (gather-none (written (rotation t)))))
+  | no-start u ↦ absurd (e (k .words ∙ ap (λ a. length (gather (walkText (rotation t)) a)) u ∙ ap length (gather-none (walkText (rotation t)))))
   | begins l u ↦ record { marks = k .marks; verdict = rw u (f ∙ sym (and-true (alternates t (2 * d)))) }
 ]
 

@@ -17,7 +17,7 @@ use Rattle.table.specs.laws.Lawful.{good-lawful}
 use Rattle.tracing.specs.Step.{steps, step, stepType}
 use Rattle.tracing.specs.laws.Step.{step-type}
 use Rattle.tracing.specs.Walk.{walk}
-use Rattle.tracing.specs.laws.Walk.{run, walk-run, walk-period, walk-period-le}
+use Rattle.tracing.specs.laws.Walk.{iterates, walk-run, walk-period, walk-period-le}
 use Rattle.tracing.specs.Listing.{gather, has}
 use Rattle.tracing.specs.laws.Listing.{gather-one, gather-append}
 use Rattle.tracing.specs.laws.Has.{has-empty, has-cons, here, later, has-head, has-tail}
@@ -31,12 +31,12 @@ some-append q [] b = refl
 some-append q (x ∷ a) b = ap (λ y. q x || y) (some-append q a b) ∙ sym (or-assoc (q x) (some q a) (some q b))
 
 -- a member that passes
-pub record Passes (q : ℕ → Bool) (l : List ℕ) : Type 0 where
+pub record SomePasses (q : ℕ → Bool) (l : List ℕ) : Type 0 where
   pub at : ℕ
   pub among : has at l ≡ true
   pub pass : q at ≡ true
 
-pub some-passes : (q : ℕ → Bool) (l : List ℕ) → some q l ≡ true → Passes q l
+pub some-passes : (q : ℕ → Bool) (l : List ℕ) → some q l ≡ true → SomePasses q l
 unfolding some
 some-passes q [] e = absurd (clash e refl)
 some-passes q (x ∷ l) e = elim (truth (q x)) [
@@ -134,28 +134,28 @@ step-turned t s = step-type (rotation t) s
 
 -- the letters of the first n steps from s are those of one strand, and the next step has the type after it
 record Strung (t : List ℕ) (s n : ℕ) : Type 0 where
-  text : gather (stepLetters t) (run (step (rotation t)) s n) ≡ strand s (handsAlong t (run (step (rotation t)) s n))
-  type : iter (step (rotation t)) n s % 2 ≡ (s + length (handsAlong t (run (step (rotation t)) s n))) % 2
+  text : gather (stepLetters t) (iterates (step (rotation t)) s n) ≡ strand s (handsAlong t (iterates (step (rotation t)) s n))
+  type : iter (step (rotation t)) n s % 2 ≡ (s + length (handsAlong t (iterates (step (rotation t)) s n))) % 2
 
 strung : (t : List ℕ) (s n : ℕ) → Strung t s n
-unfolding run gather strand handsAlong iter
+unfolding iterates gather strand handsAlong iter
 strung t s zero = record { text = refl; type = omega arith }
 strung t s (suc n) =
     let f = step (rotation t) in
     let x = iter f n s in
     let before = strung t s n in
-    let hands : handsAlong t (run f s (suc n)) ≡ handsAlong t (run f s n) ++ handsOn (wordOf t x) =
-    hands-append t (run f s n) (x ∷ []) ∙ ap (λ l. handsAlong t (run f s n) ++ l) (hands-one t x) in
+    let hands : handsAlong t (iterates f s (suc n)) ≡ handsAlong t (iterates f s n) ++ handsOn (wordOf t x) =
+    hands-append t (iterates f s n) (x ∷ []) ∙ ap (λ l. handsAlong t (iterates f s n) ++ l) (hands-one t x) in
     let w = wordOf t x in
-    let size : length (handsAlong t (run f s (suc n))) ≡ length (handsAlong t (run f s n)) + crossings w =
-    ap length hands ∙ length-append (handsAlong t (run f s n)) (handsOn w) ∙ ap (λ k. length (handsAlong t (run f s n)) + k) (hands-length w) in
-    let m = s + length (handsAlong t (run f s n)) in
+    let size : length (handsAlong t (iterates f s (suc n))) ≡ length (handsAlong t (iterates f s n)) + crossings w =
+    ap length hands ∙ length-append (handsAlong t (iterates f s n)) (handsOn w) ∙ ap (λ k. length (handsAlong t (iterates f s n)) + k) (hands-length w) in
+    let m = s + length (handsAlong t (iterates f s n)) in
     let type : x % 2 ≡ m % 2 = before .type in
-    let sum : m + crossings w ≡ s + length (handsAlong t (run f s (suc n))) = omega arith in
+    let sum : m + crossings w ≡ s + length (handsAlong t (iterates f s (suc n))) = omega arith in
     record {
-      text = gather-append (stepLetters t) (run f s n) (x ∷ [])
+      text = gather-append (stepLetters t) (iterates f s n) (x ∷ [])
           ∙ ap₂ _++_ (before .text) (gather-one (stepLetters t) x ∙ step-strand t x ∙ strand-parity x m (handsOn w) type)
-          ∙ sym (strand-append s (handsAlong t (run f s n)) (handsOn w))
+          ∙ sym (strand-append s (handsAlong t (iterates f s n)) (handsOn w))
           ∙ ap (strand s) (sym hands);
       type = step-turned t x ∙ carried x m w type ∙ crossings-parity w m ∙ ap (λ k. k % 2) sum;
     }

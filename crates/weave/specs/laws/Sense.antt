@@ -31,13 +31,13 @@ use Rattle.weave.specs.Ribbon.{SameWay, all-positive, all-negative}
 use Rattle.weave.specs.laws.Ribbon.{alternates-same, same-alternates}
 
 -- a step of the walk from s whose edge has the word of x's
-record Alike (t : List ℕ) (s x : ℕ) : Type 0 where
+record SameLetters (t : List ℕ) (s x : ℕ) : Type 0 where
   at : ℕ
   among : has at (walk (rotation t) s) ≡ true
   word : wordOf t at ≡ wordOf t x
 
 -- every step of one walk has one alike on another: what turns the same way there, does here
-carry-same : (t : List ℕ) (s r : ℕ) → ((x : ℕ) → has x (walk (rotation t) r) ≡ true → Alike t s x) → SameWay t s → SameWay t r
+carry-same : (t : List ℕ) (s r : ℕ) → ((x : ℕ) → has x (walk (rotation t) r) ≡ true → SameLetters t s x) → SameWay t s → SameWay t r
 carry-same t s r alike (all-positive p) = all-positive (λ x h n. let a = alike x h in rw (a .word) at (p (a .at) (a .among) (rw (a .word) n)))
 carry-same t s r alike (all-negative p) = all-negative (λ x h n. let a = alike x h in rw (a .word) at (p (a .at) (a .among) (rw (a .word) n)))
 
@@ -62,13 +62,13 @@ module _ (t : List ℕ) (g : Good t) where
   tracing = tracing-mirror (rotation t) L (on (rotation t)) (whole (rotation t) L)
 
   -- a walk named by another of its steps has the same steps
-  named-alike : (s r : ℕ) → s < steps → Reach (trace (rotation t)) s r → (x : ℕ) → has x (walk (rotation t) r) ≡ true → Alike t s x
+  named-alike : (s r : ℕ) → s < steps → Reach (trace (rotation t)) s r → (x : ℕ) → has x (walk (rotation t) r) ≡ true → SameLetters t s x
   named-alike s r h p x e =
       let low = trace-reach (rotation t) L h p .low in
       record { at = x; among = walk-has (rotation t) L s x h (reach-trans p (has-walk (rotation t) L r x low e)); word = refl }
 
   -- a step of the walk from the mirror of s: the way back along its edge is on the walk from s
-  mirror-alike : (s : ℕ) → s < steps → (x : ℕ) → has x (walk (rotation t) (mirror (rotation t) s)) ≡ true → Alike t s x
+  mirror-alike : (s : ℕ) → s < steps → (x : ℕ) → has x (walk (rotation t) (mirror (rotation t) s)) ≡ true → SameLetters t s x
   mirror-alike s h x e =
       let R = rotation t in
       let I = mirror-world tracing .perm in
@@ -89,8 +89,8 @@ module _ (t : List ℕ) (g : Good t) where
       }
 
   -- walks each of whose steps has one alike on the other
-  both-ways : (s r : ℕ) → s < steps → r < steps → ((x : ℕ) → has x (walk (rotation t) r) ≡ true → Alike t s x)
-      → ((x : ℕ) → has x (walk (rotation t) s) ≡ true → Alike t r x) → alternates t s ≡ alternates t r
+  both-ways : (s r : ℕ) → s < steps → r < steps → ((x : ℕ) → has x (walk (rotation t) r) ≡ true → SameLetters t s x)
+      → ((x : ℕ) → has x (walk (rotation t) s) ≡ true → SameLetters t r x) → alternates t s ≡ alternates t r
   both-ways s r h l a b =
       same-truth (alternates t s) (alternates t r)
       (λ e. same-alternates t g r l (carry-same t s r a (alternates-same t g s h e)))

@@ -1,6 +1,6 @@
 -- `edits::edge::delete_edge` meets its contract. Deletes edge e. Answers the new face count.
 -- Assumes nothing.
-use Rattle.edits.specs.laws.Passed.{delete-good, may-delete-ready}
+use Rattle.edits.specs.laws.WrittenGood.{delete-good, may-delete-ready}
 use Rattle.edits.specs.declared.edit.Edit.the-variants.{DeleteEdge}
 use Rattle.edits.specs.laws.Edits.{went-through, was-declined}
 use Rattle.table.specs.Good.{Good}

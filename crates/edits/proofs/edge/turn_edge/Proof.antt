@@ -1,6 +1,6 @@
 -- `edits::edge::turn_edge` meets its contract. Turns edge e by an amount. Answers the new face count.
 -- Assumes nothing.
-use Rattle.edits.specs.laws.Passed.{turn-good}
+use Rattle.edits.specs.laws.WrittenGood.{turn-good}
 use Rattle.edits.specs.declared.edit.Edit.the-variants.{TurnEdge}
 use Rattle.edits.specs.laws.Edits.{went-through, was-declined}
 use Rattle.edits.specs.laws.Turns.{amount-on}

@@ -2,7 +2,6 @@
 -- Assumes nothing.
 use Rattle.edits.specs.laws.Edge.{dart-link, link-past}
 use denote.Ref.{now}
-use Rattle.edits.specs.Edge.{splice}
 use mir.Facts.{fits-16-64}
 use mathlib.Core.Path.{_∙_, sym}
 use native.Mathlib.Omega.{arith}

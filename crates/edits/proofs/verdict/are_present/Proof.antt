@@ -1,7 +1,6 @@
 -- `verdict::are_present` meets its contract: a corner, then the other.
 use borrow.Author.Tests.{not-true, not-false}
 use mathlib.Core.Path.{sym, _∙_}
-use borrow.Author.Needs.{needs}
 use Rattle.edits.proofs.verdict.are_present.Statement.{statement}
 use Rattle.edits.proofs.verdict.are_present.Tie as tie
 

@@ -1,6 +1,6 @@
 -- `edits::vertex::add_vertex` meets its contract. Adds vertex v. Answers the new face count.
 -- Assumes nothing.
-use Rattle.edits.specs.laws.Passed.{add-good}
+use Rattle.edits.specs.laws.WrittenGood.{add-good}
 use Rattle.edits.specs.declared.edit.Edit.the-variants.{AddVertex}
 use Rattle.edits.specs.laws.Edits.{went-through, was-declined}
 use denote.Ref.{now}

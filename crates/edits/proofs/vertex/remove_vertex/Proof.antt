@@ -1,6 +1,6 @@
 -- `edits::vertex::remove_vertex` meets its contract. Removes the isolated vertex v. Answers the new face count.
 -- Assumes nothing.
-use Rattle.edits.specs.laws.Passed.{remove-good}
+use Rattle.edits.specs.laws.WrittenGood.{remove-good}
 use Rattle.edits.specs.declared.edit.Edit.the-variants.{RemoveVertex}
 use Rattle.edits.specs.laws.Edits.{went-through, was-declined}
 use denote.Ref.{now}

@@ -1,5 +1,5 @@
 -- `place::begin` meets its contract: the refusal of the step, or 0.
-use Rattle.reader.specs.laws.Reading.{begin-refused, begin-there}
+use Rattle.reader.specs.laws.Reader.{begin-refused, begin-there}
 use borrow.Author.Needs.{needs}
 use Rattle.reader.proofs.place.begin.Statement.{statement}
 use Rattle.reader.proofs.place.begin.Tie as tie

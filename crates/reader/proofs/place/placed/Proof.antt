@@ -1,5 +1,5 @@
 -- `place::placed` meets its contract, a return for each refusal in its order: torn, no such name, absent.
-use Rattle.reader.specs.laws.Reading.{in-range, placed-torn, placed-past, placed-type, first-past, first-type, placed-dead, first-dead, placed-there}
+use Rattle.reader.specs.laws.Reader.{in-range, placed-torn, placed-past, placed-type, first-past, first-type, placed-dead, first-dead, placed-there}
 use Rattle.table.specs.laws.Rotation.{yes-live}
 use Rattle.table.specs.laws.Check.{seen-good, seen-torn}
 use native.Mathlib.Omega.{arith}

@@ -1,5 +1,5 @@
 -- `walk::walk_step` meets its contract: the refusal of the place, that of the tally, or the step.
-use Rattle.reader.specs.laws.Reading.{there-placed, step-refused, step-kept, step-moved}
+use Rattle.reader.specs.laws.Reader.{there-placed, step-refused, step-kept, step-moved}
 use mathlib.Core.Path.{sym, _∙_}
 use borrow.Author.Needs.{needs}
 use Rattle.reader.proofs.walk.walk_step.Statement.{statement}

@@ -1,5 +1,5 @@
 -- `step::write_steps` meets its contract. The invariant: the walk is under way, and the fields of its steps so far are written.
-use Rattle.report.specs.laws.Steps.{Stepping, stepping-none, stepping-near, stepping-more, stepping-all}
+use Rattle.report.specs.laws.Steps.{StepsWriting, stepping-none, stepping-near, stepping-more, stepping-all}
 use Rattle.report.specs.laws.Wrote.{wrote-length}
 use Rattle.weave.specs.laws.Hands.{walking-less}
 use Rattle.tracing.specs.laws.Search.{left}
@@ -8,7 +8,7 @@ use Rattle.report.proofs.step.write_steps.Statement.{statement}
 use Rattle.report.proofs.step.write_steps.Tie as tie
 
 abbrev Inv-loop : tie.InvT-loop
-Inv-loop t out₀ from at s here₀ end₀ out here end = Stepping t s from at here end out₀ out
+Inv-loop t out₀ from at s here₀ end₀ out here end = StepsWriting t s from at here end out₀ out
 
 abbrev μ-loop : tie.MeasureT-loop
 μ-loop t out₀ from at s here₀ end₀ out here end = left t s here

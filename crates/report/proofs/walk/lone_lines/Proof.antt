@@ -1,5 +1,5 @@
 -- `walk::lone_lines` meets its contract. The invariant: the lines of the isolated vertices below v are written.
-use Rattle.report.specs.laws.Walks.{Ending, ending-none, ending-at, ending-more, ending-all}
+use Rattle.report.specs.laws.Walks.{LonesWriting, ending-none, ending-at, ending-more, ending-all}
 use Rattle.report.specs.laws.Wrote.{wrote-length}
 use Prim.Native.Nat.{_-_}
 use native.Mathlib.Omega.{arith}
@@ -7,7 +7,7 @@ use Rattle.report.proofs.walk.lone_lines.Statement.{statement}
 use Rattle.report.proofs.walk.lone_lines.Tie as tie
 
 abbrev Inv-loop : tie.InvT-loop
-Inv-loop t out₀ from at first end₀ i₀ v₀ out end i v = Ending t from at first v i end out₀ out
+Inv-loop t out₀ from at first end₀ i₀ v₀ out end i v = LonesWriting t from at first v i end out₀ out
 
 abbrev μ-loop : tie.MeasureT-loop
 μ-loop t out₀ from at first end₀ i₀ v₀ out end i v = 512 - v

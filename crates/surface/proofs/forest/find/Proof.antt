@@ -1,6 +1,5 @@
 -- `forest::find` meets its contract. The invariant: the climb is under way, and `at` has the label of v. It ends since each step goes to a smaller vertex.
 use Rattle.surface.specs.laws.Forest.{Finding, finding-none, finding-more, finding-less, finding-all, lifted-shape, up-low}
-use mathlib.Core.Path.{_≡_}
 use native.Mathlib.Omega.{arith}
 use Rattle.surface.proofs.forest.find.Statement.{statement}
 use Rattle.surface.proofs.forest.find.Tie as tie

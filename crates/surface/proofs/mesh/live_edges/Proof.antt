@@ -1,5 +1,5 @@
 -- `mesh::live_edges` meets its contract. The invariant: the live edges below e are counted.
-use Rattle.surface.specs.laws.Mesh.{Counted, counted-none, counted-more}
+use Rattle.surface.specs.laws.Mesh.{AddedUp, counted-none, counted-more}
 use Rattle.table.specs.Rotation.{live?}
 use Prim.Native.Nat.{_-_, _≤_, _*_}
 use mathlib.Core.Path.{_≡_}
@@ -8,7 +8,7 @@ use Rattle.surface.proofs.mesh.live_edges.Statement.{statement}
 use Rattle.surface.proofs.mesh.live_edges.Tie as tie
 
 abbrev Inv-loop : tie.InvT-loop
-Inv-loop t n₀ e₀ n e = Counted (λ i. live? t (2 * i)) e n × (e ≤ 1024)
+Inv-loop t n₀ e₀ n e = AddedUp (λ i. live? t (2 * i)) e n × (e ≤ 1024)
 
 abbrev μ-loop : tie.MeasureT-loop
 μ-loop t n₀ e₀ n e = 1024 - e

@@ -1,5 +1,5 @@
 -- `mesh::live_vertices` meets its contract. The invariant: the live vertices below v are counted.
-use Rattle.surface.specs.laws.Mesh.{Counted, counted-none, counted-more}
+use Rattle.surface.specs.laws.Mesh.{AddedUp, counted-none, counted-more}
 use Rattle.table.specs.Rotation.{there?}
 use Prim.Native.Nat.{_-_, _≤_}
 use mathlib.Core.Path.{_≡_}
@@ -8,7 +8,7 @@ use Rattle.surface.proofs.mesh.live_vertices.Statement.{statement}
 use Rattle.surface.proofs.mesh.live_vertices.Tie as tie
 
 abbrev Inv-loop : tie.InvT-loop
-Inv-loop t n₀ v₀ n v = Counted (there? t) v n × (v ≤ 512)
+Inv-loop t n₀ v₀ n v = AddedUp (there? t) v n × (v ≤ 512)
 
 abbrev μ-loop : tie.MeasureT-loop
 μ-loop t n₀ v₀ n v = 512 - v

@@ -1,5 +1,5 @@
 -- `mesh::roots` meets its contract. The invariant: the smallest vertices of parts below v are counted.
-use Rattle.surface.specs.laws.Mesh.{Counted, counted-none, counted-more}
+use Rattle.surface.specs.laws.Mesh.{AddedUp, counted-none, counted-more}
 use Rattle.surface.specs.Parts.{root?}
 use Rattle.table.specs.Rotation.{rotation}
 use Prim.Native.Nat.{_-_, _≤_}
@@ -9,7 +9,7 @@ use Rattle.surface.proofs.mesh.roots.Statement.{statement}
 use Rattle.surface.proofs.mesh.roots.Tie as tie
 
 abbrev Inv-loop : tie.InvT-loop
-Inv-loop t up n₀ v₀ n v = Counted (root? (rotation t)) v n × (v ≤ 512)
+Inv-loop t up n₀ v₀ n v = AddedUp (root? (rotation t)) v n × (v ≤ 512)
 
 abbrev μ-loop : tie.MeasureT-loop
 μ-loop t up n₀ v₀ n v = 512 - v

@@ -1,6 +1,6 @@
--- `table::dart::live_darts` meets its contract. The number of live darts, if each dart keeps its rules. The loop keeps `Passed`, and `darts - d` falls.
+-- `table::dart::live_darts` meets its contract. The number of live darts, if each dart keeps its rules. The loop keeps `RuledBelow`, and `darts - d` falls.
 -- Assumes nothing.
-use Rattle.table.specs.laws.Darts.{passed-few, Passed, passed-none, passed-live, passed-dead, passed-all, passed-broken}
+use Rattle.table.specs.laws.Darts.{passed-few, RuledBelow, passed-none, passed-live, passed-dead, passed-all, passed-broken}
 use borrow.Author.Tests.{not-true, not-false}
 use mathlib.Core.Path.{refl}
 use Rattle.table.specs.laws.Rotation.{case-yes, case-no}
@@ -12,7 +12,7 @@ use Rattle.table.proofs.dart.live_darts.Statement.{statement}
 use Rattle.table.proofs.dart.live_darts.Tie as tie
 
 abbrev Inv-loop : tie.InvT-loop
-Inv-loop t n₀ d₀ n d = Passed t n d
+Inv-loop t n₀ d₀ n d = RuledBelow t n d
 
 abbrev μ-loop : tie.MeasureT-loop
 μ-loop t n₀ d₀ n d = darts - d

@@ -1,5 +1,5 @@
 -- `count::measure` meets its contract. The invariant: the walks that start below d are counted, and their corners marked.
-use Rattle.tracing.specs.laws.Size.{Counting, counting-none, seen-range, counting-more, measured}
+use Rattle.tracing.specs.laws.Size.{WalkCounting, counting-none, seen-range, counting-more, measured}
 use mathlib.Core.Path.{_≡_}
 use native.Mathlib.Omega.{arith}
 use Prim.Native.Nat.{_-_}
@@ -7,7 +7,7 @@ use Rattle.tracing.proofs.count.measure.Statement.{statement}
 use Rattle.tracing.proofs.count.measure.Tie as tie
 
 abbrev Inv-loop : tie.InvT-loop
-Inv-loop t met₀ walks₀ words₀ d₀ met walks words d = Counting t d walks words met
+Inv-loop t met₀ walks₀ words₀ d₀ met walks words d = WalkCounting t d walks words met
 
 abbrev μ-loop : tie.MeasureT-loop
 μ-loop t met₀ walks₀ words₀ d₀ met walks words d = 2048 - d

@@ -3,12 +3,12 @@ use borrow.Author.Needs.{needs}
 use native.Mathlib.Omega.{arith}
 use Rattle.tracing.specs.laws.Search.{left}
 use Rattle.weave.specs.laws.Hands.{walking-less}
-use Rattle.weave.specs.laws.Passing.{Counting, counting-none, counting-more, counting-all, count-few}
+use Rattle.weave.specs.laws.Passing.{LetterCounting, counting-none, counting-more, counting-all, count-few}
 use Rattle.weave.proofs.ribbon.letter_count.Statement.{statement}
 use Rattle.weave.proofs.ribbon.letter_count.Tie as tie
 
 abbrev Inv-loop : tie.InvT-loop
-Inv-loop t s at₀ n₀ at n = Counting t s at n
+Inv-loop t s at₀ n₀ at n = LetterCounting t s at n
 
 abbrev μ-loop : tie.MeasureT-loop
 μ-loop t s at₀ n₀ at n = left t s at

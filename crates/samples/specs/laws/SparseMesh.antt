@@ -21,7 +21,7 @@ use Rattle.surface.specs.Parts.{parts}
 use Rattle.surface.specs.Signed.{meshEuler}
 use Rattle.weave.specs.Letters.{lettersOn, stepLetters, letters, alternating, alternates, every, plain}
 use Rattle.samples.specs.Samples.{walkLengths}
-use Rattle.samples.specs.laws.Sparse.{Writes, put, read, put-read, span, span-room, span-past}
+use Rattle.samples.specs.laws.Sparse.{Writes, tableOf, read, put-read, span, span-room, span-past}
 use Rattle.samples.specs.laws.Few.{Few, facesFew, eulerFew, marksFew, lengthsFew, starts-few, faces-few, euler-few, marks-few, lengths-few}
 
 -- a table's rotation system, its word at i being g i
@@ -78,8 +78,8 @@ unfoldable pub plainOn : Writes → Bool
 plainOn ws = plainBy (read ws) (rotationOn ws) (2 * edgeSpan ws)
 
 module _ (ws : Writes) where
-  rotation-read : rotation (put ws) ≡ rotationOn ws
-  rotation-read = rotation-by (put ws) ∙ ap rotationBy (put-read ws)
+  rotation-read : rotation (tableOf ws) ≡ rotationOn ws
+  rotation-read = rotation-by (tableOf ws) ∙ ap rotationBy (put-read ws)
 
   no-dart : (d : ℕ) → 2 * edgeSpan ws ≤ d → liveBy (read ws) d ≡ false
   no-dart d h = elim (decLt d darts) [
@@ -106,26 +106,26 @@ module _ (ws : Writes) where
     ];
   }
 
-  pub faces-read : faceCount (rotation (put ws)) ≡ facesOn ws
+  pub faces-read : faceCount (rotation (tableOf ws)) ≡ facesOn ws
   unfolding facesOn
   faces-read = ap faceCount rotation-read ∙ faces-few few-read
 
-  pub euler-read : meshEuler (rotation (put ws)) ≡ eulerOn ws
+  pub euler-read : meshEuler (rotation (tableOf ws)) ≡ eulerOn ws
   unfolding eulerOn
   euler-read = ap meshEuler rotation-read ∙ euler-few few-read
 
-  pub marks-read : map (orientable (rotation (put ws))) (parts (rotation (put ws))) ≡ marksOn ws
+  pub marks-read : map (orientable (rotation (tableOf ws))) (parts (rotation (tableOf ws))) ≡ marksOn ws
   unfolding marksOn
   marks-read = ap (λ R. map (orientable R) (parts R)) rotation-read ∙ marks-few few-read
 
-  pub lengths-read : walkLengths (rotation (put ws)) ≡ lengthsOn ws
+  pub lengths-read : walkLengths (rotation (tableOf ws)) ≡ lengthsOn ws
   unfolding lengthsOn
   lengths-read = ap walkLengths rotation-read ∙ lengths-few few-read
 
-  pub plain-read : plain (put ws) ≡ plainOn ws
+  pub plain-read : plain (tableOf ws) ≡ plainOn ws
   unfolding plainOn plainBy
   plain-read =
-      plain-by (put ws)
-      ∙ ap (λ R. plainBy (λ i. getD (put ws) i 0) R darts) rotation-read
+      plain-by (tableOf ws)
+      ∙ ap (λ R. plainBy (λ i. getD (tableOf ws) i 0) R darts) rotation-read
       ∙ ap (λ g. plainBy g (rotationOn ws) darts) (put-read ws)
       ∙ ap (every (λ d. alternating (gather (λ s. lettersOn (read ws (edgeAt + edgeOf (s / 2))) (s % 2)) (walk (rotationOn ws) (2 * d))))) (starts-few few-read)

@@ -39,24 +39,24 @@ abbrev pub stepAt : ℕ → Step
 stepAt x = record { dart = x / 2; kind = x % 2 }
 
 -- 2, no such name: "vertex, edge or dart past its range, type above 1"
-abbrev pub inRange : ℕ → ℕ → Bool
-inRange d k = ltb d darts && ltb k 2
+abbrev pub isStep : ℕ → ℕ → Bool
+isStep d k = ltb d darts && ltb k 2
 
 -- the step that the reader stands at, as a step word, if it and the step that the walk began at are there: 1, then 2, then 4
 unfoldable pub placed : List ℕ → Step → Step → Named
 placed t at first =
     unless (good? t) (Refused Torn)
-    (unless (inRange (at .dart) (at .kind) && inRange (first .dart) (first .kind)) (Refused NoSuchName)
+    (unless (isStep (at .dart) (at .kind) && isStep (first .dart) (first .kind)) (Refused NoSuchName)
     (unless (live? t (at .dart) && live? t (first .dart)) (Refused Absent)
     (There (wordAt at))))
 
--- "after a declined step the reader has not moved"; "all lent slices and records keep their contents"
+-- "after a declined step the reader has not goesOn"; "all lent slices and records keep their contents"
 abbrev pub stays : Step → Tally → Refusal → Stepped
 stays at y r = record { answer = Declined r; at = at; tally = y }
 
 -- the reader goes on to step `next`. "With each step it says whether the walk ends there": 1 if the next step is the one that it began at, dart and type, else 0
-abbrev pub moved : ℕ → Step → Tally → Stepped
-moved next first z = record {
+abbrev pub goesOn : ℕ → Step → Tally → Stepped
+goesOn next first z = record {
   answer = Done (bit (eqb next (wordAt first)));
   at = stepAt next;
   tally = z;
@@ -64,7 +64,7 @@ moved next first z = record {
 
 -- the step s, once its tally is known
 abbrev pub steppedBy : List ℕ → Step → Step → Tally → ℕ → Tallied → Stepped
-steppedBy t at first y s (Brought z) = moved (step (rotation t) s) first z
+steppedBy t at first y s (Brought z) = goesOn (step (rotation t) s) first z
 steppedBy t at first y s (Kept r) = stays at y r
 
 -- the step, once its place is known

@@ -28,12 +28,12 @@ use Rattle.reader.specs.declared.tally.Tallied.{Tallied}
 use Rattle.reader.specs.declared.tally.Tallied.the-variants.{Brought, Kept}
 use Rattle.reader.specs.declared.walk.Stepped.{Stepped}
 use Rattle.reader.specs.Forward.{tallyOf}
-use Rattle.reader.specs.Reading.{beginBy, beginOf, wordAt, inRange, placed, stays, moved, steppedBy, stepBy, stepOf}
+use Rattle.reader.specs.Reader.{beginBy, beginOf, wordAt, isStep, placed, stays, goesOn, steppedBy, stepBy, stepOf}
 
 -- "Every step declines as the making of the reader would"
 pub placed-begun : (t : List ℕ) (s : Step) → placed t s s ≡ namedStep t (s .dart) (s .kind)
 unfolding placed namedStep
-placed-begun t s = rw (and-self (inRange (s .dart) (s .kind)), and-self (live? t (s .dart)))
+placed-begun t s = rw (and-self (isStep (s .dart) (s .kind)), and-self (live? t (s .dart)))
   where
     and-self : (b : Bool) → (b && b) ≡ b
     and-self true = refl
@@ -57,7 +57,7 @@ module _ (t : List ℕ) (d k : ℕ) {n : Named} (e : n ≡ namedStep t d k) wher
   begin-there f = sym (ap beginBy (sym e ∙ f))
 
 -- a step that has a name
-pub in-range : (d k : ℕ) → d < darts → k ≤ 1 → inRange d k ≡ true
+pub in-range : (d k : ℕ) → d < darts → k ≤ 1 → isStep d k ≡ true
 in-range d k h l = rw (lt-ltb d darts h, lt-ltb k 2 (omega arith))
 
 -- the ends of the placing
@@ -76,7 +76,7 @@ module _ (t : List ℕ) (at first : Step) where
     unfolding placed
     placed-type h l = rw (g, lt-ltb (at .dart) darts h, le-ltb (at .kind) 2 (omega arith))
 
-    module _ (n : inRange (at .dart) (at .kind) ≡ true) where
+    module _ (n : isStep (at .dart) (at .kind) ≡ true) where
       pub first-past : darts ≤ first .dart → Refused NoSuchName ≡ placed t at first
       unfolding placed
       first-past h = rw (g, n, le-ltb (first .dart) darts h)
@@ -85,7 +85,7 @@ module _ (t : List ℕ) (at first : Step) where
       unfolding placed
       first-type h l = rw (g, n, lt-ltb (first .dart) darts h, le-ltb (first .kind) 2 (omega arith))
 
-      module _ (m : inRange (first .dart) (first .kind) ≡ true) where
+      module _ (m : isStep (first .dart) (first .kind) ≡ true) where
         pub placed-dead : edgeWord t (edgeOf (at .dart)) ≡ 0 → Refused Absent ≡ placed t at first
         unfolding placed
         placed-dead z = rw (g, n, m, not-live t (at .dart) (λ v. v .on z))
@@ -109,13 +109,13 @@ pub there-placed : {t : List ℕ} {at first : Step} {s : ℕ} → There s ≡ pl
 unfolding placed
 there-placed {t} {at} {first} {s} e = elim (truth (good? t)) [
   | fails g ↦ absurd (other (rw g at e))
-  | holds g ↦ elim (truth (inRange (at .dart) (at .kind) && inRange (first .dart) (first .kind))) [
+  | holds g ↦ elim (truth (isStep (at .dart) (at .kind) && isStep (first .dart) (first .kind))) [
     | fails n ↦ absurd (other (rw (g, n) at e))
     | holds n ↦ elim (truth (live? t (at .dart) && live? t (first .dart))) [
       | fails l ↦ absurd (other (rw (g, n, l) at e))
       | holds l ↦
-          let here = both-left (inRange (at .dart) (at .kind)) (inRange (first .dart) (first .kind)) n in
-          let start = both-right (inRange (at .dart) (at .kind)) (inRange (first .dart) (first .kind)) n in
+          let here = both-left (isStep (at .dart) (at .kind)) (isStep (first .dart) (first .kind)) n in
+          let start = both-right (isStep (at .dart) (at .kind)) (isStep (first .dart) (first .kind)) n in
           let low = ltb-true (at .kind) 2 (both-right (ltb (at .dart) darts) (ltb (at .kind) 2) here) in
           let f : There s ≡ There (2 * at .dart + at .kind) = rw (g, n, l) at e in
           let word : s ≡ 2 * at .dart + at .kind = cc in
@@ -146,8 +146,8 @@ module _ (t : List ℕ) (at first : Step) (lengths : List ℕ) (y : Tally) {n : 
     pub step-kept : {r : Refusal} {q : Stepped} → m ≡ Kept r → q ≡ stays at y r → q ≡ stepOf t at first lengths y
     step-kept k h = h ∙ sym (ap (steppedBy t at first y s) k) ∙ stepped
 
-    pub step-moved : {z : Tally} {next : ℕ} {q : Stepped} → m ≡ Brought z → next ≡ step (rotation t) s → q ≡ moved next first z → q ≡ stepOf t at first lengths y
-    step-moved {z} k h i = i ∙ ap (λ x. moved x first z) h ∙ sym (ap (steppedBy t at first y s) k) ∙ stepped
+    pub step-moved : {z : Tally} {next : ℕ} {q : Stepped} → m ≡ Brought z → next ≡ step (rotation t) s → q ≡ goesOn next first z → q ≡ stepOf t at first lengths y
+    step-moved {z} k h i = i ∙ ap (λ x. goesOn x first z) h ∙ sym (ap (steppedBy t at first y s) k) ∙ stepped
 
 -- a step goes on, or it leaves the reader and the tally as they were
 pub data Settled (at : Step) (y : Tally) (q : Stepped) : Type 0 where

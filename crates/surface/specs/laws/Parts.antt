@@ -17,7 +17,7 @@ use Rattle.table.specs.Rotation.{Rotation, Lawful}
 use Rattle.orbits.specs.laws.Truth.{Truth, truth, holds, fails, clash, both, both-left, both-right, false-unless}
 use Rattle.orbits.specs.Count.{count}
 use Rattle.orbits.specs.laws.Count.{count-same, count-split}
-use Rattle.orbits.specs.Faces.{faces}
+use Rattle.orbits.specs.Faces.{faceClasses}
 use Rattle.orbits.specs.laws.Faces.{faces-live, faces-split}
 use Rattle.tracing.specs.laws.Place.{places, trace, flip, on, place, is-step, is-still, on-step, on-still}
 use Rattle.tracing.specs.Listing.{faceCount, only}
@@ -26,10 +26,11 @@ use Rattle.surface.specs.Chain.{Chain}
 use Rattle.surface.specs.laws.Chain.{chain-ind, chain-sym}
 use Rattle.surface.specs.Labels.{label, inPart}
 use Rattle.surface.specs.laws.Labels.{label-joined, label-smallest, same-label, inPart-kept}
-use Rattle.surgery.specs.laws.PlacesIn.{vertexAt, vertex-step, vertex-still, placesIn}
-use Rattle.surface.specs.Counts.{vertexCount, edgeCount, verticesIn, edgesIn, walksIn}
+use Rattle.surgery.specs.laws.PlacesIn.{placeVertex, vertex-step, vertex-still, placesIn}
+use Rattle.surface.specs.Counts.{vertexCount, verticesIn, edgesIn, walksIn}
 use Rattle.surface.specs.laws.Counts.{walks-faces}
 use Rattle.surface.specs.Parts.{root?, partsBelow, parts, total}
+use Rattle.tracing.specs.Met.{edgeCount}
 
 total-append : (f : ℕ → ℕ) (a b : List ℕ) → total f (a ++ b) ≡ total f a + total f b
 unfolding total
@@ -122,7 +123,7 @@ module _ {R : Rotation} (L : Lawful R) where
       additive (λ p. count p edges) edges (λ p q. count-same p q edges) (λ p q r. count-split p q r edges) (λ e. R .live (2 * e)) (λ e. R .from (2 * e))
       (λ e h l. L .from-there (2 * e) l)
 
-  on-there : (s : ℕ) → s < places → on R s ≡ true → R .there (vertexAt R s) ≡ true
+  on-there : (s : ℕ) → s < places → on R s ≡ true → R .there (placeVertex R s) ≡ true
   on-there s h o = elim (place s) [
     | is-step l ↦ rw (vertex-step R s l) (L .from-there (s / 2) (rw (on-step R s l) at o))
     | is-still l ↦ rw (vertex-still R s l) (L .alone-there _ (rw (on-still R s l) at o))
@@ -132,8 +133,8 @@ module _ {R : Rotation} (L : Lawful R) where
   unfolding placesIn
   faces-sum =
       face-count R L
-      ∙ additive (λ p. faces (trace R) (flip R) places p) places (λ p q. faces-live (trace R) (flip R) places p q)
-      (λ p q r. faces-split (trace R) (flip R) places p q r) (on R) (vertexAt R) on-there
+      ∙ additive (λ p. faceClasses (trace R) (flip R) places p) places (λ p q. faces-live (trace R) (flip R) places p q)
+      (λ p q r. faces-split (trace R) (flip R) places p q r) (on R) (placeVertex R) on-there
       ∙ ap (λ f. total f (parts R)) (fun-ext (λ r. sym (walks-faces L (inPart-kept L r))))
 
 -- "The empty mesh has no parts and Euler number 0": no live vertex, then nothing

@@ -31,10 +31,17 @@ stop-line-requires : tie.Need-stop-line-requires
 stop-line-requires c κs = search needs
 
 array-share-prefix-line : tie.Need-array-share-prefix-line
-array-share-prefix-line c = line-room _ (let k = c .before .before .before .before .struct-known .given in omega arith) (let k = c .before .before .before .before .struct-known .given in omega arith) refl (c .before .stop-line .ensures)
+array-share-prefix-line c =
+    let struct-known = c .before .before .before .before .struct-known in
+    let stop-line = c .before .stop-line in
+    line-room _ (let k = struct-known .given in omega arith) (let k = struct-known .given in omega arith) refl (stop-line .ensures)
 
 slice-aggregate-write-all : tie.Need-slice-aggregate-write-all
-slice-aggregate-write-all c = sym (length-take-le _ _ (line-room _ (let k = c .before .before .before .before .before .struct-known .given in omega arith) (let k = c .before .before .before .before .before .struct-known .given in omega arith) refl (c .before .before .stop-line .ensures)))
+slice-aggregate-write-all c =
+    let struct-known = c .before .before .before .before .before .struct-known in
+    let stop-line = c .before .before .stop-line in
+    sym
+    (length-take-le _ _ (line-room _ (let k = struct-known .given in omega arith) (let k = struct-known .given in omega arith) refl (stop-line .ensures)))
 
 write-all-requires : tie.Need-write-all-requires
 write-all-requires c κs = search needs

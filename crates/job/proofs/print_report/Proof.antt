@@ -45,10 +45,19 @@ report-requires-2 : tie.Need-report-requires-2 Inv-loop μ-loop
 report-requires-2 c κs = c .before .before .before .before .before .before .before .before .before .before .pre
 
 loop-less : tie.Need-loop-less Inv-loop μ-loop
-loop-less c = let h = c .before .before .before .before .before .loop-test .taken in let k = showing-more (c .before .before .before .before .before .before .loop .inv) (c .before .before .before .before .before .loop-test .taken) (c .before .report2 .ensures) in let same = showing-same (c .before .before .before .before .before .before .loop .inv) k in omega arith
+loop-less c =
+    let loop = c .before .before .before .before .before .before .loop in
+    let loop-test = c .before .before .before .before .before .loop-test in
+    let report2 = c .before .report2 in
+    let h = loop-test .taken in
+    let k = showing-more (loop .inv) (loop-test .taken) (report2 .ensures) in let same = showing-same (loop .inv) k in omega arith
 
 loop-again : tie.Need-loop-again Inv-loop μ-loop
-loop-again c = showing-more (c .before .before .before .before .before .before .loop .inv) (c .before .before .before .before .before .loop-test .taken) (c .before .report2 .ensures)
+loop-again c =
+    let loop = c .before .before .before .before .before .before .loop in
+    let loop-test = c .before .before .before .before .before .loop-test in
+    let report2 = c .before .report2 in
+    showing-more (loop .inv) (loop-test .taken) (report2 .ensures)
 
 sub-rest : tie.Need-sub-rest Inv-loop μ-loop
 sub-rest c = c .before .loop .inv .within

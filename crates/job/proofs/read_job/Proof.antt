@@ -24,16 +24,26 @@ slice-aggregate-read-block : tie.Need-slice-aggregate-read-block Inv-loop μ-loo
 slice-aggregate-read-block c = sym (c .before .before .before .before .before .loop .inv .buffer)
 
 read-block-requires : tie.Need-read-block-requires Inv-loop μ-loop
-read-block-requires c κs = let count = c .before .before .before .before .before .loop .inv .count in let h = c .before .before .if2 .taken in (c .before .before .before .before .before .loop .inv .good, c .before .before .before .before .before .loop .inv .buffer, c .before .before .before .before .before .loop .inv .few, omega arith)
+read-block-requires c κs =
+    let loop = c .before .before .before .before .before .loop in
+    let if2 = c .before .before .if2 in
+    let count = loop .inv .count in let h = if2 .taken in (loop .inv .good, loop .inv .buffer, loop .inv .few, omega arith)
 
 add-turns : tie.Need-add-turns Inv-loop μ-loop
 add-turns c = let h = c .before .before .before .before .before .before .if2 .taken in omega arith
 
 loop-less : tie.Need-loop-less Inv-loop μ-loop
-loop-less c = let h = ltb-true (c .before .before .before .before .before .before .before .before .before .loop .turns) (2 ^ 50) (c .before .before .before .before .before .before .if2 .taken) in omega arith
+loop-less c =
+    let loop = c .before .before .before .before .before .before .before .before .before .loop in
+    let if2 = c .before .before .before .before .before .before .if2 in
+    let h = ltb-true (loop .turns) (2 ^ 50) (if2 .taken) in omega arith
 
 loop-again : tie.Need-loop-again Inv-loop μ-loop
-loop-again c = going-more (c .before .before .before .before .before .before .before .before .before .loop .inv) (ltb-true (c .before .before .before .before .before .before .before .before .before .loop .turns) (2 ^ 50) (c .before .before .before .before .before .before .if2 .taken)) (c .before .before .before .read-block .ensures) (c .before .before .before .read-block .kept .0) (c .before .before .before .read-block .kept .1 .0)
+loop-again c =
+    let loop = c .before .before .before .before .before .before .before .before .before .loop in
+    let if2 = c .before .before .before .before .before .before .if2 in
+    let read-block = c .before .before .before .read-block in
+    going-more (loop .inv) (ltb-true (loop .turns) (2 ^ 50) (if2 .taken)) (read-block .ensures) (read-block .kept .0) (read-block .kept .1 .0)
 
 same-length : tie.Need-same-length Inv-loop μ-loop
 same-length c = c .before .before .before .loop .inv .size

@@ -14,13 +14,27 @@ slice-aggregate-run-block : tie.Need-slice-aggregate-run-block
 slice-aggregate-run-block c = search needs
 
 run-block-requires : tie.Need-run-block-requires
-run-block-requires c κs = block-ready (c .before .before .before .before .before .before .args .next) (c .before .before .before .before .before .before .args .n) (c .before .before .before .before .before .before .args .t .now) (c .before .before .before .before .before .before .args .buf .now) (c .before .before .before .large-buffer .result) (c .before .before .before .before .before .before .pre .1) (c .before .before .before .before .before .before .pre .2) (c .before .before .before .before .before .before .pre .3) (c .before .before .before .large-buffer .ensures)
+run-block-requires c κs =
+    let start = c .before .before .before .before .before .before in
+    let large-buffer = c .before .before .before .large-buffer in
+    block-ready (start .args .next) (start .args .n) (start .args .t .now) (start .args .buf .now) (large-buffer .result) (start .pre .1)
+    (start .pre .2) (start .pre .3) (large-buffer .ensures)
 
 array-share-prefix-out : tie.Need-array-share-prefix-out
-array-share-prefix-out c = block-leaves (c .before .before .before .before .before .before .before .before .before .before .before .before .args .next) (c .before .before .before .before .before .before .before .before .before .before .before .before .args .n) (c .before .before .before .before .before .before .before .before .before .before .before .before .args .t .now) (c .before .before .before .before .before .before .before .before .before .before .before .before .args .buf .now) (c .before .before .before .before .before .before .before .before .before .large-buffer .result) (c .before .before .before .before .before .before .before .before .before .before .before .before .pre .1) (c .before .before .before .before .before .before .before .before .before .before .before .before .pre .2) (c .before .before .before .before .before .before .before .before .before .before .before .before .pre .3) (c .before .before .before .before .before .before .before .before .before .large-buffer .ensures) (c .before .before .before .before .before .before .before .before .before .before .before .before .pre .0) (c .before .before .before .before .before .run-block .ensures) .written
+array-share-prefix-out c =
+    let start = c .before .before .before .before .before .before .before .before .before .before .before .before in
+    let large-buffer = c .before .before .before .before .before .before .before .before .before .large-buffer in
+    let run-block = c .before .before .before .before .before .run-block in
+    block-leaves (start .args .next) (start .args .n) (start .args .t .now) (start .args .buf .now) (large-buffer .result) (start .pre .1)
+    (start .pre .2) (start .pre .3) (large-buffer .ensures) (start .pre .0) (run-block .ensures) .written
 
 slice-aggregate-write-all : tie.Need-slice-aggregate-write-all
-slice-aggregate-write-all c = sym (length-take-le _ _ (block-leaves (c .before .before .before .before .before .before .before .before .before .before .before .before .before .args .next) (c .before .before .before .before .before .before .before .before .before .before .before .before .before .args .n) (c .before .before .before .before .before .before .before .before .before .before .before .before .before .args .t .now) (c .before .before .before .before .before .before .before .before .before .before .before .before .before .args .buf .now) (c .before .before .before .before .before .before .before .before .before .before .large-buffer .result) (c .before .before .before .before .before .before .before .before .before .before .before .before .before .pre .1) (c .before .before .before .before .before .before .before .before .before .before .before .before .before .pre .2) (c .before .before .before .before .before .before .before .before .before .before .before .before .before .pre .3) (c .before .before .before .before .before .before .before .before .before .before .large-buffer .ensures) (c .before .before .before .before .before .before .before .before .before .before .before .before .before .pre .0) (c .before .before .before .before .before .before .run-block .ensures) .written))
+slice-aggregate-write-all c =
+    let start = c .before .before .before .before .before .before .before .before .before .before .before .before .before in
+    let large-buffer = c .before .before .before .before .before .before .before .before .before .before .large-buffer in
+    let run-block = c .before .before .before .before .before .before .run-block in
+    sym
+    (length-take-le _ _ (block-leaves (start .args .next) (start .args .n) (start .args .t .now) (start .args .buf .now) (large-buffer .result) (start .pre .1) (start .pre .2) (start .pre .3) (large-buffer .ensures) (start .pre .0) (run-block .ensures) .written))
 
 write-all-requires : tie.Need-write-all-requires
 write-all-requires c κs = search needs
@@ -38,7 +52,13 @@ same-length-2 : tie.Need-same-length-2
 same-length-2 c = search needs
 
 returns : tie.Need-returns
-returns c = let k = block-leaves (c .before .before .before .before .before .before .before .before .before .before .before .before .before .before .before .before .before .before .args .next) (c .before .before .before .before .before .before .before .before .before .before .before .before .before .before .before .before .before .before .args .n) (c .before .before .before .before .before .before .before .before .before .before .before .before .before .before .before .before .before .before .args .t .now) (c .before .before .before .before .before .before .before .before .before .before .before .before .before .before .before .before .before .before .args .buf .now) (c .before .before .before .before .before .before .before .before .before .before .before .before .before .before .before .large-buffer .result) (c .before .before .before .before .before .before .before .before .before .before .before .before .before .before .before .before .before .before .pre .1) (c .before .before .before .before .before .before .before .before .before .before .before .before .before .before .before .before .before .before .pre .2) (c .before .before .before .before .before .before .before .before .before .before .before .before .before .before .before .before .before .before .pre .3) (c .before .before .before .before .before .before .before .before .before .before .before .before .before .before .before .large-buffer .ensures) (c .before .before .before .before .before .before .before .before .before .before .before .before .before .before .before .before .before .before .pre .0) (c .before .before .before .before .before .before .before .before .before .before .before .run-block .ensures) in let e = c .before .before .before .before .before .before .before .before .before .before .before .run-block .ensures in (k .good, k .few, k .next, e .1, e .2, ap (λ (b : Block). b .left) (e .0), ap (λ (b : Block). b .next) (e .0), ap (λ (b : Block). b .stop) (e .0))
+returns c =
+    let start = c .before .before .before .before .before .before .before .before .before .before .before .before .before .before .before .before .before .before in
+    let large-buffer = c .before .before .before .before .before .before .before .before .before .before .before .before .before .before .before .large-buffer in
+    let run-block = c .before .before .before .before .before .before .before .before .before .before .before .run-block in
+    let k = block-leaves (start .args .next) (start .args .n) (start .args .t .now) (start .args .buf .now) (large-buffer .result) (start .pre .1) (start .pre .2) (start .pre .3) (large-buffer .ensures) (start .pre .0) (run-block .ensures) in
+    let e = run-block .ensures in
+    (k .good, k .few, k .next, e .1, e .2, ap (λ (b : Block). b .left) (e .0), ap (λ (b : Block). b .next) (e .0), ap (λ (b : Block). b .stop) (e .0))
 
 same-length-3 : tie.Need-same-length-3
 same-length-3 c = search needs
@@ -47,7 +67,13 @@ same-length-4 : tie.Need-same-length-4
 same-length-4 c = search needs
 
 returns-2 : tie.Need-returns-2
-returns-2 c = let k = block-leaves (c .before .before .before .before .before .before .before .before .before .before .before .before .before .before .before .before .args .next) (c .before .before .before .before .before .before .before .before .before .before .before .before .before .before .before .before .args .n) (c .before .before .before .before .before .before .before .before .before .before .before .before .before .before .before .before .args .t .now) (c .before .before .before .before .before .before .before .before .before .before .before .before .before .before .before .before .args .buf .now) (c .before .before .before .before .before .before .before .before .before .before .before .before .before .large-buffer .result) (c .before .before .before .before .before .before .before .before .before .before .before .before .before .before .before .before .pre .1) (c .before .before .before .before .before .before .before .before .before .before .before .before .before .before .before .before .pre .2) (c .before .before .before .before .before .before .before .before .before .before .before .before .before .before .before .before .pre .3) (c .before .before .before .before .before .before .before .before .before .before .before .before .before .large-buffer .ensures) (c .before .before .before .before .before .before .before .before .before .before .before .before .before .before .before .before .pre .0) (c .before .before .before .before .before .before .before .before .before .run-block .ensures) in let e = c .before .before .before .before .before .before .before .before .before .run-block .ensures in (k .good, k .few, k .next, e .1, e .2, ap (λ (b : Block). b .left) (e .0), ap (λ (b : Block). b .next) (e .0), ap (λ (b : Block). b .stop) (e .0))
+returns-2 c =
+    let start = c .before .before .before .before .before .before .before .before .before .before .before .before .before .before .before .before in
+    let large-buffer = c .before .before .before .before .before .before .before .before .before .before .before .before .before .large-buffer in
+    let run-block = c .before .before .before .before .before .before .before .before .before .run-block in
+    let k = block-leaves (start .args .next) (start .args .n) (start .args .t .now) (start .args .buf .now) (large-buffer .result) (start .pre .1) (start .pre .2) (start .pre .3) (large-buffer .ensures) (start .pre .0) (run-block .ensures) in
+    let e = run-block .ensures in
+    (k .good, k .few, k .next, e .1, e .2, ap (λ (b : Block). b .left) (e .0), ap (λ (b : Block). b .next) (e .0), ap (λ (b : Block). b .stop) (e .0))
 
 pub run-and-print-spec : {M : Type 1} → statement M
 run-and-print-spec =

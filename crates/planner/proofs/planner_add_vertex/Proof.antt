@@ -17,7 +17,9 @@ same-length : tie.Need-same-length
 same-length c = search needs
 
 returns : tie.Need-returns
-returns c = (handed-on (c .code .ok) (c .code .ensures ∙ ap codeOf (c .before .before .before .add-vertex .ensures .0)), c .before .before .before .add-vertex .ensures .1)
+returns c =
+    let add-vertex = c .before .before .before .add-vertex in
+    (handed-on (c .code .ok) (c .code .ensures ∙ ap codeOf (add-vertex .ensures .0)), add-vertex .ensures .1)
 
 pub planner-add-vertex-spec : {M : Type 1} → statement M
 planner-add-vertex-spec =

@@ -17,7 +17,9 @@ same-length : tie.Need-same-length
 same-length c = search needs
 
 returns : tie.Need-returns
-returns c = (handed-on (c .code .ok) (c .code .ensures ∙ ap codeOf (c .before .before .before .delete-edge .ensures .0)), c .before .before .before .delete-edge .ensures .1)
+returns c =
+    let delete-edge = c .before .before .before .delete-edge in
+    (handed-on (c .code .ok) (c .code .ensures ∙ ap codeOf (delete-edge .ensures .0)), delete-edge .ensures .1)
 
 pub planner-delete-edge-spec : {M : Type 1} → statement M
 planner-delete-edge-spec =

@@ -17,7 +17,9 @@ same-length : tie.Need-same-length
 same-length c = search needs
 
 returns : tie.Need-returns
-returns c = (handed-on (c .code .ok) (c .code .ensures ∙ ap codeOf (c .before .before .before .empty .ensures .0)), c .before .before .before .empty .ensures .1)
+returns c =
+    let empty = c .before .before .before .empty in
+    (handed-on (c .code .ok) (c .code .ensures ∙ ap codeOf (empty .ensures .0)), empty .ensures .1)
 
 pub planner-empty-spec : {M : Type 1} → statement M
 planner-empty-spec = tie.close (tie.spec empty-requires code-requires same-length returns)

@@ -19,7 +19,9 @@ same-length-2 : tie.Need-same-length-2
 same-length-2 c = search needs
 
 returns : tie.Need-returns
-returns c = (handed-on (c .code .ok) (c .code .ensures ∙ ap codeOf (c .before .before .before .before .before .float-path .ensures .0)), c .before .before .before .before .before .float-path .ensures .1, c .before .before .before .before .before .float-path .ensures .2)
+returns c =
+    let float-path = c .before .before .before .before .before .float-path in
+    (handed-on (c .code .ok) (c .code .ensures ∙ ap codeOf (float-path .ensures .0)), float-path .ensures .1, float-path .ensures .2)
 
 pub planner-float-path-spec : {M : Type 1} → statement M
 planner-float-path-spec =

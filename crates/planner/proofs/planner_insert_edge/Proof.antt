@@ -18,7 +18,10 @@ same-length : tie.Need-same-length
 same-length c = search needs
 
 returns : tie.Need-returns
-returns c = let q = same-insertion _ _ _ _ (c .before .before .before .before .before .before .args .e) (c .before .before .before .before .before .before .args .c1) (c .before .before .before .before .before .before .args .c2) (c .before .before .before .before .before .before .args .k) (c .before .before .before .before .before .before .fits .k) refl (c .before .before .before .insert-edge .ensures) in
+returns c =
+    let start = c .before .before .before .before .before .before in
+    let insert-edge = c .before .before .before .insert-edge in
+    let q = same-insertion _ _ _ _ (start .args .e) (start .args .c1) (start .args .c2) (start .args .k) (start .fits .k) refl (insert-edge .ensures) in
     (handed-on (c .code .ok) (c .code .ensures ∙ ap codeOf (q .0)), q .1)
 
 pub planner-insert-edge-spec : {M : Type 1} → statement M

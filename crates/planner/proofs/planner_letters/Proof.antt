@@ -17,7 +17,9 @@ same-length : tie.Need-same-length
 same-length c = search needs
 
 returns : tie.Need-returns
-returns c = (handed-on (c .code .ok) (c .code .ensures ∙ ap codeOf (c .before .before .before .letters .ensures .0)), c .before .before .before .letters .ensures .1)
+returns c =
+    let letters = c .before .before .before .letters in
+    (handed-on (c .code .ok) (c .code .ensures ∙ ap codeOf (letters .ensures .0)), letters .ensures .1)
 
 pub planner-letters-spec : {M : Type 1} → statement M
 planner-letters-spec = tie.close (tie.spec letters-requires code-requires same-length returns)

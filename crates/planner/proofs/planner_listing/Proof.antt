@@ -17,7 +17,9 @@ same-length : tie.Need-same-length
 same-length c = search needs
 
 returns : tie.Need-returns
-returns c = (handed-on (c .code .ok) (c .code .ensures ∙ ap codeOf (c .before .before .before .list .ensures .0)), c .before .before .before .list .ensures .1)
+returns c =
+    let list = c .before .before .before .list in
+    (handed-on (c .code .ok) (c .code .ensures ∙ ap codeOf (list .ensures .0)), list .ensures .1)
 
 pub planner-listing-spec : {M : Type 1} → statement M
 planner-listing-spec = tie.close (tie.spec list-requires code-requires same-length returns)

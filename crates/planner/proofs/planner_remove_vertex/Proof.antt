@@ -17,7 +17,9 @@ same-length : tie.Need-same-length
 same-length c = search needs
 
 returns : tie.Need-returns
-returns c = (handed-on (c .code .ok) (c .code .ensures ∙ ap codeOf (c .before .before .before .remove-vertex .ensures .0)), c .before .before .before .remove-vertex .ensures .1)
+returns c =
+    let remove-vertex = c .before .before .before .remove-vertex in
+    (handed-on (c .code .ok) (c .code .ensures ∙ ap codeOf (remove-vertex .ensures .0)), remove-vertex .ensures .1)
 
 pub planner-remove-vertex-spec : {M : Type 1} → statement M
 planner-remove-vertex-spec =

@@ -18,7 +18,10 @@ same-length : tie.Need-same-length
 same-length c = search needs
 
 returns : tie.Need-returns
-returns c = let q = same-turn _ _ _ _ (c .before .before .before .before .before .before .args .e) (c .before .before .before .before .before .before .args .amount) (c .before .before .before .before .before .before .fits .amount) refl (c .before .before .before .turn-edge .ensures) in
+returns c =
+    let start = c .before .before .before .before .before .before in
+    let turn-edge = c .before .before .before .turn-edge in
+    let q = same-turn _ _ _ _ (start .args .e) (start .args .amount) (start .fits .amount) refl (turn-edge .ensures) in
     (handed-on (c .code .ok) (c .code .ensures ∙ ap codeOf (q .0)), q .1)
 
 pub planner-turn-edge-spec : {M : Type 1} → statement M

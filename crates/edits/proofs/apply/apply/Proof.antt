@@ -51,7 +51,12 @@ same-length-3 : tie.Need-same-length-3
 same-length-3 c = search needs
 
 returns-3 : tie.Need-returns-3
-returns-3 c = same-insertion _ _ _ _ (c .before .before .before .before .before .edit3 .given .0 .0) (c .before .before .before .before .before .edit3 .given .0 .1 .0) (c .before .before .before .before .before .edit3 .given .0 .1 .1 .0) (c .before .before .before .before .before .edit3 .given .0 .1 .1 .1 .0) (record { sfits = c .before .before .before .before .known-told3 .given .1 .1 .1 .0 .1 }) (c .before .before .before .before .before .edit3 .given .1) (c .before .before .insert-edge .ensures)
+returns-3 c =
+    let edit3 = c .before .before .before .before .before .edit3 in
+    let known-told3 = c .before .before .before .before .known-told3 in
+    let insert-edge = c .before .before .insert-edge in
+    same-insertion _ _ _ _ (edit3 .given .0 .0) (edit3 .given .0 .1 .0) (edit3 .given .0 .1 .1 .0) (edit3 .given .0 .1 .1 .1 .0)
+    (record { sfits = known-told3 .given .1 .1 .1 .0 .1 }) (edit3 .given .1) (insert-edge .ensures)
 
 same-length-4 : tie.Need-same-length-4
 same-length-4 c = search needs
@@ -63,7 +68,12 @@ same-length-5 : tie.Need-same-length-5
 same-length-5 c = search needs
 
 returns-5 : tie.Need-returns-5
-returns-5 c = same-turn _ _ _ _ (c .before .before .before .before .before .edit5 .given .0 .0) (c .before .before .before .before .before .edit5 .given .0 .1 .0) (record { sfits = c .before .before .before .before .known-told5 .given .1 .0 .1 }) (c .before .before .before .before .before .edit5 .given .1) (c .before .before .turn-edge .ensures)
+returns-5 c =
+    let edit5 = c .before .before .before .before .before .edit5 in
+    let known-told5 = c .before .before .before .before .known-told5 in
+    let turn-edge = c .before .before .turn-edge in
+    same-turn _ _ _ _ (edit5 .given .0 .0) (edit5 .given .0 .1 .0) (record { sfits = known-told5 .given .1 .0 .1 }) (edit5 .given .1)
+    (turn-edge .ensures)
 
 pub apply-spec : {M : Type 1} → statement M
 apply-spec =

@@ -37,7 +37,11 @@ same-length : tie.Need-same-length
 same-length c = simp length-set (c .before .before .unlink2 .kept .0 ∙ c .before .before .before .before .before .before .unlink .kept .0)
 
 returns : tie.Need-returns
-returns c = delete-last (now (c .before .before .before .before .before .before .before .before .before .args .t)) (c .before .before .before .before .before .before .unlink .last .0) (c .before .before .unlink2 .last .0) (c .before .before .before .before .before .before .before .before .before .args .e) (c .before .before .before .before .before .before .unlink .ensures) (c .before .before .unlink2 .ensures)
+returns c =
+    let start = c .before .before .before .before .before .before .before .before .before in
+    let unlink = c .before .before .before .before .before .before .unlink in
+    let unlink2 = c .before .before .unlink2 in
+    delete-last (now (start .args .t)) (unlink .last .0) (unlink2 .last .0) (start .args .e) (unlink .ensures) (unlink2 .ensures)
 
 pub delete-spec : {M : Type 1} → statement M
 delete-spec =

@@ -21,22 +21,39 @@ enum-told : tie.Need-enum-told
 enum-told c = search needs
 
 delete-requires : tie.Need-delete-requires
-delete-requires c κs = may-delete-ready _ _ (may-delete _ _ (sym (c .before .before .before .delete-verdict .ensures) ∙ c .before .enum-told .given .1))
+delete-requires c κs =
+    let delete-verdict = c .before .before .before .delete-verdict in
+    let enum-told = c .before .enum-told in
+    may-delete-ready _ _ (may-delete _ _ (sym (delete-verdict .ensures) ∙ enum-told .given .1))
 
 face-count-requires : tie.Need-face-count-requires
-face-count-requires c κs = subst Good (sym (c .before .before .before .delete .ensures)) (delete-good _ _ (may-delete _ _ (sym (c .before .before .before .before .before .before .before .delete-verdict .ensures) ∙ c .before .before .before .before .before .enum-told .given .1)))
+face-count-requires c κs =
+    let delete-verdict = c .before .before .before .before .before .before .before .delete-verdict in
+    let enum-told = c .before .before .before .before .before .enum-told in
+    let delete = c .before .before .before .delete in
+    subst Good (sym (delete .ensures)) (delete-good _ _ (may-delete _ _ (sym (delete-verdict .ensures) ∙ enum-told .given .1)))
 
 same-length : tie.Need-same-length
 same-length c = search needs
 
 returns : tie.Need-returns
-returns c = was-declined (now (c .before .before .before .before .before .before .args .t)) (DeleteEdge (c .before .before .before .before .before .before .args .e)) _ (sym (c .before .before .before .delete-verdict .ensures) ∙ c .before .r .given .1)
+returns c =
+    let start = c .before .before .before .before .before .before in
+    let delete-verdict = c .before .before .before .delete-verdict in
+    let r = c .before .r in
+    was-declined (now (start .args .t)) (DeleteEdge (start .args .e)) _ (sym (delete-verdict .ensures) ∙ r .given .1)
 
 same-length-2 : tie.Need-same-length-2
 same-length-2 c = search needs
 
 returns-2 : tie.Need-returns-2
-returns-2 c = went-through (now (c .before .before .before .before .before .before .before .before .before .before .before .args .t)) (DeleteEdge (c .before .before .before .before .before .before .before .before .before .before .before .args .e)) _ _ (sym (c .before .before .before .before .before .before .before .before .delete-verdict .ensures) ∙ c .before .before .before .before .before .before .enum-told .given .1) (c .before .before .before .before .delete .ensures) (c .face-count .ensures)
+returns-2 c =
+    let start = c .before .before .before .before .before .before .before .before .before .before .before in
+    let delete-verdict = c .before .before .before .before .before .before .before .before .delete-verdict in
+    let enum-told = c .before .before .before .before .before .before .enum-told in
+    let delete = c .before .before .before .before .delete in
+    went-through (now (start .args .t)) (DeleteEdge (start .args .e)) _ _ (sym (delete-verdict .ensures) ∙ enum-told .given .1) (delete .ensures)
+    (c .face-count .ensures)
 
 pub delete-edge-spec : {M : Type 1} → statement M
 delete-edge-spec =

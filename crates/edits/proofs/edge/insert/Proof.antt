@@ -25,7 +25,11 @@ mul-link-2 : tie.Need-mul-link-2
 mul-link-2 c = search needs
 
 link-requires-2 : tie.Need-link-requires-2
-link-requires-2 c κs = ready-first (c .before .before .before .before .before .before .before .pre) (c .before .before .before .before .link .ensures) (c .before .first-corner .ensures)
+link-requires-2 c κs =
+    let start = c .before .before .before .before .before .before .before in
+    let link = c .before .before .before .before .link in
+    let first-corner = c .before .first-corner in
+    ready-first (start .pre) (link .ensures) (first-corner .ensures)
 
 add-t : tie.Need-add-t
 add-t c = search needs
@@ -40,7 +44,13 @@ same-length : tie.Need-same-length
 same-length c = simp length-set (c .before .before .link2 .kept .0 ∙ c .before .before .before .before .before .before .before .link .kept .0)
 
 returns : tie.Need-returns
-returns c = insert-last (now (c .before .before .before .before .before .before .before .before .before .before .args .t)) (c .before .before .before .before .before .before .before .link .last .0) (c .before .before .link2 .last .0) (c .before .before .before .before .before .before .before .before .before .before .args .e) (c .before .before .before .before .before .before .before .before .before .before .args .c1) (c .before .before .before .before .before .before .before .before .before .before .args .c2) (c .before .before .before .before .first-corner .result) (c .before .before .before .before .before .before .before .before .before .before .args .w) (c .before .before .before .before .before .before .before .link .ensures) (c .before .before .before .before .first-corner .ensures) (c .before .before .link2 .ensures)
+returns c =
+    let start = c .before .before .before .before .before .before .before .before .before .before in
+    let link = c .before .before .before .before .before .before .before .link in
+    let first-corner = c .before .before .before .before .first-corner in
+    let link2 = c .before .before .link2 in
+    insert-last (now (start .args .t)) (link .last .0) (link2 .last .0) (start .args .e) (start .args .c1) (start .args .c2) (first-corner .result)
+    (start .args .w) (link .ensures) (first-corner .ensures) (link2 .ensures)
 
 pub insert-spec : {M : Type 1} → statement M
 insert-spec =

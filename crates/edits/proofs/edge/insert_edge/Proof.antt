@@ -26,32 +26,55 @@ turned-word-requires : tie.Need-turned-word-requires
 turned-word-requires c κs = search needs
 
 insert-requires : tie.Need-insert-requires
-insert-requires c κs = let t = now (c .before .before .before .before .before .before .before .args .t) in
-    may-insert-ready t _ _ _ (c .before .before .before .before .before .before .before .args .k) (may-insert t _ _ _ (c .before .before .before .before .before .before .before .args .k) (insert-on t _ _ _ (c .before .before .before .before .before .before .before .args .k) (c .before .before .before .before .before .before .before .fits .k) (c .before .before .before .before .insert-verdict .ensures) (c .before .before .enum-told .given .1)))
+insert-requires c κs =
+    let start = c .before .before .before .before .before .before .before in
+    let insert-verdict = c .before .before .before .before .insert-verdict in
+    let enum-told = c .before .before .enum-told in
+    let t = now (start .args .t) in
+    may-insert-ready t _ _ _ (start .args .k)
+    (may-insert t _ _ _ (start .args .k) (insert-on t _ _ _ (start .args .k) (start .fits .k) (insert-verdict .ensures) (enum-told .given .1)))
 
 face-count-requires : tie.Need-face-count-requires
-face-count-requires c κs = let t = now (c .before .before .before .before .before .before .before .before .before .before .before .args .t) in
-    let k = c .before .before .before .before .before .before .before .before .before .before .before .args .k in
-    let m = may-insert t _ _ _ k (insert-on t _ _ _ k (c .before .before .before .before .before .before .before .before .before .before .before .fits .k) (c .before .before .before .before .before .before .before .before .insert-verdict .ensures) (c .before .before .before .before .before .before .enum-told .given .1)) in
-    let e = c .before .before .before .insert .ensures ∙ ap (inserted t (c .before .before .before .before .before .before .before .before .before .before .before .args .e) (c .before .before .before .before .before .before .before .before .before .before .before .args .c1) (c .before .before .before .before .before .before .before .before .before .before .before .args .c2)) (amount-on 100 k (c .before .before .before .before .before .before .before .before .before .before .before .fits .k) (c .before .before .before .before .before .turned-word .ensures)) in
+face-count-requires c κs =
+    let start = c .before .before .before .before .before .before .before .before .before .before .before in
+    let insert-verdict = c .before .before .before .before .before .before .before .before .insert-verdict in
+    let enum-told = c .before .before .before .before .before .before .enum-told in
+    let turned-word = c .before .before .before .before .before .turned-word in
+    let insert = c .before .before .before .insert in
+    let t = now (start .args .t) in
+    let k = start .args .k in
+    let m = may-insert t _ _ _ k (insert-on t _ _ _ k (start .fits .k) (insert-verdict .ensures) (enum-told .given .1)) in
+    let e = insert .ensures ∙ ap (inserted t (start .args .e) (start .args .c1) (start .args .c2)) (amount-on 100 k (start .fits .k) (turned-word .ensures)) in
     subst Good (sym e) (insert-good t _ _ _ k m)
 
 same-length : tie.Need-same-length
 same-length c = search needs
 
 returns : tie.Need-returns
-returns c = let t = now (c .before .before .before .before .before .before .args .t) in
-    let k = c .before .before .before .before .before .before .args .k in
-    was-declined t (InsertEdge (c .before .before .before .before .before .before .args .e) (c .before .before .before .before .before .before .args .c1) (c .before .before .before .before .before .before .args .c2) k) _ (insert-on t _ _ _ k (c .before .before .before .before .before .before .fits .k) (c .before .before .before .insert-verdict .ensures) (c .before .r .given .1))
+returns c =
+    let start = c .before .before .before .before .before .before in
+    let insert-verdict = c .before .before .before .insert-verdict in
+    let r = c .before .r in
+    let t = now (start .args .t) in
+    let k = start .args .k in
+    was-declined t (InsertEdge (start .args .e) (start .args .c1) (start .args .c2) k) _
+    (insert-on t _ _ _ k (start .fits .k) (insert-verdict .ensures) (r .given .1))
 
 same-length-2 : tie.Need-same-length-2
 same-length-2 c = search needs
 
 returns-2 : tie.Need-returns-2
-returns-2 c = let t = now (c .before .before .before .before .before .before .before .before .before .before .before .before .args .t) in
-    let k = c .before .before .before .before .before .before .before .before .before .before .before .before .args .k in
-    let e = c .before .before .before .before .insert .ensures ∙ ap (inserted t (c .before .before .before .before .before .before .before .before .before .before .before .before .args .e) (c .before .before .before .before .before .before .before .before .before .before .before .before .args .c1) (c .before .before .before .before .before .before .before .before .before .before .before .before .args .c2)) (amount-on 100 k (c .before .before .before .before .before .before .before .before .before .before .before .before .fits .k) (c .before .before .before .before .before .before .turned-word .ensures)) in
-    went-through t (InsertEdge (c .before .before .before .before .before .before .before .before .before .before .before .before .args .e) (c .before .before .before .before .before .before .before .before .before .before .before .before .args .c1) (c .before .before .before .before .before .before .before .before .before .before .before .before .args .c2) k) _ _ (insert-on t _ _ _ k (c .before .before .before .before .before .before .before .before .before .before .before .before .fits .k) (c .before .before .before .before .before .before .before .before .before .insert-verdict .ensures) (c .before .before .before .before .before .before .before .enum-told .given .1)) e (c .face-count .ensures)
+returns-2 c =
+    let start = c .before .before .before .before .before .before .before .before .before .before .before .before in
+    let insert-verdict = c .before .before .before .before .before .before .before .before .before .insert-verdict in
+    let enum-told = c .before .before .before .before .before .before .before .enum-told in
+    let turned-word = c .before .before .before .before .before .before .turned-word in
+    let insert = c .before .before .before .before .insert in
+    let t = now (start .args .t) in
+    let k = start .args .k in
+    let e = insert .ensures ∙ ap (inserted t (start .args .e) (start .args .c1) (start .args .c2)) (amount-on 100 k (start .fits .k) (turned-word .ensures)) in
+    went-through t (InsertEdge (start .args .e) (start .args .c1) (start .args .c2) k) _ _
+    (insert-on t _ _ _ k (start .fits .k) (insert-verdict .ensures) (enum-told .given .1)) e (c .face-count .ensures)
 
 pub insert-edge-spec : {M : Type 1} → statement M
 insert-edge-spec =

@@ -31,7 +31,11 @@ mul-turned-word : tie.Need-mul-turned-word
 mul-turned-word c = search needs
 
 slice-read-turned-word : tie.Need-slice-read-turned-word
-slice-read-turned-word c = let m = may-turn _ _ (c .before .before .before .before .before .before .args .amount) (turn-on (now (c .before .before .before .before .before .before .args .t)) _ (c .before .before .before .before .before .before .args .amount) (c .before .before .before .before .before .before .fits .amount) (c .before .before .before .turn-verdict .ensures) (c .before .enum-told .given .1)) in
+slice-read-turned-word c =
+    let start = c .before .before .before .before .before .before in
+    let turn-verdict = c .before .before .before .turn-verdict in
+    let enum-told = c .before .enum-told in
+    let m = may-turn _ _ (start .args .amount) (turn-on (now (start .args .t)) _ (start .args .amount) (start .fits .amount) (turn-verdict .ensures) (enum-told .given .1)) in
     let size = m .good .size in
     let low = m .low in
     omega arith
@@ -46,34 +50,53 @@ mul-t : tie.Need-mul-t
 mul-t c = search needs
 
 slice-write-t : tie.Need-slice-write-t
-slice-write-t c = let m = may-turn _ _ (c .before .before .before .before .before .before .before .args .amount) (turn-on (now (c .before .before .before .before .before .before .before .args .t)) _ (c .before .before .before .before .before .before .before .args .amount) (c .before .before .before .before .before .before .before .fits .amount) (c .before .before .before .before .turn-verdict .ensures) (c .before .before .enum-told .given .1)) in
+slice-write-t c =
+    let start = c .before .before .before .before .before .before .before in
+    let turn-verdict = c .before .before .before .before .turn-verdict in
+    let enum-told = c .before .before .enum-told in
+    let m = may-turn _ _ (start .args .amount) (turn-on (now (start .args .t)) _ (start .args .amount) (start .fits .amount) (turn-verdict .ensures) (enum-told .given .1)) in
     let size = m .good .size in
     let low = m .low in
     omega arith
 
 face-count-requires : tie.Need-face-count-requires
-face-count-requires c κs = let t = now (c .before .before .before .before .before .before .before .before .args .t) in
-    let a = c .before .before .before .before .before .before .before .before .args .amount in
-    let m = may-turn t _ a (turn-on t _ a (c .before .before .before .before .before .before .before .before .fits .amount) (c .before .before .before .before .before .turn-verdict .ensures) (c .before .before .before .enum-told .given .1)) in
-    let e = ap (setEdge t (c .before .before .before .before .before .before .before .before .args .e)) (amount-on (edgeWord t (c .before .before .before .before .before .before .before .before .args .e)) a (c .before .before .before .before .before .before .before .before .fits .amount) (c .before .turned-word .ensures)) in
+face-count-requires c κs =
+    let start = c .before .before .before .before .before .before .before .before in
+    let turn-verdict = c .before .before .before .before .before .turn-verdict in
+    let enum-told = c .before .before .before .enum-told in
+    let turned-word = c .before .turned-word in
+    let t = now (start .args .t) in
+    let a = start .args .amount in
+    let m = may-turn t _ a (turn-on t _ a (start .fits .amount) (turn-verdict .ensures) (enum-told .given .1)) in
+    let e = ap (setEdge t (start .args .e)) (amount-on (edgeWord t (start .args .e)) a (start .fits .amount) (turned-word .ensures)) in
     subst Good (sym e) (turn-good t _ a m)
 
 same-length : tie.Need-same-length
 same-length c = search needs
 
 returns : tie.Need-returns
-returns c = let t = now (c .before .before .before .before .before .before .args .t) in
-    let a = c .before .before .before .before .before .before .args .amount in
-    was-declined t (TurnEdge (c .before .before .before .before .before .before .args .e) a) _ (turn-on t _ a (c .before .before .before .before .before .before .fits .amount) (c .before .before .before .turn-verdict .ensures) (c .before .r .given .1))
+returns c =
+    let start = c .before .before .before .before .before .before in
+    let turn-verdict = c .before .before .before .turn-verdict in
+    let r = c .before .r in
+    let t = now (start .args .t) in
+    let a = start .args .amount in
+    was-declined t (TurnEdge (start .args .e) a) _ (turn-on t _ a (start .fits .amount) (turn-verdict .ensures) (r .given .1))
 
 same-length-2 : tie.Need-same-length-2
 same-length-2 c = search needs
 
 returns-2 : tie.Need-returns-2
-returns-2 c = let t = now (c .before .before .before .before .before .before .before .before .before .args .t) in
-    let a = c .before .before .before .before .before .before .before .before .before .args .amount in
-    let e = ap (setEdge t (c .before .before .before .before .before .before .before .before .before .args .e)) (amount-on (edgeWord t (c .before .before .before .before .before .before .before .before .before .args .e)) a (c .before .before .before .before .before .before .before .before .before .fits .amount) (c .before .before .turned-word .ensures)) in
-    went-through t (TurnEdge (c .before .before .before .before .before .before .before .before .before .args .e) a) _ _ (turn-on t _ a (c .before .before .before .before .before .before .before .before .before .fits .amount) (c .before .before .before .before .before .before .turn-verdict .ensures) (c .before .before .before .before .enum-told .given .1)) e (c .face-count .ensures)
+returns-2 c =
+    let start = c .before .before .before .before .before .before .before .before .before in
+    let turn-verdict = c .before .before .before .before .before .before .turn-verdict in
+    let enum-told = c .before .before .before .before .enum-told in
+    let turned-word = c .before .before .turned-word in
+    let t = now (start .args .t) in
+    let a = start .args .amount in
+    let e = ap (setEdge t (start .args .e)) (amount-on (edgeWord t (start .args .e)) a (start .fits .amount) (turned-word .ensures)) in
+    went-through t (TurnEdge (start .args .e) a) _ _ (turn-on t _ a (start .fits .amount) (turn-verdict .ensures) (enum-told .given .1)) e
+    (c .face-count .ensures)
 
 pub turn-edge-spec : {M : Type 1} → statement M
 turn-edge-spec =

@@ -40,19 +40,30 @@ mul-lesser : tie.Need-mul-lesser
 mul-lesser c = let v = c .before .before .before .before .pre .leaves-low (c .before .before .if1 .taken) in omega arith
 
 slice-read-lesser : tie.Need-slice-read-lesser
-slice-read-lesser c = let v = c .before .before .before .before .before .pre .leaves-low (c .before .before .before .if1 .taken) in let s = c .before .before .before .before .before .pre .size in omega arith
+slice-read-lesser c =
+    let start = c .before .before .before .before .before in
+    let if1 = c .before .before .before .if1 in
+    let v = start .pre .leaves-low (if1 .taken) in let s = start .pre .size in omega arith
 
 lesser-requires : tie.Need-lesser-requires
 lesser-requires c κs = search needs
 
 splice-requires : tie.Need-splice-requires
-splice-requires c κs = record { size = c .before .before .before .before .before .before .before .pre .size; x-low = c .before .before .before .before .before .before .before .pre .x-low; d-low = c .before .before .before .before .before .if1 .taken; p-low = c .before .before .before .before .before .before .before .pre .prev-low (c .before .before .before .before .before .if1 .taken); v-low = c .before .before .before .before .before .before .before .pre .leaves-low (c .before .before .before .before .before .if1 .taken) }
+splice-requires c κs =
+    let start = c .before .before .before .before .before .before .before in
+    let if1 = c .before .before .before .before .before .if1 in
+    record { size = start .pre .size; x-low = start .pre .x-low; d-low = if1 .taken; p-low = start .pre .prev-low (if1 .taken); v-low = start .pre .leaves-low (if1 .taken) }
 
 same-length : tie.Need-same-length
 same-length c = search needs
 
 returns : tie.Need-returns
-returns c = c .before .before .splice .ensures ∙ dart-link (now (c .before .before .before .before .before .before .before .before .before .before .args .t)) (c .before .before .before .before .before .before .before .before .before .before .args .x) (c .before .before .before .before .before .before .before .before .before .before .args .c) (c .before .before .before .before .lesser .result) (c .before .before .before .before .before .before .before .before .if1 .taken) (c .before .before .before .before .lesser .ensures)
+returns c =
+    let start = c .before .before .before .before .before .before .before .before .before .before in
+    let if1 = c .before .before .before .before .before .before .before .before .if1 in
+    let lesser = c .before .before .before .before .lesser in
+    let splice = c .before .before .splice in
+    splice .ensures ∙ dart-link (now (start .args .t)) (start .args .x) (start .args .c) (lesser .result) (if1 .taken) (lesser .ensures)
 
 sub-splice : tie.Need-sub-splice
 sub-splice c = c .before .before .before .pre .lone (c .before .if1 .left)
@@ -61,7 +72,10 @@ cast-splice : tie.Need-cast-splice
 cast-splice c = search needs
 
 splice-requires-2 : tie.Need-splice-requires-2
-splice-requires-2 c κs = let x = c .before .before .before .pre .x-low in record { size = c .before .before .before .pre .size; x-low = x; d-low = x; p-low = x; v-low = c .before .before .before .pre .lone-low (c .before .if1 .left) }
+splice-requires-2 c κs =
+    let start = c .before .before .before in
+    let if1 = c .before .if1 in
+    let x = start .pre .x-low in record { size = start .pre .size; x-low = x; d-low = x; p-low = x; v-low = start .pre .lone-low (if1 .left) }
 
 same-length-2 : tie.Need-same-length-2
 same-length-2 c = search needs

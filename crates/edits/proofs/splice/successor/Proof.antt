@@ -37,7 +37,11 @@ cast-result : tie.Need-cast-result Inv-loop μ-loop
 cast-result c = omega arith
 
 returns-2 : tie.Need-returns-2 Inv-loop μ-loop
-returns-2 c = simp (eq-eqb _ _ (c .before .before .before .before .if1 .left)) (seeking-here _ _ _ _ (c .before .before .before .loop .inv) (c .before .before .loop-test .taken) (c .if2 .taken))
+returns-2 c =
+    let if1 = c .before .before .before .before .if1 in
+    let loop = c .before .before .before .loop in
+    let loop-test = c .before .before .loop-test in
+    simp (eq-eqb _ _ (if1 .left)) (seeking-here _ _ _ _ (loop .inv) (loop-test .taken) (c .if2 .taken))
 
 add-d : tie.Need-add-d Inv-loop μ-loop
 add-d c = omega arith

@@ -67,7 +67,10 @@ same-length : tie.Need-same-length
 same-length c = search needs
 
 returns : tie.Need-returns
-returns c = unlink-last (now (c .before .before .before .before .before .before .before .before .before .before .before .args .t)) (c .before .before .before .before .cut .last .0) (c .before .before .before .before .before .before .before .before .before .before .before .args .x) (c .successor .result) (c .before .before .before .before .cut .ensures) (c .successor .ensures)
+returns c =
+    let start = c .before .before .before .before .before .before .before .before .before .before .before in
+    let cut = c .before .before .before .before .cut in
+    unlink-last (now (start .args .t)) (cut .last .0) (start .args .x) (c .successor .result) (cut .ensures) (c .successor .ensures)
 
 pub unlink-spec : {M : Type 1} → statement M
 unlink-spec =

@@ -21,8 +21,10 @@ cast-turns-2 : tie.Need-cast-turns-2
 cast-turns-2 c = rw (toZ-ofZ {w = w16} (c .fits .amount)) (amount-fits (c .args .w) (c .args .amount) (c .fits .w .fits) (c .fits .amount .sfits))
 
 add-turns : tie.Need-add-turns
-add-turns c = let h = c .fits .w .fits in let l = c .fits .amount .sfits in
-    rw (settle-word (c .args .w) (c .args .amount) h l, settle-amount (c .args .w) (c .args .amount) h l (c .fits .amount)) (sum-fits (c .args .w) (c .args .amount) h l)
+add-turns c =
+    let h = c .fits .w .fits in let l = c .fits .amount .sfits in
+    rw (settle-word (c .args .w) (c .args .amount) h l, settle-amount (c .args .w) (c .args .amount) h l (c .fits .amount))
+    (sum-fits (c .args .w) (c .args .amount) h l)
 
 returns : tie.Need-returns
 returns c = let w = c .before .args .w in

@@ -39,13 +39,22 @@ same-length : tie.Need-same-length
 same-length c = search needs
 
 returns : tie.Need-returns
-returns c = was-declined (now (c .before .before .before .before .before .before .args .t)) (AddVertex (c .before .before .before .before .before .before .args .v)) _ (sym (c .before .before .before .add-verdict .ensures) ∙ c .before .r .given .1)
+returns c =
+    let start = c .before .before .before .before .before .before in
+    let add-verdict = c .before .before .before .add-verdict in
+    let r = c .before .r in
+    was-declined (now (start .args .t)) (AddVertex (start .args .v)) _ (sym (add-verdict .ensures) ∙ r .given .1)
 
 same-length-2 : tie.Need-same-length-2
 same-length-2 c = search needs
 
 returns-2 : tie.Need-returns-2
-returns-2 c = went-through (now (c .before .before .before .before .before .before .before .args .t)) (AddVertex (c .before .before .before .before .before .before .before .args .v)) _ _ (sym (c .before .before .before .before .add-verdict .ensures) ∙ c .before .before .enum-told .given .1) refl (c .face-count .ensures)
+returns-2 c =
+    let start = c .before .before .before .before .before .before .before in
+    let add-verdict = c .before .before .before .before .add-verdict in
+    let enum-told = c .before .before .enum-told in
+    went-through (now (start .args .t)) (AddVertex (start .args .v)) _ _ (sym (add-verdict .ensures) ∙ enum-told .given .1) refl
+    (c .face-count .ensures)
 
 pub add-vertex-spec : {M : Type 1} → statement M
 add-vertex-spec =

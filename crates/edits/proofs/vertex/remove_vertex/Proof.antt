@@ -33,19 +33,31 @@ slice-write-t c = let m = may-remove _ _ (sym (c .before .before .remove-verdict
     omega arith
 
 face-count-requires : tie.Need-face-count-requires
-face-count-requires c κs = remove-good _ _ (may-remove _ _ (sym (c .before .before .before .remove-verdict .ensures) ∙ c .before .enum-told .given .1))
+face-count-requires c κs =
+    let remove-verdict = c .before .before .before .remove-verdict in
+    let enum-told = c .before .enum-told in
+    remove-good _ _ (may-remove _ _ (sym (remove-verdict .ensures) ∙ enum-told .given .1))
 
 same-length : tie.Need-same-length
 same-length c = search needs
 
 returns : tie.Need-returns
-returns c = was-declined (now (c .before .before .before .before .before .before .args .t)) (RemoveVertex (c .before .before .before .before .before .before .args .v)) _ (sym (c .before .before .before .remove-verdict .ensures) ∙ c .before .r .given .1)
+returns c =
+    let start = c .before .before .before .before .before .before in
+    let remove-verdict = c .before .before .before .remove-verdict in
+    let r = c .before .r in
+    was-declined (now (start .args .t)) (RemoveVertex (start .args .v)) _ (sym (remove-verdict .ensures) ∙ r .given .1)
 
 same-length-2 : tie.Need-same-length-2
 same-length-2 c = search needs
 
 returns-2 : tie.Need-returns-2
-returns-2 c = went-through (now (c .before .before .before .before .before .before .before .args .t)) (RemoveVertex (c .before .before .before .before .before .before .before .args .v)) _ _ (sym (c .before .before .before .before .remove-verdict .ensures) ∙ c .before .before .enum-told .given .1) refl (c .face-count .ensures)
+returns-2 c =
+    let start = c .before .before .before .before .before .before .before in
+    let remove-verdict = c .before .before .before .before .remove-verdict in
+    let enum-told = c .before .before .enum-told in
+    went-through (now (start .args .t)) (RemoveVertex (start .args .v)) _ _ (sym (remove-verdict .ensures) ∙ enum-told .given .1) refl
+    (c .face-count .ensures)
 
 pub remove-vertex-spec : {M : Type 1} → statement M
 remove-vertex-spec =

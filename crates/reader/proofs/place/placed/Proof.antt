@@ -20,16 +20,34 @@ cast-f : tie.Need-cast-f
 cast-f c = search needs
 
 returns-2 : tie.Need-returns-2
-returns-2 c = placed-past _ _ _ (seen-good _ (c .before .before .before .before .is-good .ensures) (c .before .before .before .if1 .left) .0) (c .if2 .taken)
+returns-2 c =
+    let is-good = c .before .before .before .before .is-good in
+    let if1 = c .before .before .before .if1 in
+    placed-past _ _ _ (seen-good _ (is-good .ensures) (if1 .left) .0) (c .if2 .taken)
 
 returns-3 : tie.Need-returns-3
-returns-3 c = placed-type _ _ _ (seen-good _ (c .before .before .before .before .before .before .is-good .ensures) (c .before .before .before .before .before .if1 .left) .0) (c .before .before .if2 .left) (c .if3 .taken)
+returns-3 c =
+    let is-good = c .before .before .before .before .before .before .is-good in
+    let if1 = c .before .before .before .before .before .if1 in
+    let if2 = c .before .before .if2 in
+    placed-type _ _ _ (seen-good _ (is-good .ensures) (if1 .left) .0) (if2 .left) (c .if3 .taken)
 
 returns-4 : tie.Need-returns-4
-returns-4 c = first-past _ _ _ (seen-good _ (c .before .before .before .before .before .before .before .is-good .ensures) (c .before .before .before .before .before .before .if1 .left) .0) (in-range _ _ (c .before .before .before .if2 .left) (c .before .if3 .left)) (c .if4 .taken)
+returns-4 c =
+    let is-good = c .before .before .before .before .before .before .before .is-good in
+    let if1 = c .before .before .before .before .before .before .if1 in
+    let if2 = c .before .before .before .if2 in
+    let if3 = c .before .if3 in
+    first-past _ _ _ (seen-good _ (is-good .ensures) (if1 .left) .0) (in-range _ _ (if2 .left) (if3 .left)) (c .if4 .taken)
 
 returns-5 : tie.Need-returns-5
-returns-5 c = first-type _ _ _ (seen-good _ (c .before .before .before .before .before .before .before .before .before .is-good .ensures) (c .before .before .before .before .before .before .before .before .if1 .left) .0) (in-range _ _ (c .before .before .before .before .before .if2 .left) (c .before .before .before .if3 .left)) (c .before .before .if4 .left) (c .if5 .taken)
+returns-5 c =
+    let is-good = c .before .before .before .before .before .before .before .before .before .is-good in
+    let if1 = c .before .before .before .before .before .before .before .before .if1 in
+    let if2 = c .before .before .before .before .before .if2 in
+    let if3 = c .before .before .before .if3 in
+    let if4 = c .before .before .if4 in
+    first-type _ _ _ (seen-good _ (is-good .ensures) (if1 .left) .0) (in-range _ _ (if2 .left) (if3 .left)) (if4 .left) (c .if5 .taken)
 
 add-if6 : tie.Need-add-if6
 add-if6 c = search needs
@@ -38,10 +56,21 @@ mul-if6 : tie.Need-mul-if6
 mul-if6 c = search needs
 
 shared-slice-read-if6 : tie.Need-shared-slice-read-if6
-shared-slice-read-if6 c = let size = seen-good _ (c .before .before .before .before .before .before .before .before .before .before .is-good .ensures) (c .before .before .before .before .before .before .before .before .before .if1 .left) .1 .size in omega arith
+shared-slice-read-if6 c =
+    let is-good = c .before .before .before .before .before .before .before .before .before .before .is-good in
+    let if1 = c .before .before .before .before .before .before .before .before .before .if1 in
+    let size = seen-good _ (is-good .ensures) (if1 .left) .1 .size in omega arith
 
 returns-6 : tie.Need-returns-6
-returns-6 c = placed-dead _ _ _ (seen-good _ (c .before .before .before .before .before .before .before .before .before .before .before .is-good .ensures) (c .before .before .before .before .before .before .before .before .before .before .if1 .left) .0) (in-range _ _ (c .before .before .before .before .before .before .before .if2 .left) (c .before .before .before .before .before .if3 .left)) (in-range _ _ (c .before .before .before .before .if4 .left) (c .before .before .if5 .left)) (c .if6 .taken)
+returns-6 c =
+    let is-good = c .before .before .before .before .before .before .before .before .before .before .before .is-good in
+    let if1 = c .before .before .before .before .before .before .before .before .before .before .if1 in
+    let if2 = c .before .before .before .before .before .before .before .if2 in
+    let if3 = c .before .before .before .before .before .if3 in
+    let if4 = c .before .before .before .before .if4 in
+    let if5 = c .before .before .if5 in
+    placed-dead _ _ _ (seen-good _ (is-good .ensures) (if1 .left) .0) (in-range _ _ (if2 .left) (if3 .left)) (in-range _ _ (if4 .left) (if5 .left))
+    (c .if6 .taken)
 
 add-if7 : tie.Need-add-if7
 add-if7 c = search needs
@@ -50,10 +79,22 @@ mul-if7 : tie.Need-mul-if7
 mul-if7 c = search needs
 
 shared-slice-read-if7 : tie.Need-shared-slice-read-if7
-shared-slice-read-if7 c = let size = seen-good _ (c .before .before .before .before .before .before .before .before .before .before .before .before .is-good .ensures) (c .before .before .before .before .before .before .before .before .before .before .before .if1 .left) .1 .size in omega arith
+shared-slice-read-if7 c =
+    let is-good = c .before .before .before .before .before .before .before .before .before .before .before .before .is-good in
+    let if1 = c .before .before .before .before .before .before .before .before .before .before .before .if1 in
+    let size = seen-good _ (is-good .ensures) (if1 .left) .1 .size in omega arith
 
 returns-7 : tie.Need-returns-7
-returns-7 c = first-dead _ _ _ (seen-good _ (c .before .before .before .before .before .before .before .before .before .before .before .before .before .is-good .ensures) (c .before .before .before .before .before .before .before .before .before .before .before .before .if1 .left) .0) (in-range _ _ (c .before .before .before .before .before .before .before .before .before .if2 .left) (c .before .before .before .before .before .before .before .if3 .left)) (in-range _ _ (c .before .before .before .before .before .before .if4 .left) (c .before .before .before .before .if5 .left)) (c .before .before .before .before .before .before .before .before .before .if2 .left) (c .before .before .if6 .left) (c .if7 .taken)
+returns-7 c =
+    let is-good = c .before .before .before .before .before .before .before .before .before .before .before .before .before .is-good in
+    let if1 = c .before .before .before .before .before .before .before .before .before .before .before .before .if1 in
+    let if2 = c .before .before .before .before .before .before .before .before .before .if2 in
+    let if3 = c .before .before .before .before .before .before .before .if3 in
+    let if4 = c .before .before .before .before .before .before .if4 in
+    let if5 = c .before .before .before .before .if5 in
+    let if6 = c .before .before .if6 in
+    first-dead _ _ _ (seen-good _ (is-good .ensures) (if1 .left) .0) (in-range _ _ (if2 .left) (if3 .left)) (in-range _ _ (if4 .left) (if5 .left))
+    (if2 .left) (if6 .left) (c .if7 .taken)
 
 mul-t17 : tie.Need-mul-t17
 mul-t17 c = search needs
@@ -62,7 +103,17 @@ add-t21 : tie.Need-add-t21
 add-t21 c = search needs
 
 returns-8 : tie.Need-returns-8
-returns-8 c = placed-there _ _ _ (seen-good _ (c .before .before .before .before .before .before .before .before .before .before .before .before .before .before .before .is-good .ensures) (c .before .before .before .before .before .before .before .before .before .before .before .before .before .before .if1 .left) .0) (in-range _ _ (c .before .before .before .before .before .before .before .before .before .before .before .if2 .left) (c .before .before .before .before .before .before .before .before .before .if3 .left)) (in-range _ _ (c .before .before .before .before .before .before .before .before .if4 .left) (c .before .before .before .before .before .before .if5 .left)) (yes-live _ _ (record { low = c .before .before .before .before .before .before .before .before .before .before .before .if2 .left; on = c .before .before .before .before .if6 .left })) (yes-live _ _ (record { low = c .before .before .before .before .before .before .before .before .if4 .left; on = c .before .before .if7 .left }))
+returns-8 c =
+    let is-good = c .before .before .before .before .before .before .before .before .before .before .before .before .before .before .before .is-good in
+    let if1 = c .before .before .before .before .before .before .before .before .before .before .before .before .before .before .if1 in
+    let if2 = c .before .before .before .before .before .before .before .before .before .before .before .if2 in
+    let if3 = c .before .before .before .before .before .before .before .before .before .if3 in
+    let if4 = c .before .before .before .before .before .before .before .before .if4 in
+    let if5 = c .before .before .before .before .before .before .if5 in
+    let if6 = c .before .before .before .before .if6 in
+    let if7 = c .before .before .if7 in
+    placed-there _ _ _ (seen-good _ (is-good .ensures) (if1 .left) .0) (in-range _ _ (if2 .left) (if3 .left)) (in-range _ _ (if4 .left) (if5 .left))
+    (yes-live _ _ (record { low = if2 .left; on = if6 .left })) (yes-live _ _ (record { low = if4 .left; on = if7 .left }))
 
 pub placed-spec : {M : Type 1} → statement M
 placed-spec =

@@ -39,7 +39,9 @@ add-t15 : tie.Need-add-t15
 add-t15 c = search needs
 
 returns-5 : tie.Need-returns-5
-returns-5 c = brought _ _ _ _ (c .before .before .before .before .before .before .before .before .before .before .if1 .left) (omega arith) (omega arith) (omega arith)
+returns-5 c =
+    let if1 = c .before .before .before .before .before .before .before .before .before .before .if1 in
+    brought _ _ _ _ (if1 .left) (omega arith) (omega arith) (omega arith)
 
 pub forward-spec : {M : Type 1} → statement M
 forward-spec =

@@ -41,7 +41,14 @@ forward-requires : tie.Need-forward-requires
 forward-requires c κs = search needs
 
 returns-4 : tie.Need-returns-4
-returns-4 c = tally-forward _ _ _ _ (c .before .before .before .before .before .before .before .if1 .left) (c .before .before .before .before .before .if2 .left) (c .before .before .before .before .if3 .left) (c .before .before .before .edge-word .ensures) (c .before .crossings .ensures) (c .before .before .overs .ensures) (c .forward .ensures)
+returns-4 c =
+    let if1 = c .before .before .before .before .before .before .before .if1 in
+    let if2 = c .before .before .before .before .before .if2 in
+    let if3 = c .before .before .before .before .if3 in
+    let edge-word = c .before .before .before .edge-word in
+    let overs = c .before .before .overs in
+    let crossings = c .before .crossings in
+    tally-forward _ _ _ _ (if1 .left) (if2 .left) (if3 .left) (edge-word .ensures) (crossings .ensures) (overs .ensures) (c .forward .ensures)
 
 pub tally-step-spec : {M : Type 1} → statement M
 tally-step-spec =

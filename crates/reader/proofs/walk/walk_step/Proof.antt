@@ -30,19 +30,36 @@ enum-known-m-2 : tie.Need-enum-known-m-2
 enum-known-m-2 c = search needs
 
 step-requires : tie.Need-step-requires
-step-requires c κs = there-placed (sym (c .before .before .before .before .before .n2 .given .1) ∙ c .before .before .before .before .before .before .before .placed .ensures) .stands
+step-requires c κs =
+    let placed = c .before .before .before .before .before .before .before .placed in
+    let n2 = c .before .before .before .before .before .n2 in
+    there-placed (sym (n2 .given .1) ∙ placed .ensures) .stands
 
 moved-requires : tie.Need-moved-requires
-moved-requires c κs = let p = there-placed (sym (c .before .before .before .before .before .before .n2 .given .1) ∙ c .before .before .before .before .before .before .before .before .placed .ensures) in (p .first-low, p .first-type)
+moved-requires c κs =
+    let placed = c .before .before .before .before .before .before .before .before .placed in
+    let n2 = c .before .before .before .before .before .before .n2 in
+    let p = there-placed (sym (n2 .given .1) ∙ placed .ensures) in (p .first-low, p .first-type)
 
 returns : tie.Need-returns
 returns c = step-refused _ _ _ _ _ (c .before .before .before .before .placed .ensures) (c .before .before .n .given .1) (c .stays .ensures)
 
 returns-2 : tie.Need-returns-2
-returns-2 c = step-kept _ _ _ _ _ (c .before .before .before .before .before .before .before .before .placed .ensures) (c .before .before .before .before .before .before .n2 .given .1) (c .before .before .before .before .tally-step .ensures) (c .before .before .m .given .1) (c .stays2 .ensures)
+returns-2 c =
+    let placed = c .before .before .before .before .before .before .before .before .placed in
+    let n2 = c .before .before .before .before .before .before .n2 in
+    let tally-step = c .before .before .before .before .tally-step in
+    let m = c .before .before .m in
+    step-kept _ _ _ _ _ (placed .ensures) (n2 .given .1) (tally-step .ensures) (m .given .1) (c .stays2 .ensures)
 
 returns-3 : tie.Need-returns-3
-returns-3 c = step-moved _ _ _ _ _ (c .before .before .before .before .before .before .before .before .before .placed .ensures) (c .before .before .before .before .before .before .before .n2 .given .1) (c .before .before .before .before .before .tally-step .ensures) (c .before .before .before .m2 .given .1) (c .before .step .ensures) (c .moved .ensures)
+returns-3 c =
+    let placed = c .before .before .before .before .before .before .before .before .before .placed in
+    let n2 = c .before .before .before .before .before .before .before .n2 in
+    let tally-step = c .before .before .before .before .before .tally-step in
+    let m2 = c .before .before .before .m2 in
+    let step = c .before .step in
+    step-moved _ _ _ _ _ (placed .ensures) (n2 .given .1) (tally-step .ensures) (m2 .given .1) (step .ensures) (c .moved .ensures)
 
 pub walk-step-spec : {M : Type 1} → statement M
 walk-step-spec =

@@ -14,7 +14,9 @@ same-length : tie.Need-same-length
 same-length c = search needs
 
 returns : tie.Need-returns
-returns c = (words-coded _ _ _ _ (c .code .ok) (c .code .ensures) (c .before .before .before .before .step-words .ensures .0), c .before .before .before .before .step-words .ensures .1)
+returns c =
+    let step-words = c .before .before .before .before .step-words in
+    (words-coded _ _ _ _ (c .code .ok) (c .code .ensures) (step-words .ensures .0), step-words .ensures .1)
 
 pub step-code-spec : {M : Type 1} → statement M
 step-code-spec = tie.close (tie.spec step-words-requires code-requires same-length returns)

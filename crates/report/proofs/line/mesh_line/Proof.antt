@@ -14,7 +14,11 @@ same-length : tie.Need-same-length
 same-length c = search needs
 
 returns : tie.Need-returns
-returns c = wrote-as (c .before .before .write-mesh .ensures) (mesh-text (c .before .before .before .before .before .before .before .before .pre .0) (c .before .before .before .before .before .measure-mesh .ensures))
+returns c =
+    let start = c .before .before .before .before .before .before .before .before in
+    let measure-mesh = c .before .before .before .before .before .measure-mesh in
+    let write-mesh = c .before .before .write-mesh in
+    wrote-as (write-mesh .ensures) (mesh-text (start .pre .0) (measure-mesh .ensures))
 
 pub mesh-line-spec : {M : Type 1} → statement M
 mesh-line-spec = tie.close (tie.spec measure-mesh-requires write-mesh-requires same-length returns)

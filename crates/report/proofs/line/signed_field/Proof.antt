@@ -14,7 +14,11 @@ same-length : tie.Need-same-length
 same-length c = search needs
 
 returns : tie.Need-returns
-returns c = signed-wrote (c .before .before .before .before .before .before .before .before .before .fits .z) (c .before .before .before .before .before .before .byte .ensures) (c .before .before .integer .ensures)
+returns c =
+    let start = c .before .before .before .before .before .before .before .before .before in
+    let byte = c .before .before .before .before .before .before .byte in
+    let integer = c .before .before .integer in
+    signed-wrote (start .fits .z) (byte .ensures) (integer .ensures)
 
 pub signed-field-spec : {M : Type 1} → statement M
 signed-field-spec = tie.close (tie.spec byte-requires integer-requires same-length returns)

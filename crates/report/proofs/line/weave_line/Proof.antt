@@ -18,7 +18,12 @@ same-length : tie.Need-same-length
 same-length c = search needs
 
 returns : tie.Need-returns
-returns c = weave-plain (c .before .before .before .before .before .before .before .before .before .args .t .now) (sym (c .before .before .before .before .before .if1 .taken) ∙ c .before .before .before .before .before .before .is-plain .ensures) (c .before .before .bytes .ensures)
+returns c =
+    let start = c .before .before .before .before .before .before .before .before .before in
+    let is-plain = c .before .before .before .before .before .before .is-plain in
+    let if1 = c .before .before .before .before .before .if1 in
+    let bytes = c .before .before .bytes in
+    weave-plain (start .args .t .now) (sym (if1 .taken) ∙ is-plain .ensures) (bytes .ensures)
 
 slice-aggregate-bytes-2 : tie.Need-slice-aggregate-bytes-2
 slice-aggregate-bytes-2 c = search needs
@@ -30,7 +35,12 @@ same-length-2 : tie.Need-same-length-2
 same-length-2 c = search needs
 
 returns-2 : tie.Need-returns-2
-returns-2 c = weave-mixed (c .before .before .before .before .before .before .before .before .before .args .t .now) (sym (c .before .before .before .before .before .if1 .left) ∙ c .before .before .before .before .before .before .is-plain .ensures) (c .before .before .bytes2 .ensures)
+returns-2 c =
+    let start = c .before .before .before .before .before .before .before .before .before in
+    let is-plain = c .before .before .before .before .before .before .is-plain in
+    let if1 = c .before .before .before .before .before .if1 in
+    let bytes2 = c .before .before .bytes2 in
+    weave-mixed (start .args .t .now) (sym (if1 .left) ∙ is-plain .ensures) (bytes2 .ensures)
 
 pub weave-line-spec : {M : Type 1} → statement M
 weave-line-spec =

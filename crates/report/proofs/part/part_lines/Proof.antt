@@ -11,7 +11,11 @@ tally-parts-requires : tie.Need-tally-parts-requires
 tally-parts-requires c κs = search needs
 
 root-lines-requires : tie.Need-root-lines-requires
-root-lines-requires c κs = (record { keyed = labelled-keyed (c .before .before .before .before .before .before .before .before .before .before .before .before .before .before .before .before .before .before .pre .0) (c .before .before .before .before .before .before .before .before .before .before .before .before .before .label-parts .ensures); tally = c .before .before .before .before .before .before .tally-parts .ensures }, c .before .before .before .before .before .before .before .before .before .before .before .before .before .before .before .before .before .before .pre .1)
+root-lines-requires c κs =
+    let start = c .before .before .before .before .before .before .before .before .before .before .before .before .before .before .before .before .before .before in
+    let label-parts = c .before .before .before .before .before .before .before .before .before .before .before .before .before .label-parts in
+    let tally-parts = c .before .before .before .before .before .before .tally-parts in
+    (record { keyed = labelled-keyed (start .pre .0) (label-parts .ensures); tally = tally-parts .ensures }, start .pre .1)
 
 same-length : tie.Need-same-length
 same-length c = search needs

@@ -24,10 +24,14 @@ element-copy-out-if2 : tie.Need-element-copy-out-if2
 element-copy-out-if2 c = search needs
 
 cast-if2 : tie.Need-cast-if2
-cast-if2 c = let n = c .before .before .before .before .before .pre .tallied .keyed .low _ (c .before .before .before .before .before .pre .low) in omega arith
+cast-if2 c =
+    let start = c .before .before .before .before .before in
+    let n = start .pre .tallied .keyed .low _ (start .pre .low) in omega arith
 
 returns-2 : tie.Need-returns-2
-returns-2 c = part-other (c .before .before .before .before .before .before .pre) (c .before .before .before .before .before .before .args .out .now) (c .if2 .taken)
+returns-2 c =
+    let start = c .before .before .before .before .before .before in
+    part-other (start .pre) (start .args .out .now) (c .if2 .taken)
 
 cast-write-part : tie.Need-cast-write-part
 cast-write-part c = search needs
@@ -63,7 +67,12 @@ same-length : tie.Need-same-length
 same-length c = search needs
 
 returns-3 : tie.Need-returns-3
-returns-3 c = part-root (c .before .before .before .before .before .before .before .before .before .before .before .before .before .before .pre) (c .before .before .before .before .before .before .before .before .before .before .before .before .before .before .args .out .now) (c .before .before .before .before .before .before .before .before .before .before .if1 .left) (c .before .before .before .before .before .before .before .before .if2 .left) (c .before .before .write-part .ensures)
+returns-3 c =
+    let start = c .before .before .before .before .before .before .before .before .before .before .before .before .before .before in
+    let if1 = c .before .before .before .before .before .before .before .before .before .before .if1 in
+    let if2 = c .before .before .before .before .before .before .before .before .if2 in
+    let write-part = c .before .before .write-part in
+    part-root (start .pre) (start .args .out .now) (if1 .left) (if2 .left) (write-part .ensures)
 
 pub root-line-spec : {M : Type 1} → statement M
 root-line-spec =

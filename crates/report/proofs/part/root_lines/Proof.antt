@@ -13,10 +13,16 @@ abbrev μ-loop : tie.MeasureT-loop
 μ-loop t up vs es fs odd out₀ from at end₀ r₀ out end r = 512 - r
 
 loop-holds : tie.Need-loop-holds Inv-loop μ-loop
-loop-holds c = parting-none (c .before .before .args .t .now) (c .before .before .args .from) (c .before .before .args .at) (c .before .before .args .out .now)
+loop-holds c =
+    let start = c .before .before in
+    parting-none (start .args .t .now) (start .args .from) (start .args .at) (start .args .out .now)
 
 root-line-requires : tie.Need-root-line-requires Inv-loop μ-loop
-root-line-requires c κs = parting-at (c .before .before .before .before .before .pre .0) (c .before .before .before .before .before .pre .1) (c .before .before .loop .inv) (c .before .loop-test .taken)
+root-line-requires c κs =
+    let start = c .before .before .before .before .before in
+    let loop = c .before .before .loop in
+    let loop-test = c .before .loop-test in
+    parting-at (start .pre .0) (start .pre .1) (loop .inv) (loop-test .taken)
 
 add-r : tie.Need-add-r Inv-loop μ-loop
 add-r c = omega arith
@@ -25,7 +31,11 @@ loop-less : tie.Need-loop-less Inv-loop μ-loop
 loop-less c = omega arith
 
 loop-again : tie.Need-loop-again Inv-loop μ-loop
-loop-again c = parting-more (c .before .before .before .before .before .loop .inv) (c .before .before .before .before .loop-test .taken) (c .before .before .root-line .ensures)
+loop-again c =
+    let loop = c .before .before .before .before .before .loop in
+    let loop-test = c .before .before .before .before .loop-test in
+    let root-line = c .before .before .root-line in
+    parting-more (loop .inv) (loop-test .taken) (root-line .ensures)
 
 same-length : tie.Need-same-length Inv-loop μ-loop
 same-length c = wrote-length (c .before .loop .inv .wrote)

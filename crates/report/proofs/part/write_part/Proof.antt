@@ -41,7 +41,20 @@ same-length c = search needs
 
 returns : tie.Need-returns
 unfolding partText
-returns c = let fits = c .before .before .before .before .before .before .before .before .before .before .before .before .before .before .before .before .before .before .before .before .before .before .before .before .before .before .before .before .fits in wrote-then (wrote-then (wrote-then (wrote-then (short 4 (c .before .before .before .before .before .before .before .before .before .before .before .before .before .before .before .before .before .before .before .before .before .before .bytes .ensures) (omega arith)) (c .before .before .before .before .before .before .before .before .before .before .before .before .before .before .before .before .before .before .field .ensures)) (wrote-as (c .before .before .before .before .before .before .before .before .before .before .before .before .before .before .signed-field .ensures) (euler-on (c .before .before .before .before .before .before .before .before .before .before .before .before .before .before .before .before .before .before .before .before .before .before .before .before .before .before .before .before .args .v) (c .before .before .before .before .before .before .before .before .before .before .before .before .before .before .before .before .before .before .before .before .before .before .before .before .before .before .before .before .args .e) (c .before .before .before .before .before .before .before .before .before .before .before .before .before .before .before .before .before .before .before .before .before .before .before .before .before .before .before .before .args .f) (omega arith) (omega arith) (omega arith) (c .before .before .before .before .before .before .before .before .before .before .before .before .before .before .before .before .before .before .before .before .before .before .before .before .before .before .euler .ensures)))) (wrote-then (short 1 (c .before .before .before .before .before .before .before .before .before .before .byte .ensures) (omega arith)) (wrote-as (short 1 (c .before .before .before .before .before .before .byte2 .ensures) (omega arith)) (ap (λ x. x ∷ []) (c .before .before .before .before .before .before .before .before .before .before .before .before .before .before .before .before .before .before .before .before .before .before .before .before .before .side .ensures))))) (short 1 (c .before .before .byte3 .ensures) (omega arith))
+returns c =
+    let start = c .before .before .before .before .before .before .before .before .before .before .before .before .before .before .before .before .before .before .before .before .before .before .before .before .before .before .before .before in
+    let euler = c .before .before .before .before .before .before .before .before .before .before .before .before .before .before .before .before .before .before .before .before .before .before .before .before .before .before .euler in
+    let side = c .before .before .before .before .before .before .before .before .before .before .before .before .before .before .before .before .before .before .before .before .before .before .before .before .before .side in
+    let bytes = c .before .before .before .before .before .before .before .before .before .before .before .before .before .before .before .before .before .before .before .before .before .before .bytes in
+    let field = c .before .before .before .before .before .before .before .before .before .before .before .before .before .before .before .before .before .before .field in
+    let signed-field = c .before .before .before .before .before .before .before .before .before .before .before .before .before .before .signed-field in
+    let byte = c .before .before .before .before .before .before .before .before .before .before .byte in
+    let byte2 = c .before .before .before .before .before .before .byte2 in
+    let byte3 = c .before .before .byte3 in
+    let fits = start .fits in
+    wrote-then
+    (wrote-then (wrote-then (wrote-then (short 4 (bytes .ensures) (omega arith)) (field .ensures)) (wrote-as (signed-field .ensures) (euler-on (start .args .v) (start .args .e) (start .args .f) (omega arith) (omega arith) (omega arith) (euler .ensures)))) (wrote-then (short 1 (byte .ensures) (omega arith)) (wrote-as (short 1 (byte2 .ensures) (omega arith)) (ap (λ x. x ∷ []) (side .ensures)))))
+    (short 1 (byte3 .ensures) (omega arith))
 
 pub write-part-spec : {M : Type 1} → statement M
 write-part-spec =

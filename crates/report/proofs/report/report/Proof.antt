@@ -23,7 +23,13 @@ same-length : tie.Need-same-length
 same-length c = search needs
 
 returns : tie.Need-returns
-returns c = report-wrote (c .before .before .before .before .before .before .before .before .before .before .before .before .before .before .before .before .before .before .mesh-line .ensures) (c .before .before .before .before .before .before .before .before .before .before .before .before .before .before .part-lines .ensures) (c .before .before .before .before .before .before .before .before .before .before .walk-lines .ensures) (c .before .before .before .before .before .before .lone-lines .ensures) (c .before .before .weave-line .ensures)
+returns c =
+    let mesh-line = c .before .before .before .before .before .before .before .before .before .before .before .before .before .before .before .before .before .before .mesh-line in
+    let part-lines = c .before .before .before .before .before .before .before .before .before .before .before .before .before .before .part-lines in
+    let walk-lines = c .before .before .before .before .before .before .before .before .before .before .walk-lines in
+    let lone-lines = c .before .before .before .before .before .before .lone-lines in
+    let weave-line = c .before .before .weave-line in
+    report-wrote (mesh-line .ensures) (part-lines .ensures) (walk-lines .ensures) (lone-lines .ensures) (weave-line .ensures)
 
 pub report-spec : {M : Type 1} → statement M
 report-spec =

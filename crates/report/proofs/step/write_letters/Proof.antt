@@ -18,34 +18,55 @@ crossings-requires : tie.Need-crossings-requires Inv-loop μ-loop
 crossings-requires c κs = search needs
 
 loop-holds : tie.Need-loop-holds Inv-loop μ-loop
-loop-holds c = copying-none (c .before .before .args .from) (c .before .before .args .at) (lettersOn (c .before .before .args .w) (c .before .before .args .kind)) (c .before .before .args .out .now)
+loop-holds c =
+    let start = c .before .before in
+    copying-none (start .args .from) (start .args .at) (lettersOn (start .args .w) (start .args .kind)) (start .args .out .now)
 
 cast-byte : tie.Need-cast-byte Inv-loop μ-loop
 cast-byte c = let few = c .before .before .before .before .before .pre .few in omega arith
 
 add-byte : tie.Need-add-byte Inv-loop μ-loop
-add-byte c = let few = c .before .before .before .before .before .pre .few in let near = c .before .before .before .before .before .pre .near in let all = c .before .before .before .crossings .ensures in omega arith
+add-byte c =
+    let start = c .before .before .before .before .before in
+    let crossings = c .before .before .before .crossings in
+    let few = start .pre .few in let near = start .pre .near in let all = crossings .ensures in omega arith
 
 letter-requires : tie.Need-letter-requires Inv-loop μ-loop
 letter-requires c κs = search needs
 
 byte-requires : tie.Need-byte-requires Inv-loop μ-loop
-byte-requires c κs = let few = c .before .before .before .before .before .before .pre .few in let near = c .before .before .before .before .before .before .pre .near in let all = c .before .before .before .before .crossings .ensures in omega arith
+byte-requires c κs =
+    let start = c .before .before .before .before .before .before in
+    let crossings = c .before .before .before .before .crossings in
+    let few = start .pre .few in let near = start .pre .near in let all = crossings .ensures in omega arith
 
 add-j : tie.Need-add-j Inv-loop μ-loop
-add-j c = let few = c .before .before .before .before .before .before .before .before .before .pre .few in let all = c .before .before .before .before .before .before .before .crossings .ensures in omega arith
+add-j c =
+    let start = c .before .before .before .before .before .before .before .before .before in
+    let crossings = c .before .before .before .before .before .before .before .crossings in
+    let few = start .pre .few in let all = crossings .ensures in omega arith
 
 loop-less : tie.Need-loop-less Inv-loop μ-loop
 loop-less c = omega arith
 
 loop-again : tie.Need-loop-again Inv-loop μ-loop
-loop-again c = lettering-more (c .before .before .before .before .before .before .before .before .before .pre) (c .before .before .before .before .before .before .before .crossings .ensures) (c .before .before .before .before .before .before .loop .inv) (c .before .before .before .before .before .loop-test .taken) (c .before .before .before .letter .ensures) (c .before .before .byte .ensures)
+loop-again c =
+    let start = c .before .before .before .before .before .before .before .before .before in
+    let crossings = c .before .before .before .before .before .before .before .crossings in
+    let loop = c .before .before .before .before .before .before .loop in
+    let loop-test = c .before .before .before .before .before .loop-test in
+    let letter = c .before .before .before .letter in
+    let byte = c .before .before .byte in
+    lettering-more (start .pre) (crossings .ensures) (loop .inv) (loop-test .taken) (letter .ensures) (byte .ensures)
 
 cast-result : tie.Need-cast-result Inv-loop μ-loop
 cast-result c = let few = c .before .before .before .before .pre .few in let all = c .before .before .crossings .ensures in omega arith
 
 add-result : tie.Need-add-result Inv-loop μ-loop
-add-result c = let few = c .before .before .before .before .pre .few in let near = c .before .before .before .before .pre .near in let all = c .before .before .crossings .ensures in omega arith
+add-result c =
+    let start = c .before .before .before .before in
+    let crossings = c .before .before .crossings in
+    let few = start .pre .few in let near = start .pre .near in let all = crossings .ensures in omega arith
 
 same-length : tie.Need-same-length Inv-loop μ-loop
 same-length c = c .before .loop .inv .size

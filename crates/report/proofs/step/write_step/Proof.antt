@@ -28,13 +28,25 @@ byte-requires-2 : tie.Need-byte-requires-2
 byte-requires-2 c κs = let few = number-wrote (omega arith) (c .before .before .before .number .ensures) .near in omega arith
 
 write-letters-requires : tie.Need-write-letters-requires
-write-letters-requires c κs = edge-crossed (c .before .before .before .before .before .before .before .before .before .before .before .before .before .before .before .before .before .edge-word .ensures) (let few = number-wrote (omega arith) (c .before .before .before .before .before .before .before .number .ensures) .near in omega arith)
+write-letters-requires c κs =
+    let edge-word = c .before .before .before .before .before .before .before .before .before .before .before .before .before .before .before .before .before .edge-word in
+    let number = c .before .before .before .before .before .before .before .number in
+    edge-crossed (edge-word .ensures) (let few = number-wrote (omega arith) (number .ensures) .near in omega arith)
 
 same-length : tie.Need-same-length
 same-length c = search needs
 
 returns : tie.Need-returns
-returns c = let fits = c .before .before .before .before .before .before .before .before .before .before .before .before .before .before .before .before .before .before .before .before .before .before .before .fits in step-wrote (omega arith) (c .before .before .before .before .before .before .before .before .before .before .before .before .before .before .before .before .before .before .before .before .edge-word .ensures) (c .before .before .before .before .before .before .before .before .before .before .before .before .before .before .before .before .before .before .field .ensures) (c .before .before .before .before .before .before .before .before .before .before .before .before .before .before .byte .ensures) (c .before .before .before .before .before .before .before .before .before .before .number .ensures) (c .before .before .before .before .before .before .byte2 .ensures) (c .before .before .write-letters .ensures)
+returns c =
+    let start = c .before .before .before .before .before .before .before .before .before .before .before .before .before .before .before .before .before .before .before .before .before .before .before in
+    let edge-word = c .before .before .before .before .before .before .before .before .before .before .before .before .before .before .before .before .before .before .before .before .edge-word in
+    let field = c .before .before .before .before .before .before .before .before .before .before .before .before .before .before .before .before .before .before .field in
+    let byte = c .before .before .before .before .before .before .before .before .before .before .before .before .before .before .byte in
+    let number = c .before .before .before .before .before .before .before .before .before .before .number in
+    let byte2 = c .before .before .before .before .before .before .byte2 in
+    let write-letters = c .before .before .write-letters in
+    let fits = start .fits in
+    step-wrote (omega arith) (edge-word .ensures) (field .ensures) (byte .ensures) (number .ensures) (byte2 .ensures) (write-letters .ensures)
 
 pub write-step-spec : {M : Type 1} → statement M
 write-step-spec =

@@ -14,7 +14,9 @@ abbrev μ-loop : tie.MeasureT-loop
 μ-loop t out₀ from at s here₀ end₀ out here end = left t s here
 
 loop-holds : tie.Need-loop-holds Inv-loop μ-loop
-loop-holds c = stepping-none (c .before .before .args .from) (c .before .before .args .at) (c .before .before .args .out .now) (c .before .before .pre .0)
+loop-holds c =
+    let start = c .before .before in
+    stepping-none (start .args .from) (start .args .at) (start .args .out .now) (start .pre .0)
 
 write-step-requires : tie.Need-write-step-requires Inv-loop μ-loop
 write-step-requires c κs = (c .before .loop .inv .walking .there, stepping-near (c .before .before .before .before .pre .1) (c .before .loop .inv))
@@ -23,16 +25,27 @@ step-requires : tie.Need-step-requires Inv-loop μ-loop
 step-requires c κs = c .before .before .before .before .loop .inv .walking .there
 
 same-length : tie.Need-same-length Inv-loop μ-loop
-same-length c = wrote-length (c .before .before .before .before .write-step .ensures) ∙ wrote-length (c .before .before .before .before .before .before .loop .inv .wrote)
+same-length c =
+    let loop = c .before .before .before .before .before .before .loop in
+    let write-step = c .before .before .before .before .write-step in
+    wrote-length (write-step .ensures) ∙ wrote-length (loop .inv .wrote)
 
 returns : tie.Need-returns Inv-loop μ-loop
-returns c = stepping-all (c .before .before .before .before .before .before .loop .inv) (c .before .before .before .before .write-step .ensures) (c .before .step .ensures) (c .if1 .taken)
+returns c =
+    let loop = c .before .before .before .before .before .before .loop in
+    let write-step = c .before .before .before .before .write-step in
+    let step = c .before .step in
+    stepping-all (loop .inv) (write-step .ensures) (step .ensures) (c .if1 .taken)
 
 loop-less : tie.Need-loop-less Inv-loop μ-loop
 loop-less c = walking-less (c .before .before .before .before .before .before .loop .inv .walking) (c .before .step .ensures) (c .if1 .left)
 
 loop-again : tie.Need-loop-again Inv-loop μ-loop
-loop-again c = stepping-more (c .before .before .before .before .before .before .loop .inv) (c .before .before .before .before .write-step .ensures) (c .before .step .ensures) (c .if1 .left)
+loop-again c =
+    let loop = c .before .before .before .before .before .before .loop in
+    let write-step = c .before .before .before .before .write-step in
+    let step = c .before .step in
+    stepping-more (loop .inv) (write-step .ensures) (step .ensures) (c .if1 .left)
 
 pub write-steps-spec : {M : Type 1} → statement M
 write-steps-spec =

@@ -14,7 +14,9 @@ shared-slice-read-if1 : tie.Need-shared-slice-read-if1
 shared-slice-read-if1 c = search needs
 
 returns : tie.Need-returns
-returns c = lone-none (c .before .before .before .before .pre) (c .before .before .before .before .args .from) (c .before .before .before .before .args .out .now) (c .if1 .taken)
+returns c =
+    let start = c .before .before .before .before in
+    lone-none (start .pre) (start .args .from) (start .args .out .now) (c .if1 .taken)
 
 cast-write-lone : tie.Need-cast-write-lone
 cast-write-lone c = search needs
@@ -29,7 +31,11 @@ same-length : tie.Need-same-length
 same-length c = search needs
 
 returns-2 : tie.Need-returns-2
-returns-2 c = lone-one (c .before .before .before .before .before .before .before .before .pre) (c .before .before .before .before .if1 .left) (c .before .before .write-lone .ensures)
+returns-2 c =
+    let start = c .before .before .before .before .before .before .before .before in
+    let if1 = c .before .before .before .before .if1 in
+    let write-lone = c .before .before .write-lone in
+    lone-one (start .pre) (if1 .left) (write-lone .ensures)
 
 pub lone-line-spec : {M : Type 1} → statement M
 lone-line-spec =

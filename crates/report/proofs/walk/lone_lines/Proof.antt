@@ -13,10 +13,16 @@ abbrev μ-loop : tie.MeasureT-loop
 μ-loop t out₀ from at first end₀ i₀ v₀ out end i v = 512 - v
 
 loop-holds : tie.Need-loop-holds Inv-loop μ-loop
-loop-holds c = ending-none (c .before .before .args .t .now) (c .before .before .args .from) (c .before .before .args .at) (c .before .before .args .first) (c .before .before .args .out .now)
+loop-holds c =
+    let start = c .before .before in
+    ending-none (start .args .t .now) (start .args .from) (start .args .at) (start .args .first) (start .args .out .now)
 
 lone-line-requires : tie.Need-lone-line-requires Inv-loop μ-loop
-lone-line-requires c κs = ending-at (c .before .before .before .before .before .pre .0) (c .before .before .before .before .before .pre .1) (c .before .before .before .before .before .pre .2) (c .before .before .loop .inv) (c .before .loop-test .taken)
+lone-line-requires c κs =
+    let start = c .before .before .before .before .before in
+    let loop = c .before .before .loop in
+    let loop-test = c .before .loop-test in
+    ending-at (start .pre .0) (start .pre .1) (start .pre .2) (loop .inv) (loop-test .taken)
 
 add-v : tie.Need-add-v Inv-loop μ-loop
 add-v c = omega arith
@@ -25,7 +31,11 @@ loop-less : tie.Need-loop-less Inv-loop μ-loop
 loop-less c = omega arith
 
 loop-again : tie.Need-loop-again Inv-loop μ-loop
-loop-again c = ending-more (c .before .before .before .before .before .loop .inv) (c .before .before .before .before .loop-test .taken) (c .before .before .lone-line .ensures)
+loop-again c =
+    let loop = c .before .before .before .before .before .loop in
+    let loop-test = c .before .before .before .before .loop-test in
+    let lone-line = c .before .before .lone-line in
+    ending-more (loop .inv) (loop-test .taken) (lone-line .ensures)
 
 same-length : tie.Need-same-length Inv-loop μ-loop
 same-length c = wrote-length (c .before .loop .inv .wrote)

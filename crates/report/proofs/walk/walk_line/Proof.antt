@@ -8,7 +8,10 @@ look-requires : tie.Need-look-requires
 look-requires c κs = search needs
 
 returns : tie.Need-returns
-returns c = placed-none (c .before .before .before .before .before .pre) (c .before .look .ensures) (c .before .before .before .before .before .args .out .now) (c .if1 .taken)
+returns c =
+    let start = c .before .before .before .before .before in
+    let look = c .before .look in
+    placed-none (start .pre) (look .ensures) (start .args .out .now) (c .if1 .taken)
 
 cast-write-walk : tie.Need-cast-write-walk
 cast-write-walk c = search needs
@@ -17,7 +20,11 @@ sub-write-walk : tie.Need-sub-write-walk
 sub-write-walk c = search needs
 
 write-walk-requires : tie.Need-write-walk-requires
-write-walk-requires c κs = placed-walk (c .before .before .before .before .before .before .pre) (c .before .before .look .ensures) (c .before .if1 .left)
+write-walk-requires c κs =
+    let start = c .before .before .before .before .before .before in
+    let look = c .before .before .look in
+    let if1 = c .before .if1 in
+    placed-walk (start .pre) (look .ensures) (if1 .left)
 
 add-t17 : tie.Need-add-t17
 add-t17 c = search needs
@@ -26,7 +33,12 @@ same-length : tie.Need-same-length
 same-length c = search needs
 
 returns-2 : tie.Need-returns-2
-returns-2 c = placed-one (c .before .before .before .before .before .before .before .before .before .pre) (c .before .before .before .before .before .look .ensures) (c .before .before .before .before .if1 .left) (c .before .before .write-walk .ensures)
+returns-2 c =
+    let start = c .before .before .before .before .before .before .before .before .before in
+    let look = c .before .before .before .before .before .look in
+    let if1 = c .before .before .before .before .if1 in
+    let write-walk = c .before .before .write-walk in
+    placed-one (start .pre) (look .ensures) (if1 .left) (write-walk .ensures)
 
 pub walk-line-spec : {M : Type 1} → statement M
 walk-line-spec =

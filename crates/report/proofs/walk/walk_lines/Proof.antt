@@ -13,10 +13,16 @@ abbrev μ-loop : tie.MeasureT-loop
 μ-loop t out₀ from at met₀ end₀ i₀ d₀ out met end i d = 2048 - d
 
 loop-holds : tie.Need-loop-holds Inv-loop μ-loop
-loop-holds c = numbering-none (c .before .before .args .from) (c .before .before .args .at) (c .before .before .args .out .now) (c .before .before .pre .0)
+loop-holds c =
+    let start = c .before .before in
+    numbering-none (start .args .from) (start .args .at) (start .args .out .now) (start .pre .0)
 
 walk-line-requires : tie.Need-walk-line-requires Inv-loop μ-loop
-walk-line-requires c κs = numbering-at (c .before .before .before .before .before .before .pre .1) (c .before .before .before .loop .inv) (c .before .before .loop-test .taken)
+walk-line-requires c κs =
+    let start = c .before .before .before .before .before .before in
+    let loop = c .before .before .before .loop in
+    let loop-test = c .before .before .loop-test in
+    numbering-at (start .pre .1) (loop .inv) (loop-test .taken)
 
 add-d : tie.Need-add-d Inv-loop μ-loop
 add-d c = omega arith
@@ -25,7 +31,11 @@ loop-less : tie.Need-loop-less Inv-loop μ-loop
 loop-less c = omega arith
 
 loop-again : tie.Need-loop-again Inv-loop μ-loop
-loop-again c = numbering-more (c .before .before .before .before .before .before .loop .inv) (c .before .before .before .before .before .loop-test .taken) (c .before .before .walk-line .ensures)
+loop-again c =
+    let loop = c .before .before .before .before .before .before .loop in
+    let loop-test = c .before .before .before .before .before .loop-test in
+    let walk-line = c .before .before .walk-line in
+    numbering-more (loop .inv) (loop-test .taken) (walk-line .ensures)
 
 same-length : tie.Need-same-length Inv-loop μ-loop
 same-length c = wrote-length (c .before .loop .inv .wrote)

@@ -31,7 +31,14 @@ same-length : tie.Need-same-length
 same-length c = search needs
 
 returns : tie.Need-returns
-returns c = lone-wrote (c .before .before .before .before .before .before .before .before .before .before .before .before .before .before .before .before .before .before .before .before .before .before .before .args .i) (c .before .before .before .before .before .before .before .before .before .before .before .before .before .before .before .before .before .before .before .before .before .before .before .args .v) (omega arith) (c .before .before .before .before .before .before .before .before .before .before .before .before .before .before .before .before .before .before .before .bytes .ensures) (c .before .before .before .before .before .before .before .before .before .before .before .before .before .before .before .field .ensures) (c .before .before .before .before .before .before .before .before .before .before .bytes2 .ensures) (c .before .before .before .before .before .before .number .ensures) (c .before .before .byte .ensures)
+returns c =
+    let start = c .before .before .before .before .before .before .before .before .before .before .before .before .before .before .before .before .before .before .before .before .before .before .before in
+    let bytes = c .before .before .before .before .before .before .before .before .before .before .before .before .before .before .before .before .before .before .before .bytes in
+    let field = c .before .before .before .before .before .before .before .before .before .before .before .before .before .before .before .field in
+    let bytes2 = c .before .before .before .before .before .before .before .before .before .before .bytes2 in
+    let number = c .before .before .before .before .before .before .number in
+    let byte = c .before .before .byte in
+    lone-wrote (start .args .i) (start .args .v) (omega arith) (bytes .ensures) (field .ensures) (bytes2 .ensures) (number .ensures) (byte .ensures)
 
 pub write-lone-spec : {M : Type 1} → statement M
 write-lone-spec =

@@ -29,7 +29,14 @@ same-length : tie.Need-same-length
 same-length c = search needs
 
 returns : tie.Need-returns
-returns c = walk-wrote (c .before .before .before .before .before .before .before .before .before .before .before .before .before .before .before .before .before .before .before .before .before .before .before .args .i) (c .before .before .before .before .before .before .before .before .before .before .before .before .before .before .before .before .before .before .before .before .before .before .before .pre) (c .before .before .before .before .before .before .before .before .before .before .before .before .before .before .before .before .before .before .bytes .ensures) (c .before .before .before .before .before .before .before .before .before .before .before .before .before .before .field .ensures) (c .before .before .before .before .before .before .before .before .before .before .field2 .ensures) (c .before .before .before .before .before .before .write-steps .ensures) (c .before .before .byte .ensures)
+returns c =
+    let start = c .before .before .before .before .before .before .before .before .before .before .before .before .before .before .before .before .before .before .before .before .before .before .before in
+    let bytes = c .before .before .before .before .before .before .before .before .before .before .before .before .before .before .before .before .before .before .bytes in
+    let field = c .before .before .before .before .before .before .before .before .before .before .before .before .before .before .field in
+    let field2 = c .before .before .before .before .before .before .before .before .before .before .field2 in
+    let write-steps = c .before .before .before .before .before .before .write-steps in
+    let byte = c .before .before .byte in
+    walk-wrote (start .args .i) (start .pre) (bytes .ensures) (field .ensures) (field2 .ensures) (write-steps .ensures) (byte .ensures)
 
 pub write-walk-spec : {M : Type 1} → statement M
 write-walk-spec =

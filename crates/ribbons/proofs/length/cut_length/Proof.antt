@@ -19,13 +19,20 @@ returns : tie.Need-returns
 returns c = cut-short _ _ _ _ (c .before .before .before .before .named-step .ensures) (c .before .before .n2 .given .1) (c .if1 .taken)
 
 length-along-requires : tie.Need-length-along-requires
-length-along-requires c κs = (there-steps _ _ _ (sym (c .before .before .n2 .given .1) ∙ c .before .before .before .before .named-step .ensures) .stands, c .if1 .left)
+length-along-requires c κs =
+    let named-step = c .before .before .before .before .named-step in
+    let n2 = c .before .before .n2 in
+    (there-steps _ _ _ (sym (n2 .given .1) ∙ named-step .ensures) .stands, c .if1 .left)
 
 returns-2 : tie.Need-returns-2
 returns-2 c = cut-refused _ _ _ _ (c .before .before .before .named-step .ensures) (c .before .n .given .1)
 
 returns-3 : tie.Need-returns-3
-returns-3 c = cut-along _ _ _ _ (c .before .before .before .before .before .named-step .ensures) (c .before .before .before .n2 .given .1) (c .before .if1 .left) (c .length-along .ensures)
+returns-3 c =
+    let named-step = c .before .before .before .before .before .named-step in
+    let n2 = c .before .before .before .n2 in
+    let if1 = c .before .if1 in
+    cut-along _ _ _ _ (named-step .ensures) (n2 .given .1) (if1 .left) (c .length-along .ensures)
 
 pub cut-length-spec : {M : Type 1} → statement M
 cut-length-spec =

@@ -38,13 +38,23 @@ step-requires : tie.Need-step-requires Inv-loop μ-loop
 step-requires c κs = c .before .before .before .loop .inv .walking .there
 
 returns-3 : tie.Need-returns-3 Inv-loop μ-loop
-returns-3 c = summing-all (c .before .before .before .before .before .loop .inv) (c .before .before .before .if1 .left) (c .before .before .if2 .left) (c .before .step .ensures) (c .if3 .taken)
+returns-3 c =
+    let loop = c .before .before .before .before .before .loop in
+    let if1 = c .before .before .before .if1 in
+    let if2 = c .before .before .if2 in
+    let step = c .before .step in
+    summing-all (loop .inv) (if1 .left) (if2 .left) (step .ensures) (c .if3 .taken)
 
 loop-less : tie.Need-loop-less Inv-loop μ-loop
 loop-less c = walking-less (c .before .before .before .before .before .loop .inv .walking) (c .before .step .ensures) (c .if3 .left)
 
 loop-again : tie.Need-loop-again Inv-loop μ-loop
-loop-again c = summing-more (c .before .before .before .before .before .loop .inv) (c .before .before .before .if1 .left) (c .before .before .if2 .left) (c .before .step .ensures) (c .if3 .left)
+loop-again c =
+    let loop = c .before .before .before .before .before .loop in
+    let if1 = c .before .before .before .if1 in
+    let if2 = c .before .before .if2 in
+    let step = c .before .step in
+    summing-more (loop .inv) (if1 .left) (if2 .left) (step .ensures) (c .if3 .left)
 
 pub length-along-spec : {M : Type 1} → statement M
 length-along-spec =

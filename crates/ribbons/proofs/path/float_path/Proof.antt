@@ -16,7 +16,10 @@ enum-known-n-2 : tie.Need-enum-known-n-2
 enum-known-n-2 c = search needs
 
 path-from-requires : tie.Need-path-from-requires
-path-from-requires c κs = there-steps _ _ _ (sym (c .before .before .before .n2 .given .1) ∙ c .before .before .before .before .before .named-step .ensures) .stands
+path-from-requires c κs =
+    let named-step = c .before .before .before .before .before .named-step in
+    let n2 = c .before .before .before .n2 in
+    there-steps _ _ _ (sym (n2 .given .1) ∙ named-step .ensures) .stands
 
 returns : tie.Need-returns
 returns c = path-refused _ _ _ _ _ _ _ (c .before .before .before .named-step .ensures) (c .before .n .given .1)
@@ -28,7 +31,11 @@ same-length-2 : tie.Need-same-length-2
 same-length-2 c = search needs
 
 returns-2 : tie.Need-returns-2
-returns-2 c = path-left _ _ _ _ _ _ _ (c .before .before .before .before .before .before .before .before .before .before .named-step .ensures) (c .before .before .before .before .before .before .before .before .n2 .given .1) (c .before .before .before .before .path-from .ensures)
+returns-2 c =
+    let named-step = c .before .before .before .before .before .before .before .before .before .before .named-step in
+    let n2 = c .before .before .before .before .before .before .before .before .n2 in
+    let path-from = c .before .before .before .before .path-from in
+    path-left _ _ _ _ _ _ _ (named-step .ensures) (n2 .given .1) (path-from .ensures)
 
 pub float-path-spec : {M : Type 1} → statement M
 float-path-spec =

@@ -15,7 +15,11 @@ enum-known-a-2 : tie.Need-enum-known-a-2
 enum-known-a-2 c = search needs
 
 write-path-requires : tie.Need-write-path-requires
-write-path-requires c κs = along-room (c .before .before .before .before .before .before .before .before .before .pre) _ _ _ _ (sym (c .before .before .before .a2 .given .1) ∙ c .before .before .before .before .before .path-size .ensures)
+write-path-requires c κs =
+    let start = c .before .before .before .before .before .before .before .before .before in
+    let path-size = c .before .before .before .before .before .path-size in
+    let a2 = c .before .before .before .a2 in
+    along-room (start .pre) _ _ _ _ (sym (a2 .given .1) ∙ path-size .ensures)
 
 returns : tie.Need-returns
 returns c = left-declined (c .before .before .before .path-size .ensures) (c .before .a .given .1)
@@ -27,7 +31,11 @@ same-length-2 : tie.Need-same-length-2
 same-length-2 c = search needs
 
 returns-2 : tie.Need-returns-2
-returns-2 c = left-done (c .before .before .before .before .before .before .before .before .before .before .path-size .ensures) (c .before .before .before .before .before .before .before .before .a2 .given .1) (c .before .before .before .before .write-path .ensures .0) (c .before .before .before .before .write-path .ensures .1)
+returns-2 c =
+    let path-size = c .before .before .before .before .before .before .before .before .before .before .path-size in
+    let a2 = c .before .before .before .before .before .before .before .before .a2 in
+    let write-path = c .before .before .before .before .write-path in
+    left-done (path-size .ensures) (a2 .given .1) (write-path .ensures .0) (write-path .ensures .1)
 
 pub path-from-spec : {M : Type 1} → statement M
 path-from-spec =

@@ -15,28 +15,72 @@ survey-from-requires : tie.Need-survey-from-requires
 survey-from-requires c κs = search needs
 
 add-pieces : tie.Need-add-pieces
-add-pieces c = let few = survey-few (record { stands = c .before .before .before .before .before .pre; points-size = c .before .before .before .if1 .left; lifts-size = c .before .before .if2 .left }) (c .before .survey-from .ensures) in omega arith
+add-pieces c =
+    let start = c .before .before .before .before .before in
+    let if1 = c .before .before .before .if1 in
+    let if2 = c .before .before .if2 in
+    let survey-from = c .before .survey-from in
+    let few = survey-few (record { stands = start .pre; points-size = if1 .left; lifts-size = if2 .left }) (survey-from .ensures) in omega arith
 
 returns-3 : tie.Need-returns-3
-returns-3 c = short-kinds _ _ _ _ _ _ (c .before .before .before .before .if1 .left) (c .before .before .before .if2 .left) (c .before .before .survey-from .ensures) (c .if3 .taken)
+returns-3 c =
+    let if1 = c .before .before .before .before .if1 in
+    let if2 = c .before .before .before .if2 in
+    let survey-from = c .before .before .survey-from in
+    short-kinds _ _ _ _ _ _ (if1 .left) (if2 .left) (survey-from .ensures) (c .if3 .taken)
 
 mul-if4 : tie.Need-mul-if4
-mul-if4 c = let few = survey-few (record { stands = c .before .before .before .before .before .before .pre; points-size = c .before .before .before .before .if1 .left; lifts-size = c .before .before .before .if2 .left }) (c .before .before .survey-from .ensures) in omega arith
+mul-if4 c =
+    let start = c .before .before .before .before .before .before in
+    let if1 = c .before .before .before .before .if1 in
+    let if2 = c .before .before .before .if2 in
+    let survey-from = c .before .before .survey-from in
+    let few = survey-few (record { stands = start .pre; points-size = if1 .left; lifts-size = if2 .left }) (survey-from .ensures) in omega arith
 
 returns-4 : tie.Need-returns-4
-returns-4 c = short-coords _ _ _ _ _ _ (c .before .before .before .before .before .if1 .left) (c .before .before .before .before .if2 .left) (c .before .before .before .survey-from .ensures) (c .before .if3 .left) (c .if4 .taken)
+returns-4 c =
+    let if1 = c .before .before .before .before .before .if1 in
+    let if2 = c .before .before .before .before .if2 in
+    let survey-from = c .before .before .before .survey-from in
+    let if3 = c .before .if3 in
+    short-coords _ _ _ _ _ _ (if1 .left) (if2 .left) (survey-from .ensures) (if3 .left) (c .if4 .taken)
 
 returns-5 : tie.Need-returns-5
-returns-5 c = many-turns _ _ _ _ _ _ (c .before .before .before .before .before .before .if1 .left) (c .before .before .before .before .before .if2 .left) (c .before .before .before .before .survey-from .ensures) (c .before .before .if3 .left) (c .before .if4 .left) (c .if5 .taken)
+returns-5 c =
+    let if1 = c .before .before .before .before .before .before .if1 in
+    let if2 = c .before .before .before .before .before .if2 in
+    let survey-from = c .before .before .before .before .survey-from in
+    let if3 = c .before .before .if3 in
+    let if4 = c .before .if4 in
+    many-turns _ _ _ _ _ _ (if1 .left) (if2 .left) (survey-from .ensures) (if3 .left) (if4 .left) (c .if5 .taken)
 
 returns-6 : tie.Need-returns-6
-returns-6 c = far-away _ _ _ _ _ _ (c .before .before .before .before .before .before .before .if1 .left) (c .before .before .before .before .before .before .if2 .left) (c .before .before .before .before .before .survey-from .ensures) (c .before .before .before .if3 .left) (c .before .before .if4 .left) (c .before .if5 .left) (c .if6 .taken)
+returns-6 c =
+    let if1 = c .before .before .before .before .before .before .before .if1 in
+    let if2 = c .before .before .before .before .before .before .if2 in
+    let survey-from = c .before .before .before .before .before .survey-from in
+    let if3 = c .before .before .before .if3 in
+    let if4 = c .before .before .if4 in
+    let if5 = c .before .if5 in
+    far-away _ _ _ _ _ _ (if1 .left) (if2 .left) (survey-from .ensures) (if3 .left) (if4 .left) (if5 .left) (c .if6 .taken)
 
 cast-t17 : tie.Need-cast-t17
-cast-t17 c = let few = survey-few (record { stands = c .before .before .before .before .before .before .before .before .before .pre; points-size = c .before .before .before .before .before .before .before .if1 .left; lifts-size = c .before .before .before .before .before .before .if2 .left }) (c .before .before .before .before .before .survey-from .ensures) in omega arith
+cast-t17 c =
+    let start = c .before .before .before .before .before .before .before .before .before in
+    let if1 = c .before .before .before .before .before .before .before .if1 in
+    let if2 = c .before .before .before .before .before .before .if2 in
+    let survey-from = c .before .before .before .before .before .survey-from in
+    let few = survey-few (record { stands = start .pre; points-size = if1 .left; lifts-size = if2 .left }) (survey-from .ensures) in omega arith
 
 returns-7 : tie.Need-returns-7
-returns-7 c = path-sized _ _ _ _ _ _ (c .before .before .before .before .before .before .before .if1 .left) (c .before .before .before .before .before .before .if2 .left) (c .before .before .before .before .before .survey-from .ensures) (c .before .before .before .if3 .left) (c .before .before .if4 .left) (c .before .if5 .left) (c .if6 .left)
+returns-7 c =
+    let if1 = c .before .before .before .before .before .before .before .if1 in
+    let if2 = c .before .before .before .before .before .before .if2 in
+    let survey-from = c .before .before .before .before .before .survey-from in
+    let if3 = c .before .before .before .if3 in
+    let if4 = c .before .before .if4 in
+    let if5 = c .before .if5 in
+    path-sized _ _ _ _ _ _ (if1 .left) (if2 .left) (survey-from .ensures) (if3 .left) (if4 .left) (if5 .left) (c .if6 .left)
 
 pub path-size-spec : {M : Type 1} → statement M
 path-size-spec =

@@ -86,7 +86,11 @@ coordinate-requires-3 : tie.Need-coordinate-requires-3
 coordinate-requires-3 c κs = near-held (c .before .before .before .before .before .before .before .before .before .before .before .pre .near .near-z)
 
 returns : tie.Need-returns
-returns c = point-made _ (c .before .before .before .before .before .before .before .before .before .before .before .before .pre .near) (c .before .before .before .before .before .before .before .before .coordinate .ensures) (c .before .before .before .before .coordinate2 .ensures) (c .coordinate3 .ensures)
+returns c =
+    let start = c .before .before .before .before .before .before .before .before .before .before .before .before in
+    let coordinate = c .before .before .before .before .before .before .before .before .coordinate in
+    let coordinate2 = c .before .before .before .before .coordinate2 in
+    point-made _ (start .pre .near) (coordinate .ensures) (coordinate2 .ensures) (c .coordinate3 .ensures)
 
 pub point-at-spec : {M : Type 1} → statement M
 point-at-spec =

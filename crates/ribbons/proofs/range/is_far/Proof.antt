@@ -29,7 +29,14 @@ is-past-requires-2 : tie.Need-is-past-requires-2
 is-past-requires-2 c κs = search needs
 
 returns-2 : tie.Need-returns-2
-returns-2 c = far-second (record { word = c .before .before .before .before .before .is-past-arg .given; said = c .before .before .before .before .is-past .ensures }) (c .before .before .before .if1 .left) (record { word = c .before .before .is-past-arg2 .given; said = c .before .is-past2 .ensures }) (c .if2 .taken)
+returns-2 c =
+    let is-past-arg = c .before .before .before .before .before .is-past-arg in
+    let is-past = c .before .before .before .before .is-past in
+    let if1 = c .before .before .before .if1 in
+    let is-past-arg2 = c .before .before .is-past-arg2 in
+    let is-past2 = c .before .is-past2 in
+    far-second (record { word = is-past-arg .given; said = is-past .ensures }) (if1 .left)
+    (record { word = is-past-arg2 .given; said = is-past2 .ensures }) (c .if2 .taken)
 
 add-is-past-2 : tie.Need-add-is-past-2
 add-is-past-2 c = search needs
@@ -44,7 +51,16 @@ is-past-requires-3 : tie.Need-is-past-requires-3
 is-past-requires-3 c κs = search needs
 
 returns-3 : tie.Need-returns-3
-returns-3 c = far-last (record { word = c .before .before .before .before .before .before .before .is-past-arg .given; said = c .before .before .before .before .before .before .is-past .ensures }) (c .before .before .before .before .before .if1 .left) (record { word = c .before .before .before .before .is-past-arg2 .given; said = c .before .before .before .is-past2 .ensures }) (c .before .before .if2 .left) (record { word = c .before .is-past-arg3 .given; said = c .is-past3 .ensures })
+returns-3 c =
+    let is-past-arg = c .before .before .before .before .before .before .before .is-past-arg in
+    let is-past = c .before .before .before .before .before .before .is-past in
+    let if1 = c .before .before .before .before .before .if1 in
+    let is-past-arg2 = c .before .before .before .before .is-past-arg2 in
+    let is-past2 = c .before .before .before .is-past2 in
+    let if2 = c .before .before .if2 in
+    let is-past-arg3 = c .before .is-past-arg3 in
+    far-last (record { word = is-past-arg .given; said = is-past .ensures }) (if1 .left)
+    (record { word = is-past-arg2 .given; said = is-past2 .ensures }) (if2 .left) (record { word = is-past-arg3 .given; said = c .is-past3 .ensures })
 
 pub is-far-spec : {M : Type 1} → statement M
 is-far-spec =

@@ -27,13 +27,25 @@ step-requires : tie.Need-step-requires Inv-loop μ-loop
 step-requires c κs = c .before .before .before .loop .inv .walking .there
 
 returns : tie.Need-returns Inv-loop μ-loop
-returns c = surveying-all (c .before .before .before .before .before .loop .inv) (c .before .before .before .before .has-many-turns .ensures) (c .before .before .before .is-far-step .ensures) (c .before .before .with-step .ensures) (c .before .step .ensures) (c .if1 .taken)
+returns c =
+    let loop = c .before .before .before .before .before .loop in
+    let has-many-turns = c .before .before .before .before .has-many-turns in
+    let is-far-step = c .before .before .before .is-far-step in
+    let with-step = c .before .before .with-step in
+    let step = c .before .step in
+    surveying-all (loop .inv) (has-many-turns .ensures) (is-far-step .ensures) (with-step .ensures) (step .ensures) (c .if1 .taken)
 
 loop-less : tie.Need-loop-less Inv-loop μ-loop
 loop-less c = walking-less (c .before .before .before .before .before .loop .inv .walking) (c .before .step .ensures) (c .if1 .left)
 
 loop-again : tie.Need-loop-again Inv-loop μ-loop
-loop-again c = surveying-more (c .before .before .before .before .before .loop .inv) (c .before .before .before .before .has-many-turns .ensures) (c .before .before .before .is-far-step .ensures) (c .before .before .with-step .ensures) (c .before .step .ensures) (c .if1 .left)
+loop-again c =
+    let loop = c .before .before .before .before .before .loop in
+    let has-many-turns = c .before .before .before .before .has-many-turns in
+    let is-far-step = c .before .before .before .is-far-step in
+    let with-step = c .before .before .with-step in
+    let step = c .before .step in
+    surveying-more (loop .inv) (has-many-turns .ensures) (is-far-step .ensures) (with-step .ensures) (step .ensures) (c .if1 .left)
 
 pub survey-from-spec : {M : Type 1} → statement M
 survey-from-spec =

@@ -8,7 +8,10 @@ write-pieces-requires : tie.Need-write-pieces-requires
 write-pieces-requires c κs = search needs
 
 write-piece-requires : tie.Need-write-piece-requires
-write-piece-requires c κs = closing-room (c .before .before .before .before .before .before .before .before .before .before .before .before .pre) (c .before .before .before .before .before .before .write-pieces .ensures)
+write-piece-requires c κs =
+    let start = c .before .before .before .before .before .before .before .before .before .before .before .before in
+    let write-pieces = c .before .before .before .before .before .before .write-pieces in
+    closing-room (start .pre) (write-pieces .ensures)
 
 same-length : tie.Need-same-length
 same-length c = search needs
@@ -17,7 +20,11 @@ same-length-2 : tie.Need-same-length-2
 same-length-2 c = search needs
 
 returns : tie.Need-returns
-returns c = (closing-kinds (c .before .before .before .before .before .before .before .before .before .before .before .before .before .before .before .before .before .pre) (c .before .before .before .before .before .before .before .before .before .before .before .write-pieces .ensures) (c .before .before .before .before .write-piece .ensures), closing-coords (c .before .before .before .before .before .before .before .before .before .before .before .before .before .before .before .before .before .pre) (c .before .before .before .before .before .before .before .before .before .before .before .write-pieces .ensures) (c .before .before .before .before .write-piece .ensures))
+returns c =
+    let start = c .before .before .before .before .before .before .before .before .before .before .before .before .before .before .before .before .before in
+    let write-pieces = c .before .before .before .before .before .before .before .before .before .before .before .write-pieces in
+    let write-piece = c .before .before .before .before .write-piece in
+    (closing-kinds (start .pre) (write-pieces .ensures) (write-piece .ensures), closing-coords (start .pre) (write-pieces .ensures) (write-piece .ensures))
 
 pub write-path-spec : {M : Type 1} → statement M
 write-path-spec =

@@ -29,19 +29,40 @@ step-requires : tie.Need-step-requires Inv-loop μ-loop
 step-requires c κs = c .before .before .before .before .before .before .before .before .loop .inv .walking .there
 
 same-length : tie.Need-same-length Inv-loop μ-loop
-same-length c = laying-kinds (c .before .before .before .before .before .before .before .before .before .before .loop .inv) (c .before .before .before .before .before .before .before .before .before .piece-on .ensures) (c .before .before .before .before .before .before .write-piece .ensures)
+same-length c =
+    let loop = c .before .before .before .before .before .before .before .before .before .before .loop in
+    let piece-on = c .before .before .before .before .before .before .before .before .before .piece-on in
+    let write-piece = c .before .before .before .before .before .before .write-piece in
+    laying-kinds (loop .inv) (piece-on .ensures) (write-piece .ensures)
 
 same-length-2 : tie.Need-same-length-2 Inv-loop μ-loop
-same-length-2 c = laying-coords (c .before .before .before .before .before .before .before .before .before .before .loop .inv) (c .before .before .before .before .before .before .before .before .before .piece-on .ensures) (c .before .before .before .before .before .before .write-piece .ensures)
+same-length-2 c =
+    let loop = c .before .before .before .before .before .before .before .before .before .before .loop in
+    let piece-on = c .before .before .before .before .before .before .before .before .before .piece-on in
+    let write-piece = c .before .before .before .before .before .before .write-piece in
+    laying-coords (loop .inv) (piece-on .ensures) (write-piece .ensures)
 
 returns : tie.Need-returns Inv-loop μ-loop
-returns c = laying-all (c .before .before .before .before .before .before .before .before .before .before .loop .inv) (c .before .before .before .before .before .before .before .before .before .piece-on .ensures) (c .before .before .before .before .before .before .write-piece .ensures) (c .before .step .ensures) (c .if1 .taken)
+returns c =
+    let loop = c .before .before .before .before .before .before .before .before .before .before .loop in
+    let piece-on = c .before .before .before .before .before .before .before .before .before .piece-on in
+    let write-piece = c .before .before .before .before .before .before .write-piece in
+    let step = c .before .step in
+    laying-all (loop .inv) (piece-on .ensures) (write-piece .ensures) (step .ensures) (c .if1 .taken)
 
 loop-less : tie.Need-loop-less Inv-loop μ-loop
-loop-less c = walking-less (c .before .before .before .before .before .before .before .before .before .before .loop .inv .walking) (c .before .step .ensures) (c .if1 .left)
+loop-less c =
+    let loop = c .before .before .before .before .before .before .before .before .before .before .loop in
+    let step = c .before .step in
+    walking-less (loop .inv .walking) (step .ensures) (c .if1 .left)
 
 loop-again : tie.Need-loop-again Inv-loop μ-loop
-loop-again c = laying-more (c .before .before .before .before .before .before .before .before .before .before .loop .inv) (c .before .before .before .before .before .before .before .before .before .piece-on .ensures) (c .before .before .before .before .before .before .write-piece .ensures) (c .before .step .ensures) (c .if1 .left)
+loop-again c =
+    let loop = c .before .before .before .before .before .before .before .before .before .before .loop in
+    let piece-on = c .before .before .before .before .before .before .before .before .before .piece-on in
+    let write-piece = c .before .before .before .before .before .before .write-piece in
+    let step = c .before .step in
+    laying-more (loop .inv) (piece-on .ensures) (write-piece .ensures) (step .ensures) (c .if1 .left)
 
 pub write-pieces-spec : {M : Type 1} → statement M
 write-pieces-spec =

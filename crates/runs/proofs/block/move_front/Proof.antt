@@ -21,13 +21,23 @@ add-buf : tie.Need-add-buf Inv-loop μ-loop
 add-buf c = let k = c .before .loop .inv in let h = c .loop-test .taken in let f = c .before .before .fits .to .fits in omega arith
 
 slice-read-buf : tie.Need-slice-read-buf Inv-loop μ-loop
-slice-read-buf c = let k = c .before .before .loop .inv in let h = c .before .loop-test .taken in let size = c .before .before .loop .inv .front .size in omega arith
+slice-read-buf c =
+    let loop = c .before .before .loop in
+    let loop-test = c .before .loop-test in
+    let k = loop .inv in let h = loop-test .taken in let size = loop .inv .front .size in omega arith
 
 slice-write-buf : tie.Need-slice-write-buf Inv-loop μ-loop
-slice-write-buf c = let k = c .before .before .loop .inv in let h = c .before .loop-test .taken in let size = c .before .before .loop .inv .front .size in omega arith
+slice-write-buf c =
+    let loop = c .before .before .loop in
+    let loop-test = c .before .loop-test in
+    let k = loop .inv in let h = loop-test .taken in let size = loop .inv .front .size in omega arith
 
 add-i : tie.Need-add-i Inv-loop μ-loop
-add-i c = let k = c .before .before .loop .inv in let h = c .before .loop-test .taken in let f = c .before .before .before .fits .to .fits in omega arith
+add-i c =
+    let start = c .before .before .before in
+    let loop = c .before .before .loop in
+    let loop-test = c .before .loop-test in
+    let k = loop .inv in let h = loop-test .taken in let f = start .fits .to .fits in omega arith
 
 loop-less : tie.Need-loop-less Inv-loop μ-loop
 loop-less c = let h = c .before .loop-test .taken in omega arith

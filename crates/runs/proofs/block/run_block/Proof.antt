@@ -25,13 +25,23 @@ same-length-3 : tie.Need-same-length-3
 same-length-3 c = search needs
 
 returns : tie.Need-returns
-returns c = let b = block-bad (c .before .before .before .before .before .before .before .before .before .before .before .before .before .args .t .now) (c .before .before .before .before .before .before .before .before .before .before .before .before .before .args .number) (c .before .before .before .before .before .before .before .before .before .before .before .before .before .args .buf .now) (c .before .before .before .before .before .before .before .before .before .before .before .before .before .args .n) (c .before .before .before .before .before .before .run-records .ensures .0) (c .if1 .taken) in (b .0, c .before .before .before .before .before .before .run-records .ensures .1, b .1, c .before .before .before .before .before .before .run-records .ensures .2)
+returns c =
+    let start = c .before .before .before .before .before .before .before .before .before .before .before .before .before in
+    let run-records = c .before .before .before .before .before .before .run-records in
+    let b = block-bad (start .args .t .now) (start .args .number) (start .args .buf .now) (start .args .n) (run-records .ensures .0) (c .if1 .taken) in
+    (b .0, run-records .ensures .1, b .1, run-records .ensures .2)
 
 move-front-requires : tie.Need-move-front-requires
-move-front-requires c κs = (taken-there _ _ _ _ (c .before .before .before .before .before .before .before .run-records .ensures .0) (c .before .before .before .before .before .before .before .before .before .before .before .before .before .before .pre .0), c .before .before .before .before .before .before .before .before .before .before .before .before .before .before .pre .0)
+move-front-requires c κs =
+    let start = c .before .before .before .before .before .before .before .before .before .before .before .before .before .before in
+    let run-records = c .before .before .before .before .before .before .before .run-records in
+    (taken-there _ _ _ _ (run-records .ensures .0) (start .pre .0), start .pre .0)
 
 sub-t18 : tie.Need-sub-t18
-sub-t18 c = taken-there _ _ _ _ (c .before .before .before .before .before .before .before .before .before .before .run-records .ensures .0) (c .before .before .before .before .before .before .before .before .before .before .before .before .before .before .before .before .before .pre .0)
+sub-t18 c =
+    let start = c .before .before .before .before .before .before .before .before .before .before .before .before .before .before .before .before .before in
+    let run-records = c .before .before .before .before .before .before .before .before .before .before .run-records in
+    taken-there _ _ _ _ (run-records .ensures .0) (start .pre .0)
 
 same-length-4 : tie.Need-same-length-4
 same-length-4 c = search needs
@@ -43,7 +53,13 @@ same-length-6 : tie.Need-same-length-6
 same-length-6 c = search needs
 
 returns-2 : tie.Need-returns-2
-returns-2 c = let b = block-more _ _ _ _ (c .before .before .before .before .before .before .before .before .before .before .run-records .ensures .0) (c .before .before .before .before .before .before .before .before .before .before .before .before .before .before .before .before .before .pre .0) (c .before .before .before .before .if1 .left) (c .before .before .move-front .ensures) in (b .0, c .before .before .before .before .before .before .before .before .before .before .run-records .ensures .1, b .1, c .before .before .before .before .before .before .before .before .before .before .run-records .ensures .2)
+returns-2 c =
+    let start = c .before .before .before .before .before .before .before .before .before .before .before .before .before .before .before .before .before in
+    let run-records = c .before .before .before .before .before .before .before .before .before .before .run-records in
+    let if1 = c .before .before .before .before .if1 in
+    let move-front = c .before .before .move-front in
+    let b = block-more _ _ _ _ (run-records .ensures .0) (start .pre .0) (if1 .left) (move-front .ensures) in
+    (b .0, run-records .ensures .1, b .1, run-records .ensures .2)
 
 pub run-block-spec : {M : Type 1} → statement M
 run-block-spec =

@@ -30,7 +30,10 @@ word-requires-5 : tie.Need-word-requires-5
 word-requires-5 c κs = let size = size-known (c .before .before .enum-told3 .given .1) (c .before .before .before .before .before .pre) in omega arith
 
 word-requires-6 : tie.Need-word-requires-6
-word-requires-6 c κs = let size = size-known (c .before .before .before .enum-told3 .given .1) (c .before .before .before .before .before .before .pre) in omega arith
+word-requires-6 c κs =
+    let start = c .before .before .before .before .before .before in
+    let enum-told3 = c .before .before .before .enum-told3 in
+    let size = size-known (enum-told3 .given .1) (start .pre) in omega arith
 
 signed-requires : tie.Need-signed-requires
 signed-requires c κs = search needs
@@ -60,13 +63,23 @@ returns-2 : tie.Need-returns-2
 returns-2 c = remove-made _ _ (c .before .enum-told2 .given .1) (c .word2 .ensures)
 
 returns-3 : tie.Need-returns-3
-returns-3 c = insert-made _ _ (c .before .before .before .before .before .enum-told3 .given .1) (c .before .before .before .before .word3 .ensures) (c .before .before .before .word4 .ensures) (c .before .before .word5 .ensures) (c .signed .ok) (c .signed .ensures) (c .before .word6 .ensures)
+returns-3 c =
+    let enum-told3 = c .before .before .before .before .before .enum-told3 in
+    let word3 = c .before .before .before .before .word3 in
+    let word4 = c .before .before .before .word4 in
+    let word5 = c .before .before .word5 in
+    let word6 = c .before .word6 in
+    insert-made _ _ (enum-told3 .given .1) (word3 .ensures) (word4 .ensures) (word5 .ensures) (c .signed .ok) (c .signed .ensures) (word6 .ensures)
 
 returns-4 : tie.Need-returns-4
 returns-4 c = delete-made _ _ (c .before .enum-told4 .given .1) (c .word7 .ensures)
 
 returns-5 : tie.Need-returns-5
-returns-5 c = turn-made _ _ (c .before .before .before .enum-told5 .given .1) (c .before .before .word8 .ensures) (c .signed2 .ok) (c .signed2 .ensures) (c .before .word9 .ensures)
+returns-5 c =
+    let enum-told5 = c .before .before .before .enum-told5 in
+    let word8 = c .before .before .word8 in
+    let word9 = c .before .word9 in
+    turn-made _ _ (enum-told5 .given .1) (word8 .ensures) (c .signed2 .ok) (c .signed2 .ensures) (word9 .ensures)
 
 pub edit-of-spec : {M : Type 1} → statement M
 edit-of-spec =

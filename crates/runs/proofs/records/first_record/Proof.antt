@@ -27,10 +27,21 @@ enum-told : tie.Need-enum-told
 enum-told c = search needs
 
 returns-3 : tie.Need-returns-3
-returns-3 c = first-marked _ (c .before .before .before .before .before .before .before .if1 .left) (c .before .before .before .before .before .before .if2 .left) (c .before .before .before .before .before .word .ensures) (c .before .before .before .before .mark-of .ensures) (c .before .before .m .given .1) (c .known-record .ensures)
+returns-3 c =
+    let if1 = c .before .before .before .before .before .before .before .if1 in
+    let if2 = c .before .before .before .before .before .before .if2 in
+    let word = c .before .before .before .before .before .word in
+    let mark-of = c .before .before .before .before .mark-of in
+    let m = c .before .before .m in
+    first-marked _ (if1 .left) (if2 .left) (word .ensures) (mark-of .ensures) (m .given .1) (c .known-record .ensures)
 
 returns-4 : tie.Need-returns-4
-returns-4 c = first-marked _ (c .before .before .before .before .before .if1 .left) (c .before .before .before .before .if2 .left) (c .before .before .before .word .ensures) (c .before .before .mark-of .ensures) (c .enum-told .given .1) refl
+returns-4 c =
+    let if1 = c .before .before .before .before .before .if1 in
+    let if2 = c .before .before .before .before .if2 in
+    let word = c .before .before .before .word in
+    let mark-of = c .before .before .mark-of in
+    first-marked _ (if1 .left) (if2 .left) (word .ensures) (mark-of .ensures) (c .enum-told .given .1) refl
 
 pub first-record-spec : {M : Type 1} → statement M
 first-record-spec =

@@ -18,13 +18,22 @@ shared-slice-read-low : tie.Need-shared-slice-read-low
 shared-slice-read-low c = search needs
 
 cast-low : tie.Need-cast-low
-cast-low c = let high = c .before .shared-slice-known .given (c .before .before .args .i) in let low = c .shared-slice-known2 .given (c .before .before .args .i + 1) in omega arith
+cast-low c =
+    let start = c .before .before in
+    let shared-slice-known = c .before .shared-slice-known in
+    let high = shared-slice-known .given (start .args .i) in let low = c .shared-slice-known2 .given (start .args .i + 1) in omega arith
 
 mul-result : tie.Need-mul-result
-mul-result c = let high = c .before .shared-slice-known .given (c .before .before .args .i) in let low = c .shared-slice-known2 .given (c .before .before .args .i + 1) in omega arith
+mul-result c =
+    let start = c .before .before in
+    let shared-slice-known = c .before .shared-slice-known in
+    let high = shared-slice-known .given (start .args .i) in let low = c .shared-slice-known2 .given (start .args .i + 1) in omega arith
 
 add-result : tie.Need-add-result
-add-result c = let high = c .before .shared-slice-known .given (c .before .before .args .i) in let low = c .shared-slice-known2 .given (c .before .before .args .i + 1) in omega arith
+add-result c =
+    let start = c .before .before in
+    let shared-slice-known = c .before .shared-slice-known in
+    let high = shared-slice-known .given (start .args .i) in let low = c .shared-slice-known2 .given (start .args .i + 1) in omega arith
 
 returns : tie.Need-returns
 returns c = search needs

@@ -23,7 +23,9 @@ same-length : tie.Need-same-length
 same-length c = search needs
 
 returns : tie.Need-returns
-returns c = (c .before .before .before .before .apply .ensures .1, line-done _ _ _ (c .before .before .before .before .apply .ensures .0) _ (c .enum-told .given .1))
+returns c =
+    let apply = c .before .before .before .before .apply in
+    (apply .ensures .1, line-done _ _ _ (apply .ensures .0) _ (c .enum-told .given .1))
 
 same-length-2 : tie.Need-same-length-2
 same-length-2 c = search needs
@@ -32,7 +34,12 @@ same-length-3 : tie.Need-same-length-3
 same-length-3 c = search needs
 
 returns-2 : tie.Need-returns-2
-returns-2 c = (c .before .before .before .before .before .before .before .before .before .before .apply .ensures .1, line-declined _ _ _ (c .before .before .before .before .before .before .before .before .before .before .apply .ensures .0) (c .before .before .before .before .before .before .r .given .1) (c .before .before .before .number-of .ensures) (c .before .before .no-line .ensures))
+returns-2 c =
+    let apply = c .before .before .before .before .before .before .before .before .before .before .apply in
+    let r = c .before .before .before .before .before .before .r in
+    let number-of = c .before .before .before .number-of in
+    let no-line = c .before .before .no-line in
+    (apply .ensures .1, line-declined _ _ _ (apply .ensures .0) (r .given .1) (number-of .ensures) (no-line .ensures))
 
 pub run-record-spec : {M : Type 1} → statement M
 run-record-spec =

@@ -32,19 +32,40 @@ enum-known-edit : tie.Need-enum-known-edit Inv-loop μ-loop
 enum-known-edit c = search needs
 
 run-record-requires : tie.Need-run-record-requires Inv-loop μ-loop
-run-record-requires c κs = running-within (c .before .before .before .before .before .before .before .loop .inv) (c .before .before .before .before .before .first-record .ensures) (c .before .before .before .edit .given .1) .place
+run-record-requires c κs =
+    let loop = c .before .before .before .before .before .before .before .loop in
+    let first-record = c .before .before .before .before .before .first-record in
+    let edit = c .before .before .before .edit in
+    running-within (loop .inv) (first-record .ensures) (edit .given .1) .place
 
 add-at : tie.Need-add-at Inv-loop μ-loop
-add-at c = let w = running-within (c .before .before .before .before .before .before .before .before .before .before .before .before .loop .inv) (c .before .before .before .before .before .before .before .before .before .before .first-record .ensures) (c .before .before .before .before .before .before .before .before .edit .given .1) in omega arith
+add-at c =
+    let loop = c .before .before .before .before .before .before .before .before .before .before .before .before .loop in
+    let first-record = c .before .before .before .before .before .before .before .before .before .before .first-record in
+    let edit = c .before .before .before .before .before .before .before .before .edit in
+    let w = running-within (loop .inv) (first-record .ensures) (edit .given .1) in omega arith
 
 add-next : tie.Need-add-next Inv-loop μ-loop
-add-next c = let w = running-within (c .before .before .before .before .before .before .before .before .before .before .before .before .loop .inv) (c .before .before .before .before .before .before .before .before .before .before .first-record .ensures) (c .before .before .before .before .before .before .before .before .edit .given .1) in omega arith
+add-next c =
+    let loop = c .before .before .before .before .before .before .before .before .before .before .before .before .loop in
+    let first-record = c .before .before .before .before .before .before .before .before .before .before .first-record in
+    let edit = c .before .before .before .before .before .before .before .before .edit in
+    let w = running-within (loop .inv) (first-record .ensures) (edit .given .1) in omega arith
 
 loop-less : tie.Need-loop-less Inv-loop μ-loop
-loop-less c = let w = running-within (c .before .before .before .before .before .before .before .before .before .before .before .before .loop .inv) (c .before .before .before .before .before .before .before .before .before .before .first-record .ensures) (c .before .before .before .before .before .before .before .before .edit .given .1) in omega arith
+loop-less c =
+    let loop = c .before .before .before .before .before .before .before .before .before .before .before .before .loop in
+    let first-record = c .before .before .before .before .before .before .before .before .before .before .first-record in
+    let edit = c .before .before .before .before .before .before .before .before .edit in
+    let w = running-within (loop .inv) (first-record .ensures) (edit .given .1) in omega arith
 
 loop-again : tie.Need-loop-again Inv-loop μ-loop
-loop-again c = running-more (c .before .before .before .before .before .before .before .before .before .before .before .before .loop .inv) (c .before .before .before .before .before .before .before .before .before .before .first-record .ensures) (c .before .before .before .before .before .before .before .before .edit .given .1) (c .before .before .before .before .run-record .ensures .0) (c .before .before .before .before .run-record .kept .0) (c .before .before .before .before .run-record .ensures .1)
+loop-again c =
+    let loop = c .before .before .before .before .before .before .before .before .before .before .before .before .loop in
+    let first-record = c .before .before .before .before .before .before .before .before .before .before .first-record in
+    let edit = c .before .before .before .before .before .before .before .before .edit in
+    let run-record = c .before .before .before .before .run-record in
+    running-more (loop .inv) (first-record .ensures) (edit .given .1) (run-record .ensures .0) (run-record .kept .0) (run-record .ensures .1)
 
 enum-known-r : tie.Need-enum-known-r Inv-loop μ-loop
 enum-known-r c = search needs
@@ -59,7 +80,11 @@ same-length-2 : tie.Need-same-length-2 Inv-loop μ-loop
 same-length-2 c = running-size (c .before .before .before .before .before .before .loop .inv)
 
 returns : tie.Need-returns Inv-loop μ-loop
-returns c = running-refused (c .before .before .before .before .before .before .loop .inv) (c .before .before .before .before .first-record .ensures) (c .before .before .r .given .1) (c .number-of .ensures)
+returns c =
+    let loop = c .before .before .before .before .before .before .loop in
+    let first-record = c .before .before .before .before .first-record in
+    let r = c .before .before .r in
+    running-refused (loop .inv) (first-record .ensures) (r .given .1) (c .number-of .ensures)
 
 enum-told : tie.Need-enum-told Inv-loop μ-loop
 enum-told c = search needs

@@ -25,7 +25,13 @@ same-length : tie.Need-same-length
 same-length c = search needs
 
 returns-3 : tie.Need-returns-3
-returns-3 c = counts-done _ _ (seen-good _ (c .before .before .before .before .before .before .before .is-good .ensures) (c .before .before .before .before .before .before .if1 .left) .0) (c .before .before .before .before .measure-mesh .ensures) (c .before .before .before .before .before .if2 .left) (c .before .write-five .ensures)
+returns-3 c =
+    let is-good = c .before .before .before .before .before .before .before .is-good in
+    let if1 = c .before .before .before .before .before .before .if1 in
+    let if2 = c .before .before .before .before .before .if2 in
+    let measure-mesh = c .before .before .before .before .measure-mesh in
+    let write-five = c .before .write-five in
+    counts-done _ _ (seen-good _ (is-good .ensures) (if1 .left) .0) (measure-mesh .ensures) (if2 .left) (write-five .ensures)
 
 pub counts-spec : {M : Type 1} → statement M
 counts-spec =

@@ -18,7 +18,11 @@ label-parts-requires : tie.Need-label-parts-requires
 label-parts-requires c κs = (seen-good _ (c .before .before .before .is-good .ensures) (c .before .before .if1 .left) .1, search needs, search needs)
 
 roots-requires : tie.Need-roots-requires
-roots-requires c κs = labelled-keyed (seen-good _ (c .before .before .before .before .before .is-good .ensures) (c .before .before .before .before .if1 .left) .1) (c .before .label-parts .ensures)
+roots-requires c κs =
+    let is-good = c .before .before .before .before .before .is-good in
+    let if1 = c .before .before .before .before .if1 in
+    let label-parts = c .before .label-parts in
+    labelled-keyed (seen-good _ (is-good .ensures) (if1 .left) .1) (label-parts .ensures)
 
 cast-n : tie.Need-cast-n
 cast-n c = search needs
@@ -27,10 +31,19 @@ mul-n : tie.Need-mul-n
 mul-n c = search needs
 
 returns-2 : tie.Need-returns-2
-returns-2 c = parts-short _ (c .before .roots .ensures) _ (seen-good _ (c .before .before .before .before .before .before .before .is-good .ensures) (c .before .before .before .before .before .before .if1 .left) .0) (c .if2 .taken)
+returns-2 c =
+    let is-good = c .before .before .before .before .before .before .before .is-good in
+    let if1 = c .before .before .before .before .before .before .if1 in
+    let roots = c .before .roots in
+    parts-short _ (roots .ensures) _ (seen-good _ (is-good .ensures) (if1 .left) .0) (c .if2 .taken)
 
 labelled-rows-requires : tie.Need-labelled-rows-requires
-labelled-rows-requires c κs = (seen-good _ (c .before .before .before .before .before .before .before .before .before .before .is-good .ensures) (c .before .before .before .before .before .before .before .before .before .if1 .left) .1, c .before .before .before .before .before .before .label-parts .ensures, let s = rows-size _ (c .before .before .before .before .roots .ensures) in omega arith)
+labelled-rows-requires c κs =
+    let is-good = c .before .before .before .before .before .before .before .before .before .before .is-good in
+    let if1 = c .before .before .before .before .before .before .before .before .before .if1 in
+    let label-parts = c .before .before .before .before .before .before .label-parts in
+    let roots = c .before .before .before .before .roots in
+    (seen-good _ (is-good .ensures) (if1 .left) .1, label-parts .ensures, let s = rows-size _ (roots .ensures) in omega arith)
 
 cast-t20 : tie.Need-cast-t20
 cast-t20 c = search needs
@@ -39,7 +52,12 @@ same-length : tie.Need-same-length
 same-length c = search needs
 
 returns-3 : tie.Need-returns-3
-returns-3 c = parts-done _ (c .before .before .before .before .before .before .roots .ensures) _ (seen-good _ (c .before .before .before .before .before .before .before .before .before .before .before .before .is-good .ensures) (c .before .before .before .before .before .before .before .before .before .before .before .if1 .left) .0) (c .before .labelled-rows .ensures)
+returns-3 c =
+    let is-good = c .before .before .before .before .before .before .before .before .before .before .before .before .is-good in
+    let if1 = c .before .before .before .before .before .before .before .before .before .before .before .if1 in
+    let roots = c .before .before .before .before .before .before .roots in
+    let labelled-rows = c .before .labelled-rows in
+    parts-done _ (roots .ensures) _ (seen-good _ (is-good .ensures) (if1 .left) .0) (labelled-rows .ensures)
 
 pub parts-spec : {M : Type 1} → statement M
 parts-spec =

@@ -37,7 +37,9 @@ same-length : tie.Need-same-length
 same-length c = search needs
 
 returns : tie.Need-returns
-returns c = five-stores (c .args .out .now) (c .args .v) (c .args .e) (c .args .f) (c .args .p) (omega arith) (omega arith) (omega arith) (omega arith) (c .fits .x)
+returns c =
+    five-stores (c .args .out .now) (c .args .v) (c .args .e) (c .args .f) (c .args .p) (omega arith) (omega arith) (omega arith) (omega arith)
+    (c .fits .x)
 
 pub write-five-spec : {M : Type 1} → statement M
 write-five-spec =

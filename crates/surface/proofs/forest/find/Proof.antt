@@ -32,7 +32,10 @@ element-copy-out-mark : tie.Need-element-copy-out-mark Inv-loop μ-loop
 element-copy-out-mark c = c .before .before .before .before .before .loop .inv .low
 
 add-mark : tie.Need-add-mark Inv-loop μ-loop
-add-mark c = let b = c .before .before .before .before .before .before .loop .inv .bit in let k = lifted-shape (c .before .before .before .before .before .before .loop .inv) (c .before .lift .ensures .0) (c .before .lift .ensures .1) .bit _ (c .before .before .before .before .before .before .loop .inv .low) in omega arith
+add-mark c =
+    let loop = c .before .before .before .before .before .before .loop in
+    let lift = c .before .lift in
+    let b = loop .inv .bit in let k = lifted-shape (loop .inv) (lift .ensures .0) (lift .ensures .1) .bit _ (loop .inv .low) in omega arith
 
 mul-at : tie.Need-mul-at Inv-loop μ-loop
 mul-at c = let h = c .before .before .before .before .before .before .loop .inv .low in omega arith
@@ -41,13 +44,23 @@ element-copy-out-at : tie.Need-element-copy-out-at Inv-loop μ-loop
 element-copy-out-at c = c .before .before .before .before .before .before .loop .inv .low
 
 cast-at : tie.Need-cast-at Inv-loop μ-loop
-cast-at c = let n = up-low (lifted-shape (c .before .before .before .before .before .before .before .loop .inv) (c .before .before .lift .ensures .0) (c .before .before .lift .ensures .1)) (c .before .before .before .before .before .before .before .loop .inv .low) in omega arith
+cast-at c =
+    let loop = c .before .before .before .before .before .before .before .loop in
+    let lift = c .before .before .lift in
+    let n = up-low (lifted-shape (loop .inv) (lift .ensures .0) (lift .ensures .1)) (loop .inv .low) in omega arith
 
 loop-less : tie.Need-loop-less Inv-loop μ-loop
-loop-less c = finding-less (c .before .before .before .before .before .before .before .loop .inv) (c .before .before .lift .ensures .0) (c .before .before .lift .ensures .1) (c .before .before .before .before .before .if1 .left)
+loop-less c =
+    let loop = c .before .before .before .before .before .before .before .loop in
+    let if1 = c .before .before .before .before .before .if1 in
+    let lift = c .before .before .lift in
+    finding-less (loop .inv) (lift .ensures .0) (lift .ensures .1) (if1 .left)
 
 loop-again : tie.Need-loop-again Inv-loop μ-loop
-loop-again c = finding-more (c .before .before .before .before .before .before .before .loop .inv) (c .before .before .lift .ensures .0) (c .before .before .lift .ensures .1)
+loop-again c =
+    let loop = c .before .before .before .before .before .before .before .loop in
+    let lift = c .before .before .lift in
+    finding-more (loop .inv) (lift .ensures .0) (lift .ensures .1)
 
 pub find-spec : {M : Type 1} → statement M
 find-spec =

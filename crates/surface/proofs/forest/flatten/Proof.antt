@@ -25,7 +25,10 @@ loop-less : tie.Need-loop-less Inv-loop μ-loop
 loop-less c = omega arith
 
 loop-again : tie.Need-loop-again Inv-loop μ-loop
-loop-again c = rw (c .lift .ensures .0, c .lift .ensures .1) (flattening-more (c .before .before .before .before .loop .inv) (c .before .before .before .loop-test .taken))
+loop-again c =
+    let loop = c .before .before .before .before .loop in
+    let loop-test = c .before .before .before .loop-test in
+    rw (c .lift .ensures .0, c .lift .ensures .1) (flattening-more (loop .inv) (loop-test .taken))
 
 returns : tie.Need-returns Inv-loop μ-loop
 returns c = let end : c .before .loop .v ≡ 512 = omega arith in rw end at (c .before .loop .inv)

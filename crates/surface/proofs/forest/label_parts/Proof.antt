@@ -34,7 +34,9 @@ flatten-requires : tie.Need-flatten-requires Inv-loop μ-loop
 flatten-requires c κs = c .before .before .before .loop .inv .shape
 
 returns : tie.Need-returns Inv-loop μ-loop
-returns c = let end : c .before .before .before .before .loop .e ≡ 1024 = omega arith in linked-flat (rw end at (c .before .before .before .before .loop .inv)) (c .flatten .ensures)
+returns c =
+    let loop = c .before .before .before .before .loop in
+    let end : loop .e ≡ 1024 = omega arith in linked-flat (rw end at (loop .inv)) (c .flatten .ensures)
 
 pub label-parts-spec : {M : Type 1} → statement M
 label-parts-spec =

@@ -27,7 +27,9 @@ element-copy-out-k-2 : tie.Need-element-copy-out-k-2
 element-copy-out-k-2 c = up-low (c .before .before .before .pre .0) (c .before .before .before .pre .1)
 
 add-k : tie.Need-add-k
-add-k c = let a = c .before .before .before .before .pre .0 .bit _ (c .before .before .before .before .pre .1) in let b = c .before .before .before .before .pre .0 .bit _ (up-low (c .before .before .before .before .pre .0) (c .before .before .before .before .pre .1)) in omega arith
+add-k c =
+    let start = c .before .before .before .before in
+    let a = start .pre .0 .bit _ (start .pre .1) in let b = start .pre .0 .bit _ (up-low (start .pre .0) (start .pre .1)) in omega arith
 
 mul-up : tie.Need-mul-up
 mul-up c = search needs

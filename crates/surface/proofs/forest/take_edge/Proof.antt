@@ -33,7 +33,10 @@ cast-find : tie.Need-cast-find
 cast-find c = let n = first-low (c .before .before .before .before .before .before .pre) (c .before .before .before .if1 .left) in omega arith
 
 find-requires : tie.Need-find-requires
-find-requires c κs = (c .before .before .before .before .before .before .pre .shape, first-low (c .before .before .before .before .before .before .pre) (c .before .before .before .if1 .left))
+find-requires c κs =
+    let start = c .before .before .before .before .before .before in
+    let if1 = c .before .before .before .if1 in
+    (start .pre .shape, first-low (start .pre) (if1 .left))
 
 mul-find-3 : tie.Need-mul-find-3
 mul-find-3 c = search needs
@@ -51,10 +54,17 @@ shared-slice-read-find-2 : tie.Need-shared-slice-read-find-2
 shared-slice-read-find-2 c = search needs
 
 cast-find-2 : tie.Need-cast-find-2
-cast-find-2 c = let n = second-low (c .before .before .before .before .before .before .before .before .before .before .pre) (c .before .before .before .before .before .before .before .if1 .left) in omega arith
+cast-find-2 c =
+    let start = c .before .before .before .before .before .before .before .before .before .before in
+    let if1 = c .before .before .before .before .before .before .before .if1 in
+    let n = second-low (start .pre) (if1 .left) in omega arith
 
 find-requires-2 : tie.Need-find-requires-2
-find-requires-2 c κs = (c .before .before .before .find .ensures .shape, second-low (c .before .before .before .before .before .before .before .before .before .before .pre) (c .before .before .before .before .before .before .before .if1 .left))
+find-requires-2 c κs =
+    let start = c .before .before .before .before .before .before .before .before .before .before in
+    let if1 = c .before .before .before .before .before .before .before .if1 in
+    let find = c .before .before .before .find in
+    (find .ensures .shape, second-low (start .pre) (if1 .left))
 
 add-k : tie.Need-add-k
 add-k c = search needs
@@ -75,7 +85,12 @@ add-shift-2 : tie.Need-add-shift-2
 add-shift-2 c = search needs
 
 returns-2 : tie.Need-returns-2
-returns-2 c = taken-same (c .before .before .before .before .before .before .before .before .before .before .before .before .before .before .before .pre) (c .before .before .before .before .before .before .before .before .before .before .before .before .if1 .left) (c .before .before .before .before .before .before .before .before .find .ensures) (c .before .before .before .before .find2 .ensures) (c .if2 .taken)
+returns-2 c =
+    let start = c .before .before .before .before .before .before .before .before .before .before .before .before .before .before .before in
+    let if1 = c .before .before .before .before .before .before .before .before .before .before .before .before .if1 in
+    let find = c .before .before .before .before .before .before .before .before .find in
+    let find2 = c .before .before .before .before .find2 in
+    taken-same (start .pre) (if1 .left) (find .ensures) (find2 .ensures) (c .if2 .taken)
 
 cast-up : tie.Need-cast-up
 cast-up c = search needs
@@ -90,7 +105,12 @@ element-write-turn : tie.Need-element-write-turn
 element-write-turn c = search needs
 
 returns-3 : tie.Need-returns-3
-returns-3 c = taken-up (c .before .before .before .before .before .before .before .before .before .before .before .before .before .before .before .before .pre) (c .before .before .before .before .before .before .before .before .before .before .before .before .before .if1 .left) (c .before .before .before .before .before .before .before .before .before .find .ensures) (c .before .before .before .before .before .find2 .ensures) (c .if3 .taken)
+returns-3 c =
+    let start = c .before .before .before .before .before .before .before .before .before .before .before .before .before .before .before .before in
+    let if1 = c .before .before .before .before .before .before .before .before .before .before .before .before .before .if1 in
+    let find = c .before .before .before .before .before .before .before .before .before .find in
+    let find2 = c .before .before .before .before .before .find2 in
+    taken-up (start .pre) (if1 .left) (find .ensures) (find2 .ensures) (c .if3 .taken)
 
 cast-up-2 : tie.Need-cast-up-2
 cast-up-2 c = search needs
@@ -105,7 +125,13 @@ element-write-turn-2 : tie.Need-element-write-turn-2
 element-write-turn-2 c = search needs
 
 returns-4 : tie.Need-returns-4
-returns-4 c = let n = c .before .if2 .left in let l = c .if3 .left in taken-down (c .before .before .before .before .before .before .before .before .before .before .before .before .before .before .before .before .pre) (c .before .before .before .before .before .before .before .before .before .before .before .before .before .if1 .left) (c .before .before .before .before .before .before .before .before .before .find .ensures) (c .before .before .before .before .before .find2 .ensures) (omega arith)
+returns-4 c =
+    let start = c .before .before .before .before .before .before .before .before .before .before .before .before .before .before .before .before in
+    let if1 = c .before .before .before .before .before .before .before .before .before .before .before .before .before .if1 in
+    let find = c .before .before .before .before .before .before .before .before .before .find in
+    let find2 = c .before .before .before .before .before .find2 in
+    let if2 = c .before .if2 in
+    let n = if2 .left in let l = c .if3 .left in taken-down (start .pre) (if1 .left) (find .ensures) (find2 .ensures) (omega arith)
 
 pub take-edge-spec : {M : Type 1} → statement M
 take-edge-spec =

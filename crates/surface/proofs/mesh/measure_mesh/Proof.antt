@@ -23,13 +23,22 @@ face-count-requires : tie.Need-face-count-requires
 face-count-requires c κs = search needs
 
 cast-f : tie.Need-cast-f
-cast-f c = let l = faces-low (good-lawful (c .before .before .before .before .before .before .before .before .before .args .t .now) (c .before .before .before .before .before .before .before .before .before .pre)) in let e = c .face-count .ensures in omega arith
+cast-f c =
+    let start = c .before .before .before .before .before .before .before .before .before in
+    let l = faces-low (good-lawful (start .args .t .now) (start .pre)) in let e = c .face-count .ensures in omega arith
 
 euler-requires : tie.Need-euler-requires
 euler-requires c κs = search needs
 
 returns : tie.Need-returns
-returns c = mesh-counts (good-lawful (c .before .before .before .before .before .before .before .before .before .before .args .t .now) (c .before .before .before .before .before .before .before .before .before .before .pre)) (c .before .before .before .live-vertices .ensures) (c .before .before .live-edges .ensures) (c .before .face-count .ensures) (c .before .before .before .before .roots .ensures) (c .euler .ensures)
+returns c =
+    let start = c .before .before .before .before .before .before .before .before .before .before in
+    let roots = c .before .before .before .before .roots in
+    let live-vertices = c .before .before .before .live-vertices in
+    let live-edges = c .before .before .live-edges in
+    let face-count = c .before .face-count in
+    mesh-counts (good-lawful (start .args .t .now) (start .pre)) (live-vertices .ensures) (live-edges .ensures) (face-count .ensures) (roots .ensures)
+    (c .euler .ensures)
 
 pub measure-mesh-spec : {M : Type 1} → statement M
 measure-mesh-spec =

@@ -15,7 +15,9 @@ shared-slice-read-if1 : tie.Need-shared-slice-read-if1
 shared-slice-read-if1 c = search needs
 
 returns : tie.Need-returns
-returns c = root-none (c .before .before .args .t .now) (c .before .before .pre .0) (c .before .before .args .v) (c .before .before .pre .1) (c .if1 .taken)
+returns c =
+    let start = c .before .before in
+    root-none (start .args .t .now) (start .pre .0) (start .args .v) (start .pre .1) (c .if1 .taken)
 
 mul-if2 : tie.Need-mul-if2
 mul-if2 c = search needs
@@ -27,10 +29,15 @@ cast-if2 : tie.Need-cast-if2
 cast-if2 c = let n = c .before .before .before .pre .0 .low _ (c .before .before .before .pre .1) in omega arith
 
 returns-2 : tie.Need-returns-2
-returns-2 c = root-other (c .before .before .before .before .args .t .now) (c .before .before .before .before .pre .0) (c .before .before .before .before .args .v) (c .before .before .before .before .pre .1) (c .if2 .taken)
+returns-2 c =
+    let start = c .before .before .before .before in
+    root-other (start .args .t .now) (start .pre .0) (start .args .v) (start .pre .1) (c .if2 .taken)
 
 returns-3 : tie.Need-returns-3
-returns-3 c = root-yes (c .before .before .before .before .args .t .now) (c .before .before .before .before .pre .0) (c .before .before .before .before .args .v) (c .before .before .before .before .pre .1) (c .before .before .if1 .left) (c .if2 .left)
+returns-3 c =
+    let start = c .before .before .before .before in
+    let if1 = c .before .before .if1 in
+    root-yes (start .args .t .now) (start .pre .0) (start .args .v) (start .pre .1) (if1 .left) (c .if2 .left)
 
 pub one-root-spec : {M : Type 1} → statement M
 one-root-spec =

@@ -9,7 +9,10 @@ tally-parts-requires : tie.Need-tally-parts-requires
 tally-parts-requires c κs = search needs
 
 write-rows-requires : tie.Need-write-rows-requires
-write-rows-requires c κs = rowing-none (labelled-keyed (c .before .before .before .before .before .before .before .before .before .before .before .pre .0) (c .before .before .before .before .before .before .before .before .before .before .before .pre .1)) (c .before .before .before .before .before .tally-parts .ensures) (c .before .before .before .before .before .before .before .before .before .before .before .pre .2)
+write-rows-requires c κs =
+    let start = c .before .before .before .before .before .before .before .before .before .before .before in
+    let tally-parts = c .before .before .before .before .before .tally-parts in
+    rowing-none (labelled-keyed (start .pre .0) (start .pre .1)) (tally-parts .ensures) (start .pre .2)
 
 same-length : tie.Need-same-length
 same-length c = search needs

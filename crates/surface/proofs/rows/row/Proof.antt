@@ -80,7 +80,11 @@ same-length : tie.Need-same-length
 same-length c = simp length-set
 
 returns : tie.Need-returns
-returns c = row-words (c .before .before .args .out .now) (c .before .before .args .at) (c .before .before .args .r) (c .before .before .args .v) (c .before .before .args .e) (c .before .before .args .f) (omega arith) (omega arith) (omega arith) (omega arith) (eqb (c .before .before .args .twisted) 0) (c .before .euler .ensures) (c .flag .ensures)
+returns c =
+    let start = c .before .before in
+    let euler = c .before .euler in
+    row-words (start .args .out .now) (start .args .at) (start .args .r) (start .args .v) (start .args .e) (start .args .f) (omega arith)
+    (omega arith) (omega arith) (omega arith) (eqb (start .args .twisted) 0) (euler .ensures) (c .flag .ensures)
 
 pub row-spec : {M : Type 1} → statement M
 row-spec =

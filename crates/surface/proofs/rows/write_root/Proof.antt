@@ -57,7 +57,11 @@ element-copy-out-row-4 : tie.Need-element-copy-out-row-4
 element-copy-out-row-4 c = search needs
 
 row-requires : tie.Need-row-requires
-row-requires c κs = c .before .before .before .before .before .before .before .before .before .before .pre .room (is-root (c .before .before .before .before .before .before .before .before .before .before .pre) (c .before .before .before .before .before .before .before .if1 .left) (c .before .before .before .before .before .if2 .left))
+row-requires c κs =
+    let start = c .before .before .before .before .before .before .before .before .before .before in
+    let if1 = c .before .before .before .before .before .before .before .if1 in
+    let if2 = c .before .before .before .before .before .if2 in
+    start .pre .room (is-root (start .pre) (if1 .left) (if2 .left))
 
 add-result : tie.Need-add-result
 add-result c = search needs
@@ -66,7 +70,12 @@ same-length : tie.Need-same-length
 same-length c = search needs
 
 returns-3 : tie.Need-returns-3
-returns-3 c = turned-root (c .before .before .before .before .before .before .before .before .before .before .before .before .pre) (c .before .before .before .before .before .before .before .before .before .if1 .left) (c .before .before .before .before .before .before .before .if2 .left) (c .before .row .ensures)
+returns-3 c =
+    let start = c .before .before .before .before .before .before .before .before .before .before .before .before in
+    let if1 = c .before .before .before .before .before .before .before .before .before .if1 in
+    let if2 = c .before .before .before .before .before .before .before .if2 in
+    let row = c .before .row in
+    turned-root (start .pre) (if1 .left) (if2 .left) (row .ensures)
 
 pub write-root-spec : {M : Type 1} → statement M
 write-root-spec =

@@ -26,7 +26,11 @@ loop-less : tie.Need-loop-less Inv-loop μ-loop
 loop-less c = omega arith
 
 loop-again : tie.Need-loop-again Inv-loop μ-loop
-loop-again c = rowing-more (c .before .before .before .before .loop .inv) (c .before .before .before .loop-test .taken) (c .before .write-root .ensures)
+loop-again c =
+    let loop = c .before .before .before .before .loop in
+    let loop-test = c .before .before .before .loop-test in
+    let write-root = c .before .write-root in
+    rowing-more (loop .inv) (loop-test .taken) (write-root .ensures)
 
 same-length : tie.Need-same-length Inv-loop μ-loop
 same-length c = written-size (c .before .loop .inv .written)

@@ -48,67 +48,128 @@ shared-slice-read-b : tie.Need-shared-slice-read-b
 shared-slice-read-b c = search needs
 
 cast-b : tie.Need-cast-b
-cast-b c = let n = edge-near (c .before .before .before .before .pre .0) (c .before .before .before .before .pre .1) (c .before .before .if1 .left) in omega arith
+cast-b c =
+    let start = c .before .before .before .before in
+    let if1 = c .before .before .if1 in
+    let n = edge-near (start .pre .0) (start .pre .1) (if1 .left) in omega arith
 
 mul-k : tie.Need-mul-k
-mul-k c = let n = edge-near (c .before .before .before .before .pre .0) (c .before .before .before .before .pre .1) (c .before .before .if1 .left) in omega arith
+mul-k c =
+    let start = c .before .before .before .before in
+    let if1 = c .before .before .if1 in
+    let n = edge-near (start .pre .0) (start .pre .1) (if1 .left) in omega arith
 
 element-copy-out-k : tie.Need-element-copy-out-k
-element-copy-out-k c = edge-near (c .before .before .before .before .pre .0) (c .before .before .before .before .pre .1) (c .before .before .if1 .left) .first
+element-copy-out-k c =
+    let start = c .before .before .before .before in
+    let if1 = c .before .before .if1 in
+    edge-near (start .pre .0) (start .pre .1) (if1 .left) .first
 
 cast-k : tie.Need-cast-k
-cast-k c = let n = edge-near (c .before .before .before .before .before .pre .0) (c .before .before .before .before .before .pre .1) (c .before .before .before .if1 .left) in omega arith
+cast-k c =
+    let start = c .before .before .before .before .before in
+    let if1 = c .before .before .before .if1 in
+    let n = edge-near (start .pre .0) (start .pre .1) (if1 .left) in omega arith
 
 mul-es : tie.Need-mul-es
-mul-es c = let n = edge-near (c .before .before .before .before .before .pre .0) (c .before .before .before .before .before .pre .1) (c .before .before .before .if1 .left) in omega arith
+mul-es c =
+    let start = c .before .before .before .before .before in
+    let if1 = c .before .before .before .if1 in
+    let n = edge-near (start .pre .0) (start .pre .1) (if1 .left) in omega arith
 
 element-copy-out-es : tie.Need-element-copy-out-es
-element-copy-out-es c = edge-near (c .before .before .before .before .before .pre .0) (c .before .before .before .before .before .pre .1) (c .before .before .before .if1 .left) .key
+element-copy-out-es c =
+    let start = c .before .before .before .before .before in
+    let if1 = c .before .before .before .if1 in
+    edge-near (start .pre .0) (start .pre .1) (if1 .left) .key
 
 add-es : tie.Need-add-es
-add-es c = let n = edge-near (c .before .before .before .before .before .before .pre .0) (c .before .before .before .before .before .before .pre .1) (c .before .before .before .before .if1 .left) in omega arith
+add-es c =
+    let start = c .before .before .before .before .before .before in
+    let if1 = c .before .before .before .before .if1 in
+    let n = edge-near (start .pre .0) (start .pre .1) (if1 .left) in omega arith
 
 mul-es-2 : tie.Need-mul-es-2
-mul-es-2 c = let n = edge-near (c .before .before .before .before .before .before .pre .0) (c .before .before .before .before .before .before .pre .1) (c .before .before .before .before .if1 .left) in omega arith
+mul-es-2 c =
+    let start = c .before .before .before .before .before .before in
+    let if1 = c .before .before .before .before .if1 in
+    let n = edge-near (start .pre .0) (start .pre .1) (if1 .left) in omega arith
 
 element-write-es : tie.Need-element-write-es
-element-write-es c = edge-near (c .before .before .before .before .before .before .pre .0) (c .before .before .before .before .before .before .pre .1) (c .before .before .before .before .if1 .left) .key
+element-write-es c =
+    let start = c .before .before .before .before .before .before in
+    let if1 = c .before .before .before .before .if1 in
+    edge-near (start .pre .0) (start .pre .1) (if1 .left) .key
 
 cast-if2 : tie.Need-cast-if2
 cast-if2 c = search needs
 
 element-copy-out-if2 : tie.Need-element-copy-out-if2
-element-copy-out-if2 c = edge-near (c .before .before .before .before .before .before .pre .0) (c .before .before .before .before .before .before .pre .1) (c .before .before .before .before .if1 .left) .first
+element-copy-out-if2 c =
+    let start = c .before .before .before .before .before .before in
+    let if1 = c .before .before .before .before .if1 in
+    edge-near (start .pre .0) (start .pre .1) (if1 .left) .first
 
 add-if2 : tie.Need-add-if2
-add-if2 c = let n = edge-near (c .before .before .before .before .before .before .before .pre .0) (c .before .before .before .before .before .before .before .pre .1) (c .before .before .before .before .before .if1 .left) in omega arith
+add-if2 c =
+    let start = c .before .before .before .before .before .before .before in
+    let if1 = c .before .before .before .before .before .if1 in
+    let n = edge-near (start .pre .0) (start .pre .1) (if1 .left) in omega arith
 
 element-copy-out-if2-2 : tie.Need-element-copy-out-if2-2
-element-copy-out-if2-2 c = edge-near (c .before .before .before .before .before .before .before .pre .0) (c .before .before .before .before .before .before .before .pre .1) (c .before .before .before .before .before .if1 .left) .second
+element-copy-out-if2-2 c =
+    let start = c .before .before .before .before .before .before .before in
+    let if1 = c .before .before .before .before .before .if1 in
+    edge-near (start .pre .0) (start .pre .1) (if1 .left) .second
 
 add-if2-2 : tie.Need-add-if2-2
-add-if2-2 c = let n = edge-near (c .before .before .before .before .before .before .before .before .pre .0) (c .before .before .before .before .before .before .before .before .pre .1) (c .before .before .before .before .before .before .if1 .left) in omega arith
+add-if2-2 c =
+    let start = c .before .before .before .before .before .before .before .before in
+    let if1 = c .before .before .before .before .before .before .if1 in
+    let n = edge-near (start .pre .0) (start .pre .1) (if1 .left) in omega arith
 
 returns-2 : tie.Need-returns-2
-returns-2 c = edge-plain (c .before .before .before .before .before .before .before .before .before .pre .0) (c .before .before .before .before .before .before .before .before .before .pre .1) (c .before .before .before .before .before .before .before .if1 .left) (c .if2 .taken)
+returns-2 c =
+    let start = c .before .before .before .before .before .before .before .before .before in
+    let if1 = c .before .before .before .before .before .before .before .if1 in
+    edge-plain (start .pre .0) (start .pre .1) (if1 .left) (c .if2 .taken)
 
 mul-odd : tie.Need-mul-odd
-mul-odd c = let n = edge-near (c .before .before .before .before .before .before .before .before .before .pre .0) (c .before .before .before .before .before .before .before .before .before .pre .1) (c .before .before .before .before .before .before .before .if1 .left) in omega arith
+mul-odd c =
+    let start = c .before .before .before .before .before .before .before .before .before in
+    let if1 = c .before .before .before .before .before .before .before .if1 in
+    let n = edge-near (start .pre .0) (start .pre .1) (if1 .left) in omega arith
 
 element-copy-out-odd : tie.Need-element-copy-out-odd
-element-copy-out-odd c = edge-near (c .before .before .before .before .before .before .before .before .before .pre .0) (c .before .before .before .before .before .before .before .before .before .pre .1) (c .before .before .before .before .before .before .before .if1 .left) .key
+element-copy-out-odd c =
+    let start = c .before .before .before .before .before .before .before .before .before in
+    let if1 = c .before .before .before .before .before .before .before .if1 in
+    edge-near (start .pre .0) (start .pre .1) (if1 .left) .key
 
 add-odd : tie.Need-add-odd
-add-odd c = let n = edge-near (c .before .before .before .before .before .before .before .before .before .before .pre .0) (c .before .before .before .before .before .before .before .before .before .before .pre .1) (c .before .before .before .before .before .before .before .before .if1 .left) in omega arith
+add-odd c =
+    let start = c .before .before .before .before .before .before .before .before .before .before in
+    let if1 = c .before .before .before .before .before .before .before .before .if1 in
+    let n = edge-near (start .pre .0) (start .pre .1) (if1 .left) in omega arith
 
 mul-odd-2 : tie.Need-mul-odd-2
-mul-odd-2 c = let n = edge-near (c .before .before .before .before .before .before .before .before .before .before .pre .0) (c .before .before .before .before .before .before .before .before .before .before .pre .1) (c .before .before .before .before .before .before .before .before .if1 .left) in omega arith
+mul-odd-2 c =
+    let start = c .before .before .before .before .before .before .before .before .before .before in
+    let if1 = c .before .before .before .before .before .before .before .before .if1 in
+    let n = edge-near (start .pre .0) (start .pre .1) (if1 .left) in omega arith
 
 element-write-odd : tie.Need-element-write-odd
-element-write-odd c = edge-near (c .before .before .before .before .before .before .before .before .before .before .pre .0) (c .before .before .before .before .before .before .before .before .before .before .pre .1) (c .before .before .before .before .before .before .before .before .if1 .left) .key
+element-write-odd c =
+    let start = c .before .before .before .before .before .before .before .before .before .before in
+    let if1 = c .before .before .before .before .before .before .before .before .if1 in
+    edge-near (start .pre .0) (start .pre .1) (if1 .left) .key
 
 returns-3 : tie.Need-returns-3
-returns-3 c = edge-twisted (c .before .before .before .before .before .before .before .before .before .before .pre .0) (c .before .before .before .before .before .before .before .before .before .before .pre .1) (c .before .before .before .before .before .before .before .before .if1 .left) (c .before .if2 .left)
+returns-3 c =
+    let start = c .before .before .before .before .before .before .before .before .before .before in
+    let if1 = c .before .before .before .before .before .before .before .before .if1 in
+    let if2 = c .before .if2 in
+    edge-twisted (start .pre .0) (start .pre .1) (if1 .left) (if2 .left)
 
 pub count-edge-spec : {M : Type 1} → statement M
 count-edge-spec =

@@ -42,7 +42,10 @@ element-write-vs : tie.Need-element-write-vs
 element-write-vs c = c .before .before .before .before .pre .0 .keyed .low _ (c .before .before .before .before .pre .1)
 
 returns-2 : tie.Need-returns-2
-returns-2 c = vertex-joined (c .before .before .before .before .before .pre .0) (c .before .before .before .before .before .pre .1) (c .before .before .before .if1 .left) (c .if2 .taken)
+returns-2 c =
+    let start = c .before .before .before .before .before in
+    let if1 = c .before .before .before .if1 in
+    vertex-joined (start .pre .0) (start .pre .1) (if1 .left) (c .if2 .taken)
 
 mul-fs : tie.Need-mul-fs
 mul-fs c = let n = c .before .before .before .before .before .pre .0 .keyed .low _ (c .before .before .before .before .before .pre .1) in omega arith
@@ -51,16 +54,26 @@ element-copy-out-fs : tie.Need-element-copy-out-fs
 element-copy-out-fs c = c .before .before .before .before .before .pre .0 .keyed .low _ (c .before .before .before .before .before .pre .1)
 
 add-fs : tie.Need-add-fs
-add-fs c = let n = lone-low (c .before .before .before .before .before .before .pre .0) (c .before .before .before .before .before .before .pre .1) in omega arith
+add-fs c =
+    let start = c .before .before .before .before .before .before in
+    let n = lone-low (start .pre .0) (start .pre .1) in omega arith
 
 mul-fs-2 : tie.Need-mul-fs-2
-mul-fs-2 c = let n = c .before .before .before .before .before .before .pre .0 .keyed .low _ (c .before .before .before .before .before .before .pre .1) in omega arith
+mul-fs-2 c =
+    let start = c .before .before .before .before .before .before in
+    let n = start .pre .0 .keyed .low _ (start .pre .1) in omega arith
 
 element-write-fs : tie.Need-element-write-fs
-element-write-fs c = c .before .before .before .before .before .before .pre .0 .keyed .low _ (c .before .before .before .before .before .before .pre .1)
+element-write-fs c =
+    let start = c .before .before .before .before .before .before in
+    start .pre .0 .keyed .low _ (start .pre .1)
 
 returns-3 : tie.Need-returns-3
-returns-3 c = vertex-alone (c .before .before .before .before .before .before .pre .0) (c .before .before .before .before .before .before .pre .1) (c .before .before .before .before .if1 .left) (c .before .if2 .left)
+returns-3 c =
+    let start = c .before .before .before .before .before .before in
+    let if1 = c .before .before .before .before .if1 in
+    let if2 = c .before .if2 in
+    vertex-alone (start .pre .0) (start .pre .1) (if1 .left) (if2 .left)
 
 pub count-vertex-spec : {M : Type 1} → statement M
 count-vertex-spec =

@@ -13,7 +13,10 @@ count-edges-requires : tie.Need-count-edges-requires
 count-edges-requires c κs = tallies-edging (c .before .before .before .before .before .before .before .before .pre)
 
 returns : tie.Need-returns
-returns c = tallied (c .before .before .before .before .before .before .before .before .before .pre .labelled) (c .before .before .before .count-vertices .ensures) (c .count-edges .ensures)
+returns c =
+    let start = c .before .before .before .before .before .before .before .before .before in
+    let count-vertices = c .before .before .before .count-vertices in
+    tallied (start .pre .labelled) (count-vertices .ensures) (c .count-edges .ensures)
 
 pub tally-parts-spec : {M : Type 1} → statement M
 tally-parts-spec =

@@ -40,7 +40,10 @@ returns-3 : tie.Need-returns-3
 returns-3 c = fails refl (λ b. c .if3 .taken (b .leaves-none))
 
 returns-4 : tie.Need-returns-4
-returns-4 c = holds refl (record { next-none = c .before .before .before .before .if1 .left; prev-none = c .before .before .if2 .left; leaves-none = c .if3 .left })
+returns-4 c =
+    let if1 = c .before .before .before .before .if1 in
+    let if2 = c .before .before .if2 in
+    holds refl (record { next-none = if1 .left; prev-none = if2 .left; leaves-none = c .if3 .left })
 
 pub is-bare-spec : {M : Type 1} → statement M
 is-bare-spec =

@@ -93,7 +93,11 @@ returns-6 : tie.Need-returns-6
 returns-6 c = fails refl (λ l. c .if6 .taken (l .next-prev))
 
 returns-7 : tie.Need-returns-7
-returns-7 c = holds refl (record { at = omega arith; next-low = omega arith; prev-next = c .before .before .before .before .before .before .if3 .left; next-leaves = c .before .before .before .before .if4 .left; prev-low = omega arith; next-prev = c .if6 .left })
+returns-7 c =
+    let if3 = c .before .before .before .before .before .before .if3 in
+    let if4 = c .before .before .before .before .if4 in
+    holds refl
+    (record { at = omega arith; next-low = omega arith; prev-next = if3 .left; next-leaves = if4 .left; prev-low = omega arith; next-prev = c .if6 .left })
 
 pub is-linked-spec : {M : Type 1} → statement M
 is-linked-spec =

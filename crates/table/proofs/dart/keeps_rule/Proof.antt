@@ -22,9 +22,13 @@ is-linked-requires : tie.Need-is-linked-requires
 is-linked-requires c κs = search needs
 
 returns-3 : tie.Need-returns-3
-returns-3 c = let same = c .before .before .before .before .pre .2 in
-    let on = c .before .before .if1 .left in
-    case-map (rule-live _ _ (λ e. on (same ∙ e)) (omega (arith, same, c .before .if2 .left))) (λ r. r .linked (λ e. on (same ∙ e))) (c .is-linked .ensures)
+returns-3 c =
+    let start = c .before .before .before .before in
+    let if1 = c .before .before .if1 in
+    let if2 = c .before .if2 in
+    let same = start .pre .2 in
+    let on = if1 .left in
+    case-map (rule-live _ _ (λ e. on (same ∙ e)) (omega (arith, same, if2 .left))) (λ r. r .linked (λ e. on (same ∙ e))) (c .is-linked .ensures)
 
 pub keeps-rule-spec : {M : Type 1} → statement M
 keeps-rule-spec =

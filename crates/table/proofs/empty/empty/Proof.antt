@@ -22,7 +22,12 @@ same-length : tie.Need-same-length
 same-length c = search needs
 
 returns-2 : tie.Need-returns-2
-returns-2 c = simp (eq-eqb _ _ (c .before .before .before .before .before .before .before .before .before .before .before .before .if1 .left)) (refl, filled-all (c .before .before .before .before .before .before .before .before .before .before .before .before .if1 .left) (c .before .before .before .before .before .before .before .before .before .before .fill .ensures) (c .before .before .before .before .before .before .fill2 .ensures) (c .before .before .fill3 .ensures))
+returns-2 c =
+    let if1 = c .before .before .before .before .before .before .before .before .before .before .before .before .if1 in
+    let fill = c .before .before .before .before .before .before .before .before .before .before .fill in
+    let fill2 = c .before .before .before .before .before .before .fill2 in
+    let fill3 = c .before .before .fill3 in
+    simp (eq-eqb _ _ (if1 .left)) (refl, filled-all (if1 .left) (fill .ensures) (fill2 .ensures) (fill3 .ensures))
 
 pub empty-spec : {M : Type 1} → statement M
 empty-spec =

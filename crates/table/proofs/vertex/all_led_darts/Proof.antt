@@ -25,14 +25,22 @@ enum-told : tie.Need-enum-told Inv-loop μ-loop
 enum-told c = search needs
 
 returns : tie.Need-returns Inv-loop μ-loop
-returns c = summed-broken _ _ (c .before .before .before .loop-test .taken) (counts-broken (c .before .before .led-darts .ensures) (c .enum-told .given .1))
+returns c =
+    let loop-test = c .before .before .before .loop-test in
+    let led-darts = c .before .before .led-darts in
+    summed-broken _ _ (loop-test .taken) (counts-broken (led-darts .ensures) (c .enum-told .given .1))
 
 enum-known-k : tie.Need-enum-known-k Inv-loop μ-loop
 enum-known-k c = search needs
 
 add-n : tie.Need-add-n Inv-loop μ-loop
-add-n c = let k = counts-of _ (c .before .before .before .led-darts .ensures) (c .before .k .given .1) in
-    let few = summed-few _ _ _ (summed-more _ _ _ _ (c .before .before .before .before .before .loop .inv) (c .before .before .before .before .loop-test .taken) (k .1) (k .0)) in
+add-n c =
+    let loop = c .before .before .before .before .before .loop in
+    let loop-test = c .before .before .before .before .loop-test in
+    let led-darts = c .before .before .before .led-darts in
+    let k′ = c .before .k in
+    let k = counts-of _ (led-darts .ensures) (k′ .given .1) in
+    let few = summed-few _ _ _ (summed-more _ _ _ _ (loop .inv) (loop-test .taken) (k .1) (k .0)) in
     omega arith
 
 add-v : tie.Need-add-v Inv-loop μ-loop

@@ -27,7 +27,10 @@ loop-holds : tie.Need-loop-holds Inv-loop μ-loop
 loop-holds c = round-none _ (c .before .pre .1) _ (c .before .pre .2)
 
 returns : tie.Need-returns Inv-loop μ-loop
-returns c = round-lower _ (c .before .before .before .before .pre .1) _ (c .before .before .before .before .pre .2) _ _ (c .before .before .loop .inv) (c .if1 .taken)
+returns c =
+    let start = c .before .before .before .before in
+    let loop = c .before .before .loop in
+    round-lower _ (start .pre .1) _ (start .pre .2) _ _ (loop .inv) (c .if1 .taken)
 
 mul-d-2 : tie.Need-mul-d-2 Inv-loop μ-loop
 mul-d-2 c = omega (arith, c .before .before .loop .inv .live .low)
@@ -39,13 +42,26 @@ cast-d-2 : tie.Need-cast-d-2 Inv-loop μ-loop
 cast-d-2 c = fits-16-64 (c .shared-slice-known2 .given _)
 
 add-n : tie.Need-add-n Inv-loop μ-loop
-add-n c = let h = round-short _ (c .before .before .before .before .before .pre .1) _ (c .before .before .before .before .before .pre .2) _ _ (c .before .before .before .loop .inv) (c .before .before .loop-test .taken) in omega (arith, h)
+add-n c =
+    let start = c .before .before .before .before .before in
+    let loop = c .before .before .before .loop in
+    let loop-test = c .before .before .loop-test in
+    let h = round-short _ (start .pre .1) _ (start .pre .2) _ _ (loop .inv) (loop-test .taken) in omega (arith, h)
 
 loop-less : tie.Need-loop-less Inv-loop μ-loop
-loop-less c = let h = round-short _ (c .before .before .before .before .before .pre .1) _ (c .before .before .before .before .before .pre .2) _ _ (c .before .before .before .loop .inv) (c .before .before .loop-test .taken) in omega (arith, h)
+loop-less c =
+    let start = c .before .before .before .before .before in
+    let loop = c .before .before .before .loop in
+    let loop-test = c .before .before .loop-test in
+    let h = round-short _ (start .pre .1) _ (start .pre .2) _ _ (loop .inv) (loop-test .taken) in omega (arith, h)
 
 loop-again : tie.Need-loop-again Inv-loop μ-loop
-loop-again c = round-more _ (c .before .before .before .before .before .pre .1) _ (c .before .before .before .before .before .pre .2) _ _ (c .before .before .before .loop .inv) (c .before .before .loop-test .taken) (c .before .if1 .left)
+loop-again c =
+    let start = c .before .before .before .before .before in
+    let loop = c .before .before .before .loop in
+    let loop-test = c .before .before .loop-test in
+    let if1 = c .before .if1 in
+    round-more _ (start .pre .1) _ (start .pre .2) _ _ (loop .inv) (loop-test .taken) (if1 .left)
 
 returns-2 : tie.Need-returns-2 Inv-loop μ-loop
 returns-2 c = round-all _ (c .before .before .before .pre .1) _ (c .before .before .before .pre .2) _ _ (c .before .loop .inv) (c .loop-test .left)

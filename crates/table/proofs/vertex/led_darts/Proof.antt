@@ -26,7 +26,11 @@ cast-w : tie.Need-cast-w
 cast-w c = fits-16-64 (c .before .before .shared-slice-known2 .given _)
 
 returns-3 : tie.Need-returns-3
-returns-3 c = vertex-astray _ (c .before .before .before .before .before .pre .1) _ (c .before .before .if1 .left) (c .before .if2 .left) (λ a. let low = a .live .low in omega arith)
+returns-3 c =
+    let start = c .before .before .before .before .before in
+    let if1 = c .before .before .if1 in
+    let if2 = c .before .if2 in
+    vertex-astray _ (start .pre .1) _ (if1 .left) (if2 .left) (λ a. let low = a .live .low in omega arith)
 
 add-if4 : tie.Need-add-if4
 add-if4 c = search needs
@@ -41,16 +45,33 @@ cast-if4 : tie.Need-cast-if4
 cast-if4 c = fits-16-64 (c .shared-slice-known3 .given _)
 
 returns-4 : tie.Need-returns-4
-returns-4 c = vertex-astray _ (c .before .before .before .before .before .before .before .pre .1) _ (c .before .before .before .before .if1 .left) (c .before .before .before .if2 .left) (λ a. c .if4 .taken (a .here))
+returns-4 c =
+    let start = c .before .before .before .before .before .before .before in
+    let if1 = c .before .before .before .before .if1 in
+    let if2 = c .before .before .before .if2 in
+    vertex-astray _ (start .pre .1) _ (if1 .left) (if2 .left) (λ a. c .if4 .taken (a .here))
 
 cycle-requires : tie.Need-cycle-requires
-cycle-requires c κs = (c .before .before .before .before .before .before .before .pre .0, c .before .before .before .before .before .before .before .pre .1, leaving-live _ (c .before .before .before .before .before .before .before .pre .1) _ (c .before .before .before .before .before .before .before .pre .2) _ (c .before .before .if3 .left) (c .if4 .left))
+cycle-requires c κs =
+    let start = c .before .before .before .before .before .before .before in
+    let if3 = c .before .before .if3 in
+    (start .pre .0, start .pre .1, leaving-live _ (start .pre .1) _ (start .pre .2) _ (if3 .left) (c .if4 .left))
 
 returns-5 : tie.Need-returns-5
-returns-5 c = vertex-astray _ (c .before .before .before .before .before .before .before .before .before .pre .1) _ (c .before .before .before .before .before .before .if1 .left) (c .before .before .before .before .before .if2 .left) (vertex-follows _ (c .before .before .before .before .before .before .before .before .before .pre .1) _ _ (c .before .cycle .ensures) (c .if5 .taken))
+returns-5 c =
+    let start = c .before .before .before .before .before .before .before .before .before in
+    let if1 = c .before .before .before .before .before .before .if1 in
+    let if2 = c .before .before .before .before .before .if2 in
+    let cycle = c .before .cycle in
+    vertex-astray _ (start .pre .1) _ (if1 .left) (if2 .left) (vertex-follows _ (start .pre .1) _ _ (cycle .ensures) (c .if5 .taken))
 
 returns-6 : tie.Need-returns-6
-returns-6 c = vertex-leads _ (c .before .before .before .before .before .before .before .before .before .pre .1) _ (c .before .before .before .before .before .before .before .before .before .pre .2) (c .before .before .before .before .if3 .left) (c .before .before .if4 .left) _ (c .before .cycle .ensures) (c .if5 .left)
+returns-6 c =
+    let start = c .before .before .before .before .before .before .before .before .before in
+    let if3 = c .before .before .before .before .if3 in
+    let if4 = c .before .before .if4 in
+    let cycle = c .before .cycle in
+    vertex-leads _ (start .pre .1) _ (start .pre .2) (if3 .left) (if4 .left) _ (cycle .ensures) (c .if5 .left)
 
 pub led-darts-spec : {M : Type 1} → statement M
 led-darts-spec =

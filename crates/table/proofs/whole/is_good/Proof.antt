@@ -25,7 +25,11 @@ returns-2 : tie.Need-returns-2
 returns-2 c = good-no _ (λ g. counts-broken (c .before .before .live-darts .ensures) (c .enum-told .given .1) (good-ruled _ g))
 
 all-led-darts-requires : tie.Need-all-led-darts-requires
-all-led-darts-requires c κs = (c .before .before .before .before .if1 .left, counts-of _ (c .before .before .before .live-darts .ensures) (c .before .live .given .1) .1)
+all-led-darts-requires c κs =
+    let if1 = c .before .before .before .before .if1 in
+    let live-darts = c .before .before .before .live-darts in
+    let live = c .before .live in
+    (if1 .left, counts-of _ (live-darts .ensures) (live .given .1) .1)
 
 enum-known-led : tie.Need-enum-known-led
 enum-known-led c = search needs
@@ -34,18 +38,35 @@ enum-told-2 : tie.Need-enum-told-2
 enum-told-2 c = search needs
 
 returns-3 : tie.Need-returns-3
-returns-3 c = let r = counts-of _ (c .before .before .before .before .before .before .live-darts .ensures) (c .before .before .before .before .live .given .1) .1 in
-    good-no _ (λ g. counts-broken (c .before .before .all-led-darts .ensures) (c .enum-told2 .given .1) (good-counted _ (c .before .before .before .before .before .before .before .if1 .left) r g .0))
+returns-3 c =
+    let if1 = c .before .before .before .before .before .before .before .if1 in
+    let live-darts = c .before .before .before .before .before .before .live-darts in
+    let live = c .before .before .before .before .live in
+    let all-led-darts = c .before .before .all-led-darts in
+    let r = counts-of _ (live-darts .ensures) (live .given .1) .1 in
+    good-no _ (λ g. counts-broken (all-led-darts .ensures) (c .enum-told2 .given .1) (good-counted _ (if1 .left) r g .0))
 
 returns-4 : tie.Need-returns-4
-returns-4 c = let live = counts-of _ (c .before .before .before .before .before .before .before .before .live-darts .ensures) (c .before .before .before .before .before .before .live .given .1) in
-    let led = counts-of _ (c .before .before .before .before .all-led-darts .ensures) (c .before .before .led .given .1) in
-    good-no _ (λ g. c .if2 .taken (led .0 ∙ good-counted _ (c .before .before .before .before .before .before .before .before .before .if1 .left) (live .1) g .1 ∙ sym (live .0)))
+returns-4 c =
+    let if1 = c .before .before .before .before .before .before .before .before .before .if1 in
+    let live-darts = c .before .before .before .before .before .before .before .before .live-darts in
+    let live′ = c .before .before .before .before .before .before .live in
+    let all-led-darts = c .before .before .before .before .all-led-darts in
+    let led′ = c .before .before .led in
+    let live = counts-of _ (live-darts .ensures) (live′ .given .1) in
+    let led = counts-of _ (all-led-darts .ensures) (led′ .given .1) in
+    good-no _ (λ g. c .if2 .taken (led .0 ∙ good-counted _ (if1 .left) (live .1) g .1 ∙ sym (live .0)))
 
 returns-5 : tie.Need-returns-5
-returns-5 c = let live = counts-of _ (c .before .before .before .before .before .before .before .before .live-darts .ensures) (c .before .before .before .before .before .before .live .given .1) in
-    let led = counts-of _ (c .before .before .before .before .all-led-darts .ensures) (c .before .before .led .given .1) in
-    good-yes _ (counted-good _ (c .before .before .before .before .before .before .before .before .before .if1 .left) (live .1) (led .1) (sym (led .0) ∙ c .if2 .left ∙ live .0))
+returns-5 c =
+    let if1 = c .before .before .before .before .before .before .before .before .before .if1 in
+    let live-darts = c .before .before .before .before .before .before .before .before .live-darts in
+    let live′ = c .before .before .before .before .before .before .live in
+    let all-led-darts = c .before .before .before .before .all-led-darts in
+    let led′ = c .before .before .led in
+    let live = counts-of _ (live-darts .ensures) (live′ .given .1) in
+    let led = counts-of _ (all-led-darts .ensures) (led′ .given .1) in
+    good-yes _ (counted-good _ (if1 .left) (live .1) (led .1) (sym (led .0) ∙ c .if2 .left ∙ live .0))
 
 pub is-good-spec : {M : Type 1} → statement M
 is-good-spec =

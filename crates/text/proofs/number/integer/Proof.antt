@@ -17,7 +17,13 @@ same-length : tie.Need-same-length
 same-length c = search needs
 
 returns : tie.Need-returns
-returns c = signed-negative (c .before .before .before .before .before .before .before .before .before .before .before .fits .z) (c .before .before .before .before .before .before .before .before .if1 .taken) (c .before .before .before .before .before .before .before .before .before .magnitude .ensures) (c .before .before .before .before .before .before .byte .ensures) (c .before .before .number .ensures)
+returns c =
+    let start = c .before .before .before .before .before .before .before .before .before .before .before in
+    let magnitude = c .before .before .before .before .before .before .before .before .before .magnitude in
+    let if1 = c .before .before .before .before .before .before .before .before .if1 in
+    let byte = c .before .before .before .before .before .before .byte in
+    let number = c .before .before .number in
+    signed-negative (start .fits .z) (if1 .taken) (magnitude .ensures) (byte .ensures) (number .ensures)
 
 number-requires-2 : tie.Need-number-requires-2
 number-requires-2 c κs = search needs
@@ -26,7 +32,12 @@ same-length-2 : tie.Need-same-length-2
 same-length-2 c = search needs
 
 returns-2 : tie.Need-returns-2
-returns-2 c = signed-positive (c .before .before .before .before .before .before .before .fits .z) (c .before .before .before .before .if1 .left) (c .before .before .before .before .before .magnitude .ensures) (c .before .before .number2 .ensures)
+returns-2 c =
+    let start = c .before .before .before .before .before .before .before in
+    let magnitude = c .before .before .before .before .before .magnitude in
+    let if1 = c .before .before .before .before .if1 in
+    let number2 = c .before .before .number2 in
+    signed-positive (start .fits .z) (if1 .left) (magnitude .ensures) (number2 .ensures)
 
 pub integer-spec : {M : Type 1} → statement M
 integer-spec =

@@ -16,7 +16,10 @@ same-length : tie.Need-same-length
 same-length c = search needs
 
 returns : tie.Need-returns
-returns c = record { end = refl; shows = c .before .before .store .ensures ∙ sym (paste-one (c .before .before .before .before .before .args .from) (c .before .before .before .before .before .args .at) (c .before .before .before .before .before .args .out .now) (c .before .before .before .before .before .args .b)) }
+returns c =
+    let start = c .before .before .before .before .before in
+    let store = c .before .before .store in
+    record { end = refl; shows = store .ensures ∙ sym (paste-one (start .args .from) (start .args .at) (start .args .out .now) (start .args .b)) }
 
 pub byte-spec : {M : Type 1} → statement M
 byte-spec = tie.close (tie.spec store-requires add-result same-length returns)

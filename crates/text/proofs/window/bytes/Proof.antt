@@ -14,7 +14,9 @@ abbrev μ-loop : tie.MeasureT-loop
 μ-loop out₀ from at s i₀ out i = length s - i
 
 loop-holds : tie.Need-loop-holds Inv-loop μ-loop
-loop-holds c = copying-none (c .before .before .args .from) (c .before .before .args .at) (c .before .before .args .s .now) (c .before .before .args .out .now)
+loop-holds c =
+    let start = c .before .before in
+    copying-none (start .args .from) (start .args .at) (start .args .s .now) (start .args .out .now)
 
 add-store : tie.Need-add-store Inv-loop μ-loop
 add-store c = omega arith
@@ -32,7 +34,11 @@ loop-less : tie.Need-loop-less Inv-loop μ-loop
 loop-less c = omega arith
 
 loop-again : tie.Need-loop-again Inv-loop μ-loop
-loop-again c = copying-more (c .before .before .before .before .before .before .loop .inv) (c .before .before .before .before .before .loop-test .taken) (c .before .before .store .ensures)
+loop-again c =
+    let loop = c .before .before .before .before .before .before .loop in
+    let loop-test = c .before .before .before .before .before .loop-test in
+    let store = c .before .before .store in
+    copying-more (loop .inv) (loop-test .taken) (store .ensures)
 
 add-result : tie.Need-add-result Inv-loop μ-loop
 add-result c = let most = c .before .loop .inv .most in omega arith

@@ -16,10 +16,18 @@ measure-requires : tie.Need-measure-requires
 measure-requires c κs = seen-good _ (c .before .is-good .ensures) (c .if1 .left) .1
 
 returns-2 : tie.Need-returns-2
-returns-2 c = output-short _ _ _ (seen-good _ (c .before .before .before .is-good .ensures) (c .before .before .if1 .left) .0) (let m = c .before .measure .ensures in omega arith)
+returns-2 c =
+    let is-good = c .before .before .before .is-good in
+    let if1 = c .before .before .if1 in
+    let measure = c .before .measure in
+    output-short _ _ _ (seen-good _ (is-good .ensures) (if1 .left) .0) (let m = measure .ensures in omega arith)
 
 write-listing-requires : tie.Need-write-listing-requires
-write-listing-requires c κs = (seen-good _ (c .before .before .before .before .is-good .ensures) (c .before .before .before .if1 .left) .1, (let m = c .before .before .measure .ensures in omega arith))
+write-listing-requires c κs =
+    let is-good = c .before .before .before .before .is-good in
+    let if1 = c .before .before .before .if1 in
+    let measure = c .before .before .measure in
+    (seen-good _ (is-good .ensures) (if1 .left) .1, (let m = measure .ensures in omega arith))
 
 cast-t13 : tie.Need-cast-t13
 cast-t13 c = search needs
@@ -28,7 +36,13 @@ same-length : tie.Need-same-length
 same-length c = search needs
 
 returns-3 : tie.Need-returns-3
-returns-3 c = output-done _ _ _ (seen-good _ (c .before .before .before .before .before .before .before .is-good .ensures) (c .before .before .before .before .before .before .if1 .left) .0) (c .before .before .before .before .before .measure .ensures .words) (let m = c .before .before .before .before .before .measure .ensures in omega arith) (c .before .before .write-listing .ensures)
+returns-3 c =
+    let is-good = c .before .before .before .before .before .before .before .is-good in
+    let if1 = c .before .before .before .before .before .before .if1 in
+    let measure = c .before .before .before .before .before .measure in
+    let write-listing = c .before .before .write-listing in
+    output-done _ _ _ (seen-good _ (is-good .ensures) (if1 .left) .0) (measure .ensures .words) (let m = measure .ensures in omega arith)
+    (write-listing .ensures)
 
 pub list-spec : {M : Type 1} → statement M
 list-spec =

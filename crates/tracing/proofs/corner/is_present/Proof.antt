@@ -12,7 +12,10 @@ mul-result : tie.Need-mul-result
 mul-result c = search needs
 
 shared-slice-read-result : tie.Need-shared-slice-read-result
-shared-slice-read-result c = let low = well-dart _ (c .before .before .pre .1) (c .before .if1 .taken) in let size = c .before .before .pre .0 .size in omega arith
+shared-slice-read-result c =
+    let start = c .before .before in
+    let if1 = c .before .if1 in
+    let low = well-dart _ (start .pre .1) (if1 .taken) in let size = start .pre .0 .size in omega arith
 
 returns : tie.Need-returns
 returns c = present-edge _ _ (c .before .before .pre .1) (c .before .if1 .taken)
@@ -27,7 +30,10 @@ mul-result-2 : tie.Need-mul-result-2
 mul-result-2 c = search needs
 
 shared-slice-read-result-2 : tie.Need-shared-slice-read-result-2
-shared-slice-read-result-2 c = let low = well-lone _ (c .before .before .pre .1) (c .before .if1 .left) in let size = c .before .before .pre .0 .size in omega arith
+shared-slice-read-result-2 c =
+    let start = c .before .before in
+    let if1 = c .before .if1 in
+    let low = well-lone _ (start .pre .1) (if1 .left) in let size = start .pre .0 .size in omega arith
 
 returns-2 : tie.Need-returns-2
 returns-2 c = present-vertex _ _ (c .before .before .pre .1) (c .before .if1 .left)

@@ -35,7 +35,11 @@ loop-less : tie.Need-loop-less Inv-loop μ-loop
 loop-less c = omega arith
 
 loop-again : tie.Need-loop-again Inv-loop μ-loop
-loop-again c = ⊎-elim (λ w. rw (w .1) (lone-more (c .before .before .before .loop .inv) (c .before .before .loop-test .taken) (w .0 .taken))) (λ w. rw (w .1) (lone-skip (c .before .before .before .loop .inv) (c .before .before .loop-test .taken) (w .0 .left))) (c .if1 .came)
+loop-again c =
+    let loop = c .before .before .before .loop in
+    let loop-test = c .before .before .loop-test in
+    ⊎-elim (λ w. rw (w .1) (lone-more (loop .inv) (loop-test .taken) (w .0 .taken)))
+    (λ w. rw (w .1) (lone-skip (loop .inv) (loop-test .taken) (w .0 .left))) (c .if1 .came)
 
 returns : tie.Need-returns Inv-loop μ-loop
 returns c = let end : c .before .loop .v ≡ 512 = omega arith in rw end at (c .before .loop .inv)

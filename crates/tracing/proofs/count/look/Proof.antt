@@ -29,13 +29,20 @@ mul-mark-walk : tie.Need-mul-mark-walk
 mul-mark-walk c = search needs
 
 mark-walk-requires : tie.Need-mark-walk-requires
-mark-walk-requires c κs = (start-stands (c .before .before .before .before .before .before .pre) (c .before .before .before .if1 .left), c .before .before .before .before .before .before .pre .size)
+mark-walk-requires c κs =
+    let start = c .before .before .before .before .before .before in
+    let if1 = c .before .before .before .if1 in
+    (start-stands (start .pre) (if1 .left), start .pre .size)
 
 add-t5 : tie.Need-add-t5
 add-t5 c = search needs
 
 returns-3 : tie.Need-returns-3
-returns-3 c = looked-walk (c .before .before .before .before .before .before .before .pre) (c .before .before .before .before .if1 .left) (c .before .before .if2 .left) (c .mark-walk .ensures)
+returns-3 c =
+    let start = c .before .before .before .before .before .before .before in
+    let if1 = c .before .before .before .before .if1 in
+    let if2 = c .before .before .if2 in
+    looked-walk (start .pre) (if1 .left) (if2 .left) (c .mark-walk .ensures)
 
 pub look-spec : {M : Type 1} → statement M
 look-spec =

@@ -31,7 +31,11 @@ loop-less : tie.Need-loop-less Inv-loop μ-loop
 loop-less c = omega arith
 
 loop-again : tie.Need-loop-again Inv-loop μ-loop
-loop-again c = counting-more (c .before .before .before .before .before .loop .inv) (c .before .before .before .before .loop-test .taken) (c .before .before .look .ensures)
+loop-again c =
+    let loop = c .before .before .before .before .before .loop in
+    let loop-test = c .before .before .before .before .loop-test in
+    let look = c .before .before .look in
+    counting-more (loop .inv) (loop-test .taken) (look .ensures)
 
 isolated-requires : tie.Need-isolated-requires Inv-loop μ-loop
 isolated-requires c κs = c .before .loop .inv .seen .good

@@ -35,7 +35,11 @@ mul-write-walk : tie.Need-mul-write-walk
 mul-write-walk c = search needs
 
 write-walk-requires : tie.Need-write-walk-requires
-write-walk-requires c κs = (looked-begins (c .before .before .before .before .before .before .pre .range) (c .before .before .look .ensures) (c .before .if1 .left) .stands, walk-room (c .before .before .before .before .before .before .pre) (c .before .before .look .ensures) (c .before .if1 .left) _)
+write-walk-requires c κs =
+    let start = c .before .before .before .before .before .before in
+    let look = c .before .before .look in
+    let if1 = c .before .if1 in
+    (looked-begins (start .pre .range) (look .ensures) (if1 .left) .stands, walk-room (start .pre) (look .ensures) (if1 .left) _)
 
 add-result : tie.Need-add-result
 add-result c = search needs
@@ -44,7 +48,12 @@ same-length : tie.Need-same-length
 same-length c = ap length (c .before .before .write-walk .ensures) ∙ simp (length-sets, length-set)
 
 returns-2 : tie.Need-returns-2
-returns-2 c = entered-walk (c .before .before .before .before .before .before .before .before .before .pre) (c .before .before .before .before .before .look .ensures) (c .before .before .before .before .if1 .left) (c .before .before .write-walk .ensures)
+returns-2 c =
+    let start = c .before .before .before .before .before .before .before .before .before in
+    let look = c .before .before .before .before .before .look in
+    let if1 = c .before .before .before .before .if1 in
+    let write-walk = c .before .before .write-walk in
+    entered-walk (start .pre) (look .ensures) (if1 .left) (write-walk .ensures)
 
 pub write-from-spec : {M : Type 1} → statement M
 write-from-spec =

@@ -25,13 +25,19 @@ loop-less : tie.Need-loop-less Inv-loop μ-loop
 loop-less c = omega arith
 
 loop-again : tie.Need-loop-again Inv-loop μ-loop
-loop-again c = writing-more (c .before .before .before .before .before .before .loop .inv) (c .before .before .before .before .before .loop-test .taken) (c .before .before .write-from .ensures)
+loop-again c =
+    let loop = c .before .before .before .before .before .before .loop in
+    let loop-test = c .before .before .before .before .before .loop-test in
+    let write-from = c .before .before .write-from in
+    writing-more (loop .inv) (loop-test .taken) (write-from .ensures)
 
 same-length : tie.Need-same-length Inv-loop μ-loop
 same-length c = c .before .loop .inv .front .size
 
 returns : tie.Need-returns Inv-loop μ-loop
-returns c = let end : c .before .loop .d ≡ 2048 = let low = c .before .loop .inv .seen .low in omega arith in writing-all (rw end at (c .before .loop .inv))
+returns c =
+    let loop = c .before .loop in
+    let end : loop .d ≡ 2048 = let low = loop .inv .seen .low in omega arith in writing-all (rw end at (loop .inv))
 
 pub write-walks-spec : {M : Type 1} → statement M
 write-walks-spec =

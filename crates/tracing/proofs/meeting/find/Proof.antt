@@ -22,13 +22,23 @@ returns-2 : tie.Need-returns-2 Inv-loop μ-loop
 returns-2 c = found-second (c .before .before .before .loop .inv) (c .before .before .step .ensures) (c .if2 .taken)
 
 returns-3 : tie.Need-returns-3 Inv-loop μ-loop
-returns-3 c = found-neither (c .before .before .before .before .loop .inv) (c .before .before .before .step .ensures) (c .before .before .if1 .left) (c .before .if2 .left) (c .if3 .taken)
+returns-3 c =
+    let loop = c .before .before .before .before .loop in
+    let step = c .before .before .before .step in
+    let if1 = c .before .before .if1 in
+    let if2 = c .before .if2 in
+    found-neither (loop .inv) (step .ensures) (if1 .left) (if2 .left) (c .if3 .taken)
 
 loop-less : tie.Need-loop-less Inv-loop μ-loop
 loop-less c = searching-less (c .before .before .before .before .loop .inv) (c .before .before .before .step .ensures) (c .if3 .left)
 
 loop-again : tie.Need-loop-again Inv-loop μ-loop
-loop-again c = searching-more (c .before .before .before .before .loop .inv) (c .before .before .before .step .ensures) (c .before .before .if1 .left) (c .before .if2 .left) (c .if3 .left)
+loop-again c =
+    let loop = c .before .before .before .before .loop in
+    let step = c .before .before .before .step in
+    let if1 = c .before .before .if1 in
+    let if2 = c .before .if2 in
+    searching-more (loop .inv) (step .ensures) (if1 .left) (if2 .left) (c .if3 .left)
 
 pub find-spec : {M : Type 1} → statement M
 find-spec =

@@ -32,13 +32,31 @@ mul-if4 : tie.Need-mul-if4
 mul-if4 c = search needs
 
 returns-4 : tie.Need-returns-4
-returns-4 c = found-same (c .before .before .before .before .before .before .before .pre) (c .before .before .before .before .if2 .left) (c .before .before .before .if3 .left) (c .before .find .ensures) (c .if4 .taken)
+returns-4 c =
+    let start = c .before .before .before .before .before .before .before in
+    let if2 = c .before .before .before .before .if2 in
+    let if3 = c .before .before .before .if3 in
+    let find = c .before .find in
+    found-same (start .pre) (if2 .left) (if3 .left) (find .ensures) (c .if4 .taken)
 
 returns-5 : tie.Need-returns-5
-returns-5 c = found-other (c .before .before .before .before .before .before .before .before .pre) (c .before .before .before .before .before .if2 .left) (c .before .before .before .before .if3 .left) (c .before .before .before .mirror .ensures) (c .before .before .find .ensures) (c .if5 .taken)
+returns-5 c =
+    let start = c .before .before .before .before .before .before .before .before in
+    let if2 = c .before .before .before .before .before .if2 in
+    let if3 = c .before .before .before .before .if3 in
+    let mirror = c .before .before .before .mirror in
+    let find = c .before .before .find in
+    found-other (start .pre) (if2 .left) (if3 .left) (mirror .ensures) (find .ensures) (c .if5 .taken)
 
 returns-6 : tie.Need-returns-6
-returns-6 c = found-apart (c .before .before .before .before .before .before .before .before .pre) (c .before .before .before .before .before .if2 .left) (c .before .before .before .before .if3 .left) (c .before .before .before .mirror .ensures) (c .before .before .find .ensures) (c .before .if4 .left) (c .if5 .left)
+returns-6 c =
+    let start = c .before .before .before .before .before .before .before .before in
+    let if2 = c .before .before .before .before .before .if2 in
+    let if3 = c .before .before .before .before .if3 in
+    let mirror = c .before .before .before .mirror in
+    let find = c .before .before .find in
+    let if4 = c .before .if4 in
+    found-apart (start .pre) (if2 .left) (if3 .left) (mirror .ensures) (find .ensures) (if4 .left) (c .if5 .left)
 
 pub meet-spec : {M : Type 1} → statement M
 meet-spec =

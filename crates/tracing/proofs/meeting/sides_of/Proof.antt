@@ -41,7 +41,11 @@ returns-2 : tie.Need-returns-2
 returns-2 c = found-both-darts (c .before .before .before .before .before .pre) (c .before .before .find .ensures) (c .if2 .taken)
 
 returns-3 : tie.Need-returns-3
-returns-3 c = found-two-faces (c .before .before .before .before .before .pre) (c .before .before .find .ensures) (c .before .if1 .left) (c .if2 .left)
+returns-3 c =
+    let start = c .before .before .before .before .before in
+    let find = c .before .before .find in
+    let if1 = c .before .if1 in
+    found-two-faces (start .pre) (find .ensures) (if1 .left) (c .if2 .left)
 
 pub sides-of-spec : {M : Type 1} → statement M
 sides-of-spec =

@@ -24,7 +24,10 @@ returns : tie.Need-returns
 returns c = alternates-refused _ _ _ (c .before .before .before .named-step .ensures) (c .before .n .given .1)
 
 returns-2 : tie.Need-returns-2
-returns-2 c = alternates-done _ _ _ (c .before .before .before .before .named-step .ensures) (c .before .before .n2 .given .1) (c .is-alternating .ensures)
+returns-2 c =
+    let named-step = c .before .before .before .before .named-step in
+    let n2 = c .before .before .n2 in
+    alternates-done _ _ _ (named-step .ensures) (n2 .given .1) (c .is-alternating .ensures)
 
 pub alternates-spec : {M : Type 1} → statement M
 alternates-spec =

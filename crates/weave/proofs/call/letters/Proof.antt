@@ -21,10 +21,18 @@ letter-count-requires : tie.Need-letter-count-requires
 letter-count-requires c κs = there-steps _ _ _ (sym (c .before .n2 .given .1) ∙ c .before .before .before .named-step .ensures) .stands
 
 returns : tie.Need-returns
-returns c = letters-short _ _ _ (c .before .before .before .before .before .named-step .ensures) _ (c .before .before .before .n2 .given .1) (c .before .letter-count .ensures) (c .if1 .taken)
+returns c =
+    let named-step = c .before .before .before .before .before .named-step in
+    let n2 = c .before .before .before .n2 in
+    let letter-count = c .before .letter-count in
+    letters-short _ _ _ (named-step .ensures) _ (n2 .given .1) (letter-count .ensures) (c .if1 .taken)
 
 write-letters-requires : tie.Need-write-letters-requires
-write-letters-requires c κs = (there-steps _ _ _ (sym (c .before .before .before .before .n2 .given .1) ∙ c .before .before .before .before .before .before .named-step .ensures) .stands, let counted = c .before .before .letter-count .ensures in omega arith)
+write-letters-requires c κs =
+    let named-step = c .before .before .before .before .before .before .named-step in
+    let n2 = c .before .before .before .before .n2 in
+    let letter-count = c .before .before .letter-count in
+    (there-steps _ _ _ (sym (n2 .given .1) ∙ named-step .ensures) .stands, let counted = letter-count .ensures in omega arith)
 
 cast-t16 : tie.Need-cast-t16
 cast-t16 c = let counted = c .before .before .before .before .before .letter-count .ensures in omega arith
@@ -36,7 +44,13 @@ same-length : tie.Need-same-length
 same-length c = ap length (c .before .before .write-letters .ensures) ∙ simp length-sets
 
 returns-3 : tie.Need-returns-3
-returns-3 c = letters-done _ _ _ (c .before .before .before .before .before .before .before .before .before .named-step .ensures) _ (c .before .before .before .before .before .before .before .n2 .given .1) (c .before .before .before .before .before .letter-count .ensures) (c .before .before .before .before .if1 .left) (c .before .before .write-letters .ensures)
+returns-3 c =
+    let named-step = c .before .before .before .before .before .before .before .before .before .named-step in
+    let n2 = c .before .before .before .before .before .before .before .n2 in
+    let letter-count = c .before .before .before .before .before .letter-count in
+    let if1 = c .before .before .before .before .if1 in
+    let write-letters = c .before .before .write-letters in
+    letters-done _ _ _ (named-step .ensures) _ (n2 .given .1) (letter-count .ensures) (if1 .left) (write-letters .ensures)
 
 pub letters-spec : {M : Type 1} → statement M
 letters-spec =

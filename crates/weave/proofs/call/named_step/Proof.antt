@@ -16,7 +16,11 @@ returns-2 : tie.Need-returns-2
 returns-2 c = named-past _ _ _ (seen-good _ (c .before .before .is-good .ensures) (c .before .if1 .left) .0) (c .if2 .taken)
 
 returns-3 : tie.Need-returns-3
-returns-3 c = named-type _ _ _ (seen-good _ (c .before .before .before .is-good .ensures) (c .before .before .if1 .left) .0) (c .before .if2 .left) (c .if3 .taken)
+returns-3 c =
+    let is-good = c .before .before .before .is-good in
+    let if1 = c .before .before .if1 in
+    let if2 = c .before .if2 in
+    named-type _ _ _ (seen-good _ (is-good .ensures) (if1 .left) .0) (if2 .left) (c .if3 .taken)
 
 add-if4 : tie.Need-add-if4
 add-if4 c = search needs
@@ -25,10 +29,18 @@ mul-if4 : tie.Need-mul-if4
 mul-if4 c = search needs
 
 shared-slice-read-if4 : tie.Need-shared-slice-read-if4
-shared-slice-read-if4 c = let size = seen-good _ (c .before .before .before .before .is-good .ensures) (c .before .before .before .if1 .left) .1 .size in omega arith
+shared-slice-read-if4 c =
+    let is-good = c .before .before .before .before .is-good in
+    let if1 = c .before .before .before .if1 in
+    let size = seen-good _ (is-good .ensures) (if1 .left) .1 .size in omega arith
 
 returns-4 : tie.Need-returns-4
-returns-4 c = named-dead _ _ _ (seen-good _ (c .before .before .before .before .before .is-good .ensures) (c .before .before .before .before .if1 .left) .0) (c .before .before .before .if2 .left) (c .before .before .if3 .left) (c .if4 .taken)
+returns-4 c =
+    let is-good = c .before .before .before .before .before .is-good in
+    let if1 = c .before .before .before .before .if1 in
+    let if2 = c .before .before .before .if2 in
+    let if3 = c .before .before .if3 in
+    named-dead _ _ _ (seen-good _ (is-good .ensures) (if1 .left) .0) (if2 .left) (if3 .left) (c .if4 .taken)
 
 mul-t14 : tie.Need-mul-t14
 mul-t14 c = search needs
@@ -37,7 +49,12 @@ add-t16 : tie.Need-add-t16
 add-t16 c = search needs
 
 returns-5 : tie.Need-returns-5
-returns-5 c = named-there _ _ _ (seen-good _ (c .before .before .before .before .before .is-good .ensures) (c .before .before .before .before .if1 .left) .0) (c .before .before .before .if2 .left) (c .before .before .if3 .left) (c .if4 .left)
+returns-5 c =
+    let is-good = c .before .before .before .before .before .is-good in
+    let if1 = c .before .before .before .before .if1 in
+    let if2 = c .before .before .before .if2 in
+    let if3 = c .before .before .if3 in
+    named-there _ _ _ (seen-good _ (is-good .ensures) (if1 .left) .0) (if2 .left) (if3 .left) (c .if4 .left)
 
 pub named-step-spec : {M : Type 1} → statement M
 named-step-spec =

@@ -24,13 +24,23 @@ step-requires : tie.Need-step-requires Inv-loop μ-loop
 step-requires c κs = c .before .before .loop .inv .walking .there
 
 returns : tie.Need-returns Inv-loop μ-loop
-returns c = seeing-all (c .before .before .before .before .loop .inv) (c .before .before .before .edge-word .ensures) (c .before .before .with-edge .ensures) (c .before .step .ensures) (c .if1 .taken)
+returns c =
+    let loop = c .before .before .before .before .loop in
+    let edge-word = c .before .before .before .edge-word in
+    let with-edge = c .before .before .with-edge in
+    let step = c .before .step in
+    seeing-all (loop .inv) (edge-word .ensures) (with-edge .ensures) (step .ensures) (c .if1 .taken)
 
 loop-less : tie.Need-loop-less Inv-loop μ-loop
 loop-less c = walking-less (c .before .before .before .before .loop .inv .walking) (c .before .step .ensures) (c .if1 .left)
 
 loop-again : tie.Need-loop-again Inv-loop μ-loop
-loop-again c = seeing-more (c .before .before .before .before .loop .inv) (c .before .before .before .edge-word .ensures) (c .before .before .with-edge .ensures) (c .before .step .ensures) (c .if1 .left)
+loop-again c =
+    let loop = c .before .before .before .before .loop in
+    let edge-word = c .before .before .before .edge-word in
+    let with-edge = c .before .before .with-edge in
+    let step = c .before .step in
+    seeing-more (loop .inv) (edge-word .ensures) (with-edge .ensures) (step .ensures) (c .if1 .left)
 
 pub hands-along-spec : {M : Type 1} → statement M
 hands-along-spec =

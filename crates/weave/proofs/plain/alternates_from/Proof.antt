@@ -21,7 +21,11 @@ is-alternating-requires : tie.Need-is-alternating-requires
 is-alternating-requires c κs = looked-begins (c .before .before .before .before .pre) (c .before .look .ensures) (c .if1 .left) .stands
 
 returns-2 : tie.Need-returns-2
-returns-2 c = judged-one (c .before .before .before .before .before .pre) (c .before .before .look .ensures) (c .before .if1 .left) (c .is-alternating .ensures)
+returns-2 c =
+    let start = c .before .before .before .before .before in
+    let look = c .before .before .look in
+    let if1 = c .before .if1 in
+    judged-one (start .pre) (look .ensures) (if1 .left) (c .is-alternating .ensures)
 
 pub alternates-from-spec : {M : Type 1} → statement M
 alternates-from-spec =

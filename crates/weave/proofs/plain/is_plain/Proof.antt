@@ -21,7 +21,11 @@ alternates-from-requires : tie.Need-alternates-from-requires Inv-loop μ-loop
 alternates-from-requires c κs = seen-range (c .before .before .loop .inv .seen) (c .before .loop-test .taken)
 
 returns : tie.Need-returns Inv-loop μ-loop
-returns c = judging-no (c .before .before .before .before .loop .inv) (c .before .before .before .loop-test .taken) (c .before .alternates-from .ensures) (not-true _ (c .if1 .taken))
+returns c =
+    let loop = c .before .before .before .before .loop in
+    let loop-test = c .before .before .before .loop-test in
+    let alternates-from = c .before .alternates-from in
+    judging-no (loop .inv) (loop-test .taken) (alternates-from .ensures) (not-true _ (c .if1 .taken))
 
 add-d : tie.Need-add-d Inv-loop μ-loop
 add-d c = omega arith
@@ -30,10 +34,16 @@ loop-less : tie.Need-loop-less Inv-loop μ-loop
 loop-less c = omega arith
 
 loop-again : tie.Need-loop-again Inv-loop μ-loop
-loop-again c = judging-more (c .before .before .before .before .loop .inv) (c .before .before .before .loop-test .taken) (c .before .alternates-from .ensures) (not-false _ (c .if1 .left))
+loop-again c =
+    let loop = c .before .before .before .before .loop in
+    let loop-test = c .before .before .before .loop-test in
+    let alternates-from = c .before .alternates-from in
+    judging-more (loop .inv) (loop-test .taken) (alternates-from .ensures) (not-false _ (c .if1 .left))
 
 returns-2 : tie.Need-returns-2 Inv-loop μ-loop
-returns-2 c = let end : c .before .loop .d ≡ 2048 = let low = c .before .loop .inv .seen .low in omega arith in judging-all (rw end at (c .before .loop .inv))
+returns-2 c =
+    let loop = c .before .loop in
+    let end : loop .d ≡ 2048 = let low = loop .inv .seen .low in omega arith in judging-all (rw end at (loop .inv))
 
 pub is-plain-spec : {M : Type 1} → statement M
 is-plain-spec =

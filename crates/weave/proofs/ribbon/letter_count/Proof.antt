@@ -32,13 +32,23 @@ step-requires : tie.Need-step-requires Inv-loop μ-loop
 step-requires c κs = c .before .before .loop .inv .walking .there
 
 returns : tie.Need-returns Inv-loop μ-loop
-returns c = counting-all (c .before .before .before .before .loop .inv) (c .before .before .before .edge-word .ensures) (c .before .before .crossings .ensures) (c .before .step .ensures) (c .if1 .taken)
+returns c =
+    let loop = c .before .before .before .before .loop in
+    let edge-word = c .before .before .before .edge-word in
+    let crossings = c .before .before .crossings in
+    let step = c .before .step in
+    counting-all (loop .inv) (edge-word .ensures) (crossings .ensures) (step .ensures) (c .if1 .taken)
 
 loop-less : tie.Need-loop-less Inv-loop μ-loop
 loop-less c = walking-less (c .before .before .before .before .loop .inv .walking) (c .before .step .ensures) (c .if1 .left)
 
 loop-again : tie.Need-loop-again Inv-loop μ-loop
-loop-again c = counting-more (c .before .before .before .before .loop .inv) (c .before .before .before .edge-word .ensures) (c .before .before .crossings .ensures) (c .before .step .ensures) (c .if1 .left)
+loop-again c =
+    let loop = c .before .before .before .before .loop in
+    let edge-word = c .before .before .before .edge-word in
+    let crossings = c .before .before .crossings in
+    let step = c .before .step in
+    counting-more (loop .inv) (edge-word .ensures) (crossings .ensures) (step .ensures) (c .if1 .left)
 
 pub letter-count-spec : {M : Type 1} → statement M
 letter-count-spec =

@@ -24,16 +24,29 @@ step-requires : tie.Need-step-requires Inv-loop μ-loop
 step-requires c κs = c .before .before .before .before .before .loop .inv .walking .there
 
 same-length : tie.Need-same-length Inv-loop μ-loop
-same-length c = lettering-size (c .before .before .before .before .before .before .before .loop .inv) (c .before .before .before .before .write-step .ensures)
+same-length c =
+    let loop = c .before .before .before .before .before .before .before .loop in
+    let write-step = c .before .before .before .before .write-step in
+    lettering-size (loop .inv) (write-step .ensures)
 
 returns : tie.Need-returns Inv-loop μ-loop
-returns c = lettering-all (c .before .before .before .before .before .before .before .loop .inv) (c .before .before .before .before .before .before .edge-word .ensures) (c .before .before .before .before .write-step .ensures) (c .before .step .ensures) (c .if1 .taken)
+returns c =
+    let loop = c .before .before .before .before .before .before .before .loop in
+    let edge-word = c .before .before .before .before .before .before .edge-word in
+    let write-step = c .before .before .before .before .write-step in
+    let step = c .before .step in
+    lettering-all (loop .inv) (edge-word .ensures) (write-step .ensures) (step .ensures) (c .if1 .taken)
 
 loop-less : tie.Need-loop-less Inv-loop μ-loop
 loop-less c = walking-less (c .before .before .before .before .before .before .before .loop .inv .walking) (c .before .step .ensures) (c .if1 .left)
 
 loop-again : tie.Need-loop-again Inv-loop μ-loop
-loop-again c = lettering-more (c .before .before .before .before .before .before .before .loop .inv) (c .before .before .before .before .before .before .edge-word .ensures) (c .before .before .before .before .write-step .ensures) (c .before .step .ensures) (c .if1 .left)
+loop-again c =
+    let loop = c .before .before .before .before .before .before .before .loop in
+    let edge-word = c .before .before .before .before .before .before .edge-word in
+    let write-step = c .before .before .before .before .write-step in
+    let step = c .before .step in
+    lettering-more (loop .inv) (edge-word .ensures) (write-step .ensures) (step .ensures) (c .if1 .left)
 
 pub write-letters-spec : {M : Type 1} → statement M
 write-letters-spec =

@@ -1,8 +1,2 @@
-// The five edits: a verdict over the lent table, then the write, then the new face count.
-pub mod apply;
-pub mod edge;
+// The five edits over tables: the verdict, the table that is written, the change of the face count. No code: crate `editor` has it.
 pub mod edit;
-pub mod splice;
-pub mod turns;
-pub mod verdict;
-pub mod vertex;

@@ -38,7 +38,7 @@ pub extern "C" fn planner_check(words: &[u16]) -> i64
 pub extern "C" fn planner_listing(words: &[u16], out: &mut [u16]) -> i64
     ensures { λ r. ⌜ (r ≡ codeOf (listAnswer (now (words .entry)) (length (now (out .entry))))) × (now (out .exit) ≡ listOut (now (words .entry)) (now (out .entry))) ⌝ }
 {
-    code(tracing::call::list(words, out))
+    code(listing::call::list(words, out))
 }
 
 // Adds vertex v.
@@ -46,7 +46,7 @@ pub extern "C" fn planner_listing(words: &[u16], out: &mut [u16]) -> i64
 pub extern "C" fn planner_add_vertex(words: &mut [u16], v: u16) -> i64
     ensures { λ r. ⌜ (r ≡ codeOf (answer (now (words .entry)) (AddVertex v))) × (now (words .exit) ≡ edited (now (words .entry)) (AddVertex v)) ⌝ }
 {
-    code(edits::vertex::add_vertex(words, v))
+    code(editor::vertex::add_vertex(words, v))
 }
 
 // Removes the isolated vertex v.
@@ -54,7 +54,7 @@ pub extern "C" fn planner_add_vertex(words: &mut [u16], v: u16) -> i64
 pub extern "C" fn planner_remove_vertex(words: &mut [u16], v: u16) -> i64
     ensures { λ r. ⌜ (r ≡ codeOf (answer (now (words .entry)) (RemoveVertex v))) × (now (words .exit) ≡ edited (now (words .entry)) (RemoveVertex v)) ⌝ }
 {
-    code(edits::vertex::remove_vertex(words, v))
+    code(editor::vertex::remove_vertex(words, v))
 }
 
 // Inserts edge e with turns k: dart 2e into corner c1, then 2e+1 into c2.
@@ -62,7 +62,7 @@ pub extern "C" fn planner_remove_vertex(words: &mut [u16], v: u16) -> i64
 pub extern "C" fn planner_insert_edge(words: &mut [u16], e: u16, c1: u16, c2: u16, k: i16) -> i64
     ensures { λ r. ⌜ (r ≡ codeOf (answer (now (words .entry)) (InsertEdge e c1 c2 k))) × (now (words .exit) ≡ edited (now (words .entry)) (InsertEdge e c1 c2 k)) ⌝ }
 {
-    code(edits::edge::insert_edge(words, e, c1, c2, k))
+    code(editor::edge::insert_edge(words, e, c1, c2, k))
 }
 
 // Deletes edge e.
@@ -70,7 +70,7 @@ pub extern "C" fn planner_insert_edge(words: &mut [u16], e: u16, c1: u16, c2: u1
 pub extern "C" fn planner_delete_edge(words: &mut [u16], e: u16) -> i64
     ensures { λ r. ⌜ (r ≡ codeOf (answer (now (words .entry)) (DeleteEdge e))) × (now (words .exit) ≡ edited (now (words .entry)) (DeleteEdge e)) ⌝ }
 {
-    code(edits::edge::delete_edge(words, e))
+    code(editor::edge::delete_edge(words, e))
 }
 
 // Turns edge e by an amount.
@@ -78,7 +78,7 @@ pub extern "C" fn planner_delete_edge(words: &mut [u16], e: u16) -> i64
 pub extern "C" fn planner_turn_edge(words: &mut [u16], e: u16, amount: i16) -> i64
     ensures { λ r. ⌜ (r ≡ codeOf (answer (now (words .entry)) (TurnEdge e amount))) × (now (words .exit) ≡ edited (now (words .entry)) (TurnEdge e amount)) ⌝ }
 {
-    code(edits::edge::turn_edge(words, e, amount))
+    code(editor::edge::turn_edge(words, e, amount))
 }
 
 // Writes V, E, F, the number of parts and the Euler number, and answers five.
@@ -86,7 +86,7 @@ pub extern "C" fn planner_turn_edge(words: &mut [u16], e: u16, amount: i16) -> i
 pub extern "C" fn planner_counts(words: &[u16], out: &mut [i32]) -> i64
     ensures { λ r. ⌜ (r ≡ codeOf (countsAnswer (now (words .entry)) (length (now (out .entry))))) × (now (out .exit) ≡ countsOut (now (words .entry)) (now (out .entry))) ⌝ }
 {
-    code(surface::call::counts(words, out))
+    code(measure::call::counts(words, out))
 }
 
 // Writes six words for each part, upward: smallest vertex, V, E, F, Euler number, orientable. Answers the number of words.
@@ -94,7 +94,7 @@ pub extern "C" fn planner_counts(words: &[u16], out: &mut [i32]) -> i64
 pub extern "C" fn planner_parts(words: &[u16], out: &mut [i32]) -> i64
     ensures { λ r. ⌜ (r ≡ codeOf (partsAnswer (now (words .entry)) (length (now (out .entry))))) × (now (out .exit) ≡ partsOut (now (words .entry)) (now (out .entry))) ⌝ }
 {
-    code(surface::call::parts(words, out))
+    code(measure::call::parts(words, out))
 }
 
 // Does the ribbon through the step of dart and type alternate.

@@ -9,7 +9,7 @@ use weave::letter::edge_word;
 ghost use Prim.Native.Nat.{_<_};
 ghost use mathlib.Core.Path.{_≡_};
 ghost use Rattle.tracing.specs.Met.{times};
-ghost use Rattle.tracing.specs.laws.Stands.{Stands};
+ghost use Rattle.walks.specs.laws.Stands.{Stands};
 ghost use Rattle.weave.specs.Letters.{over, lettersOn};
 ghost use Rattle.reader.specs.Forward.{forwardOf, tallyOf};
 

@@ -6,7 +6,7 @@ use crate::tally::Tally;
 use crate::tally::tally_step;
 use table::answer::Answer;
 use table::answer::Refusal;
-use tracing::step::step;
+use walks::step::step;
 use weave::call::Named;
 ghost use mathlib.Core.Path.{_≡_};
 ghost use Prim.Native.Nat.{_<_};

@@ -1,5 +1,5 @@
 // The fields of a line, and the lines of the mesh and of the weave.
-use surface::mesh::measure_mesh;
+use measure::mesh::measure_mesh;
 use text::number::integer;
 use text::number::number;
 use text::window::byte;

@@ -1,9 +1,9 @@
 // The lines of the parts, upward.
 use crate::line::field;
 use crate::line::signed_field;
-use surface::forest::label_parts;
-use surface::tally::euler;
-use surface::tally::tally_parts;
+use labels::forest::label_parts;
+use measure::tally::euler;
+use measure::tally::tally_parts;
 use table::layout::NOTHING;
 use table::layout::VERTEX;
 use table::layout::VERTICES;

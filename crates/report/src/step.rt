@@ -2,7 +2,7 @@
 use crate::line::field;
 use text::number::number;
 use text::window::byte;
-use tracing::step::step;
+use walks::step::step;
 use weave::letter::crossings;
 use weave::letter::edge_word;
 use weave::letter::letter;
@@ -10,7 +10,7 @@ ghost use Prim.Native.Nat.{_<_, _^_};
 ghost use Rattle.table.specs.Rotation.{rotation};
 ghost use Rattle.tracing.specs.Walk.{walk};
 ghost use Rattle.tracing.specs.Listing.{gather};
-ghost use Rattle.tracing.specs.laws.Stands.{Stands};
+ghost use Rattle.walks.specs.laws.Stands.{Stands};
 ghost use Rattle.weave.specs.Letters.{lettersOn};
 ghost use Rattle.report.specs.Lines.{stepText};
 ghost use Rattle.report.specs.laws.Wrote.{Wrote, steps-most};

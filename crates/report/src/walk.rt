@@ -8,7 +8,7 @@ use table::layout::VERTICES;
 use text::number::number;
 use text::window::byte;
 use text::window::bytes;
-use tracing::count::look;
+use walks::count::look;
 ghost use Prim.Native.Nat.{_<_, _≤_, _^_};
 ghost use Rattle.table.specs.Good.{Good};
 ghost use Rattle.report.specs.Lines.{walkLine};

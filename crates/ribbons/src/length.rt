@@ -2,14 +2,14 @@
 use table::answer::Answer;
 use table::answer::Refusal;
 use table::layout::EDGES;
-use tracing::step::step;
+use walks::step::step;
 use weave::call::Named;
 use weave::call::named_step;
 ghost use Prim.Native.Nat.{_≤_};
 ghost use mathlib.Core.Path.{_≡_};
 ghost use lib.ListN.{length};
 ghost use Rattle.table.specs.Rotation.{rotation};
-ghost use Rattle.tracing.specs.laws.Stands.{Stands};
+ghost use Rattle.walks.specs.laws.Stands.{Stands};
 ghost use Rattle.tracing.specs.Walk.{walk};
 ghost use Rattle.ribbons.specs.CutLength.{lengthAlong, cutLengthOf};
 

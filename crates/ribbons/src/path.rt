@@ -7,7 +7,7 @@ use weave::call::Named;
 use weave::call::named_step;
 ghost use mathlib.Core.Path.{_≡_};
 ghost use lib.ListN.{length};
-ghost use Rattle.tracing.specs.laws.Stands.{Stands};
+ghost use Rattle.walks.specs.laws.Stands.{Stands};
 ghost use Rattle.ribbons.specs.PathCall.{pathAlong, pathAnswer, kindsOut, coordsOut};
 ghost use Rattle.ribbons.specs.laws.PathCall.{Left};
 

@@ -8,7 +8,7 @@ use weave::letter::edge_word;
 use weave::letter::letter;
 ghost use mathlib.Core.Path.{_≡_};
 ghost use mathlib.Core.Bool.{false};
-ghost use Rattle.tracing.specs.laws.Stands.{Stands};
+ghost use Rattle.walks.specs.laws.Stands.{Stands};
 ghost use Rattle.ribbons.specs.Exact.{over32};
 ghost use Rattle.ribbons.specs.Path.{thirtySeconds, pointAt, letterOf, pieceOn, kindOf, pointOf, farStep};
 ghost use Rattle.ribbons.specs.laws.Places.{Lent};

@@ -1,7 +1,7 @@
 // Where the lent words of a step begin.
 use table::layout::LEAVES;
 ghost use mathlib.Core.Path.{_≡_};
-ghost use Rattle.tracing.specs.laws.Stands.{Stands};
+ghost use Rattle.walks.specs.laws.Stands.{Stands};
 ghost use Rattle.ribbons.specs.laws.Places.{placesOf};
 
 // Three words each: the points of the two ends of the step's edge, and the lift of the edge.

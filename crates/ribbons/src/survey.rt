@@ -1,13 +1,13 @@
 // What the walk of a ribbon shows before its path is written.
 use crate::range::is_far_step;
-use tracing::step::step;
+use walks::step::step;
 use weave::letter::crossings;
 use weave::letter::edge_word;
 ghost use Prim.Native.Nat.{_<_};
 ghost use mathlib.Core.Path.{_≡_};
 ghost use mathlib.Core.Bool.{_||_};
 ghost use Rattle.table.specs.Rotation.{rotation};
-ghost use Rattle.tracing.specs.laws.Stands.{Stands};
+ghost use Rattle.walks.specs.laws.Stands.{Stands};
 ghost use Rattle.tracing.specs.Walk.{walk};
 ghost use Rattle.ribbons.specs.Path.{manyTurns};
 ghost use Rattle.ribbons.specs.laws.Places.{Lent};

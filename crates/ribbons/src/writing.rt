@@ -3,7 +3,7 @@ use crate::piece::Piece;
 use crate::piece::kind_word;
 use crate::piece::piece_on;
 use crate::piece::point_of;
-use tracing::step::step;
+use walks::step::step;
 ghost use Prim.Native.Nat.{_+_, _*_, _<_};
 ghost use mathlib.Core.Path.{_≡_};
 ghost use lib.ListN.{length};

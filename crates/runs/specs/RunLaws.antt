@@ -15,7 +15,7 @@ use Rattle.tracing.specs.Met.{times, countIn, listedCorners, listedSteps, onEdg
 use Rattle.tracing.specs.Listing.{listing, bit}
 use Rattle.tracing.specs.Call.{listAnswer, listOut}
 use Rattle.tracing.specs.Corner.{Present}
-use Rattle.tracing.specs.laws.Stands.{Stands}
+use Rattle.walks.specs.laws.Stands.{Stands}
 use Rattle.edits.specs.Edits.{answer}
 use Rattle.edits.specs.declared.edit.Edit.{Edit}
 use Rattle.surface.specs.Parts.{root?}

@@ -2,7 +2,7 @@
 use crate::lines::no_line;
 use crate::records::Found;
 use crate::records::first_record;
-use edits::apply::apply;
+use editor::apply::apply;
 use edits::edit::Edit;
 use table::answer::Answer;
 use table::answer::number_of;

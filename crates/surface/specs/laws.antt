@@ -10,13 +10,4 @@ pub mod Joint
 pub mod Euler
 pub mod Parts
 pub mod Signed
-pub mod EulerWord
-pub mod Rows
-pub mod Forest
-pub mod Linking
-pub mod Tally
-pub mod Mesh
-pub mod Calls
-pub mod Tallying
-pub mod Rowing
 pub mod Tables

@@ -1,6 +1,1 @@
-// Connected parts of a mesh, their Euler numbers, orientability.
-pub mod call;
-pub mod forest;
-pub mod mesh;
-pub mod rows;
-pub mod tally;
+// Connected parts of a mesh, their Euler numbers, orientability. No code: crates `labels` and `measure` have it.

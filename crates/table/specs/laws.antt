@@ -11,3 +11,4 @@ pub mod Lawful
 pub mod Output
 pub mod Signed
 pub mod Writes
+pub mod Front

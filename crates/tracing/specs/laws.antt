@@ -1,7 +1,5 @@
 pub mod Step
 pub mod Walk
-pub mod Stands
-pub mod Along
 pub mod Place
 pub mod Listing
 pub mod Has
@@ -16,12 +14,5 @@ pub mod Once
 pub mod Twice
 pub mod Edges
 pub mod Length
-pub mod Marks
-pub mod Search
-pub mod Meeting
 pub mod Met
-pub mod Present
 pub mod Sides
-pub mod SidesFound
-pub mod Size
-pub mod Writing

@@ -1,7 +1,2 @@
-// Tracing a good table: steps, walks, faces, the face count and the listing.
-pub mod call;
-pub mod corner;
-pub mod count;
-pub mod listing;
+// Tracing over rotation systems: steps, walks, corners, the listing, the faces and their number. No code: crates `walks`, `listing` and `meeting` have it.
 pub mod meeting;
-pub mod step;

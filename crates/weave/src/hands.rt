@@ -1,11 +1,11 @@
 // The hands of a ribbon's edges: a ribbon alternates exactly if they do not include both.
 use crate::letter::UNTURNED;
 use crate::letter::edge_word;
-use tracing::step::step;
+use walks::step::step;
 ghost use mathlib.Core.Path.{_≡_};
 ghost use Rattle.table.specs.Rotation.{rotation};
 ghost use Rattle.tracing.specs.Walk.{walk};
-ghost use Rattle.tracing.specs.laws.Stands.{Stands};
+ghost use Rattle.walks.specs.laws.Stands.{Stands};
 ghost use Rattle.weave.specs.Letters.{alternates};
 ghost use Rattle.weave.specs.laws.Hands.{handsWith, handsAmong};
 

@@ -1,10 +1,10 @@
 // Whether a weave is plain: the listed ribbons, each walked once to mark its corners and once for its hands.
 use crate::hands::is_alternating;
 use table::layout::DARTS;
-use tracing::count::look;
+use walks::count::look;
 ghost use mathlib.Core.Path.{_≡_};
 ghost use Rattle.table.specs.Good.{Good};
-ghost use Rattle.tracing.specs.laws.Size.{LookReady};
+ghost use Rattle.walks.specs.laws.Size.{LookReady};
 ghost use Rattle.weave.specs.Letters.{plain};
 ghost use Rattle.weave.specs.laws.Plain.{Judged};
 

@@ -2,12 +2,12 @@
 use crate::letter::crossings;
 use crate::letter::edge_word;
 use crate::letter::letter;
-use tracing::step::step;
+use walks::step::step;
 ghost use Prim.Native.Nat.{_+_, _≤_, _<_};
 ghost use mathlib.Core.Path.{_≡_};
 ghost use lib.ListN.{length};
 ghost use lib.Seq.{sets};
-ghost use Rattle.tracing.specs.laws.Stands.{Stands};
+ghost use Rattle.walks.specs.laws.Stands.{Stands};
 ghost use Rattle.weave.specs.Letters.{letters};
 ghost use Rattle.weave.specs.laws.Crossing.{LetterRoom, Lettered};
 ghost use Rattle.weave.specs.laws.Passing.{LetterCount};

@@ -18,7 +18,7 @@ use Rattle.table.specs.declared.answer.Refusal.{Refusal}
 use Rattle.table.specs.declared.answer.Refusal.the-variants.{Torn, NoSuchName, Absent}
 use Rattle.tracing.specs.Step.{step}
 use Rattle.tracing.specs.Listing.{bit}
-use Rattle.tracing.specs.laws.Stands.{Stands}
+use Rattle.walks.specs.laws.Stands.{Stands}
 use Rattle.weave.specs.declared.call.Named.{Named}
 use Rattle.weave.specs.declared.call.Named.the-variants.{There, Refused}
 use Rattle.weave.specs.Calls.{namedStep}

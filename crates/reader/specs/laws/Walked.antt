@@ -25,7 +25,7 @@ use Rattle.tracing.specs.Walk.{walk}
 use Rattle.tracing.specs.laws.Walk.{iterates, run-suc, run-length, walk-run, walk-period, walk-period-le}
 use Rattle.tracing.specs.Listing.{gather, bit}
 use Rattle.tracing.specs.laws.Meets.{run-has}
-use Rattle.tracing.specs.laws.Stands.{Stands, stands-low, stands-step}
+use Rattle.walks.specs.laws.Stands.{Stands, stands-low, stands-step}
 use Rattle.weave.specs.declared.call.Named.{Named}
 use Rattle.weave.specs.declared.call.Named.the-variants.{There, Refused}
 use Rattle.weave.specs.Letters.{over, under, wordOf, stepLetters, letters}

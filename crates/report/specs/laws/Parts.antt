@@ -20,10 +20,10 @@ use Rattle.tracing.specs.Listing.{gather, only, bit}
 use Rattle.tracing.specs.laws.Listing.{gather-one, gather-none, gather-append}
 use Rattle.surface.specs.Parts.{root?, partsBelow, parts}
 use Rattle.surface.specs.Signed.{eulerOf, partEuler}
-use Rattle.surface.specs.laws.EulerWord.{euler-sfits}
-use Rattle.surface.specs.laws.Tally.{Keyed}
-use Rattle.surface.specs.laws.Tallying.{PartTally}
-use Rattle.surface.specs.laws.Mesh.{root-none, root-other, root-yes}
+use Rattle.measure.specs.laws.EulerWord.{euler-sfits}
+use Rattle.measure.specs.laws.Tally.{Keyed}
+use Rattle.measure.specs.laws.Tallying.{PartTally}
+use Rattle.measure.specs.laws.Mesh.{root-none, root-other, root-yes}
 use Rattle.text.specs.Decimal.{integer}
 use Rattle.report.specs.Lines.{space, partText, partLine}
 use Rattle.report.specs.laws.Wrote.{Wrote, wrote-none, wrote-then, wrote-as, wrote-most, parts-most}

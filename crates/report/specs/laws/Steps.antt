@@ -13,8 +13,8 @@ use Rattle.tracing.specs.Walk.{walk}
 use Rattle.tracing.specs.laws.Walk.{iterates, run-suc}
 use Rattle.tracing.specs.Listing.{gather}
 use Rattle.tracing.specs.laws.Listing.{gather-one, gather-append}
-use Rattle.tracing.specs.laws.Stands.{Stands}
-use Rattle.tracing.specs.laws.Along.{Walking, walking-none, walking-more, walking-all, walking-few}
+use Rattle.walks.specs.laws.Stands.{Stands}
+use Rattle.walks.specs.laws.Along.{Walking, walking-none, walking-more, walking-all, walking-few}
 use Rattle.weave.specs.Letters.{crossings, lettersOn, stepLetters}
 use Rattle.weave.specs.laws.Crossing.{letterAt, EdgeWord, crossings-few, letters-length, letters-at}
 use Rattle.text.specs.Paste.{put}

@@ -16,11 +16,10 @@ use Rattle.table.specs.laws.Rotation.{alone-yes, alone-word}
 use Rattle.tracing.specs.Walk.{walk}
 use Rattle.tracing.specs.Listing.{gather, metBy, starts, fresh, lone, alones, loneAt, loneCorner, walkText}
 use Rattle.tracing.specs.laws.Listing.{gather-one, gather-none, starts-suc, lone-yes, lone-no, alones-suc, written-some}
-use Rattle.tracing.specs.laws.Stands.{Stands}
-use Rattle.tracing.specs.laws.Marks.{mark, unmarked}
-use Rattle.tracing.specs.declared.count.Size.{Size}
-use Rattle.tracing.specs.laws.Size.{LookReady, Looked, unmet, unmet-case, no-start, begins, Seen, seen-none, seen-range, seen-more, unmet-fresh}
-use Rattle.tracing.specs.laws.Writing.{looked-begins}
+use Rattle.walks.specs.laws.Stands.{Stands}
+use Rattle.walks.specs.laws.Marks.{mark, unmarked}
+use Rattle.walks.specs.declared.count.Size.{Size}
+use Rattle.walks.specs.laws.Size.{LookReady, Looked, unmet, unmet-case, no-start, begins, Seen, seen-none, seen-range, seen-more, unmet-fresh, looked-begins}
 use Rattle.text.specs.laws.Paste.{Pasted}
 use Rattle.text.specs.Decimal.{decimal}
 use Rattle.text.specs.laws.Decimal.{decimal-low}

@@ -17,8 +17,8 @@ use Rattle.table.specs.laws.Lawful.{good-lawful}
 use Rattle.tracing.specs.Listing.{faceCount}
 use Rattle.surface.specs.Counts.{vertexCount}
 use Rattle.surface.specs.Signed.{meshEuler}
-use Rattle.surface.specs.laws.EulerWord.{euler-sfits}
-use Rattle.surface.specs.laws.Mesh.{MeshCounts, faces-low}
+use Rattle.measure.specs.laws.EulerWord.{euler-sfits}
+use Rattle.measure.specs.laws.Mesh.{MeshCounts, faces-low}
 use Rattle.weave.specs.Letters.{plain}
 use Rattle.text.specs.laws.Paste.{Pasted, paste-none, pasted-then, pasted-as, pasted-length}
 use Rattle.text.specs.Decimal.{decimal, integer}

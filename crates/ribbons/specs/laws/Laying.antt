@@ -19,8 +19,8 @@ use Rattle.table.specs.laws.Output.{sets-append, sets-front}
 use Rattle.tracing.specs.Step.{step}
 use Rattle.tracing.specs.Walk.{walk}
 use Rattle.tracing.specs.laws.Walk.{iterates, run-suc, run-length, walk-run, walk-period, walk-period-le}
-use Rattle.tracing.specs.laws.Stands.{stands-low}
-use Rattle.tracing.specs.laws.Along.{Walking, walking-none, walking-more, walking-all, along-few}
+use Rattle.walks.specs.laws.Stands.{stands-low}
+use Rattle.walks.specs.laws.Along.{Walking, walking-none, walking-more, walking-all, along-few}
 use Rattle.weave.specs.Ribbon.{some}
 use Rattle.ribbons.specs.declared.piece.Point.{Point}
 use Rattle.ribbons.specs.declared.piece.Piece.{Piece}

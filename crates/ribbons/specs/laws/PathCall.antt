@@ -20,7 +20,7 @@ use Rattle.table.specs.declared.answer.Refusal.the-variants.{ShortSlice, ManyTu
 use Rattle.tracing.specs.Step.{step}
 use Rattle.tracing.specs.Walk.{walk}
 use Rattle.tracing.specs.laws.Walk.{run-length, walk-run, walk-period, walk-period-le}
-use Rattle.tracing.specs.laws.Stands.{Stands, stands-low}
+use Rattle.walks.specs.laws.Stands.{Stands, stands-low}
 use Rattle.weave.specs.declared.call.Named.{Named}
 use Rattle.weave.specs.declared.call.Named.the-variants.{There, Refused}
 use Rattle.weave.specs.Calls.{namedStep}

@@ -7,7 +7,7 @@ use lib.IntN.{ℤ}
 use lib.ListN.{length}
 use Rattle.table.specs.Layout.{words, vertices, edges, edgeOf, leaves}
 use Rattle.table.specs.laws.Rotation.{live-yes}
-use Rattle.tracing.specs.laws.Stands.{Stands}
+use Rattle.walks.specs.laws.Stands.{Stands}
 use Rattle.ribbons.specs.declared.place.Places.{Places}
 use Rattle.ribbons.specs.Path.{pointWords, liftWords, firstEnd, secondEnd, liftAt}
 

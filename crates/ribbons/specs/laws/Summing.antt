@@ -17,8 +17,8 @@ use Rattle.tracing.specs.Step.{step}
 use Rattle.tracing.specs.Walk.{walk}
 use Rattle.tracing.specs.laws.Walk.{iterates, run-suc, walk-run, walk-period, walk-period-le}
 use Rattle.tracing.specs.laws.Meets.{run-has}
-use Rattle.tracing.specs.laws.Stands.{Stands, near, stands-dart, stands-low}
-use Rattle.tracing.specs.laws.Along.{Walking, walking-none, walking-more, walking-all, walking-few, along-few}
+use Rattle.walks.specs.laws.Stands.{Stands, near, stands-dart, stands-low}
+use Rattle.walks.specs.laws.Along.{Walking, walking-none, walking-more, walking-all, walking-few, along-few}
 use Rattle.weave.specs.Ribbon.{some}
 use Rattle.weave.specs.laws.Ribbon.{some-append, passes-some}
 use Rattle.ribbons.specs.CutLength.{lengthOf, farLength, cutLength, lengthAlong}

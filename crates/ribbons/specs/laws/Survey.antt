@@ -12,7 +12,7 @@ use Rattle.table.specs.Rotation.{rotation}
 use Rattle.tracing.specs.Step.{step}
 use Rattle.tracing.specs.Walk.{walk}
 use Rattle.tracing.specs.laws.Walk.{iterates, run-suc, run-length}
-use Rattle.tracing.specs.laws.Along.{Walking, walking-none, walking-more, walking-all, walking-few}
+use Rattle.walks.specs.laws.Along.{Walking, walking-none, walking-more, walking-all, walking-few}
 use Rattle.weave.specs.Letters.{crossings}
 use Rattle.weave.specs.laws.Crossing.{EdgeWord}
 use Rattle.weave.specs.Ribbon.{some}

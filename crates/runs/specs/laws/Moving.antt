@@ -10,7 +10,6 @@ use lib.ListN.{length, getD, set, take, drop, length-drop}
 use lib.Seq.{sets, getD-set-other, getD-drop, take-suc, take-nil, length-take-le}
 use Rattle.table.specs.Answers.{numberOf}
 use Rattle.table.specs.declared.answer.Refusal.the-variants.{BadMark}
-use Rattle.tracing.specs.laws.Writing.{Front, front-none, front-more}
 use Rattle.runs.specs.declared.run.Ran.{Ran}
 use Rattle.runs.specs.declared.block.Block.{Block}
 use Rattle.runs.specs.Reading.{reading}
@@ -20,6 +19,7 @@ use Rattle.runs.specs.laws.Lines.{lines-few}
 use Rattle.runs.specs.Blocks.{left}
 use Rattle.runs.specs.laws.Blocks.{left-none, left-some, left-few}
 use Rattle.runs.specs.laws.Running.{Ready, ran}
+use Rattle.table.specs.laws.Front.{Front, front-none, front-more}
 
 -- what the code answers
 abbrev pub blockOf : List ℕ → ℕ → List ℕ → Block

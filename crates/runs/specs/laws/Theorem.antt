@@ -16,7 +16,7 @@ use Rattle.table.specs.declared.answer.Answer.the-variants.{Done, Declined}
 use Rattle.tracing.specs.Listing.{listing}
 use Rattle.tracing.specs.laws.Met.{present-once, absent-never}
 use Rattle.tracing.specs.laws.Edges.{edge-twice}
-use Rattle.tracing.specs.laws.Stands.{stands-low}
+use Rattle.walks.specs.laws.Stands.{stands-low}
 use Rattle.surgery.specs.Change.{Change, less, as-many, more, Changes}
 use Rattle.edits.specs.Edits.{edited, answer}
 use Rattle.edits.specs.laws.Edits.{edited-passes, edited-declines, answer-passes, answer-declines}

@@ -10,9 +10,9 @@ use lib.ListN.{length, getD, set}
 use lib.Seq.{sets}
 use borrow.Author.Tests.{lt-ltb, le-ltb}
 use Rattle.table.specs.laws.Rotation.{live-yes}
-use Rattle.tracing.specs.laws.Stands.{Stands, near, stands-dart}
-use Rattle.tracing.specs.laws.Writing.{Front, front-none, front-more}
+use Rattle.walks.specs.laws.Stands.{Stands, near, stands-dart}
 use Rattle.weave.specs.Letters.{over, under, unturned, positive, crossings, letter, crossed, lettersOn, wordOf}
+use Rattle.table.specs.laws.Front.{Front, front-none, front-more}
 
 -- the letter of crossing j, from 0 on: "the type flips at each one"
 unfoldable pub letterAt : ℕ → ℕ → ℕ → ℕ

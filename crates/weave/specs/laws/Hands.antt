@@ -11,9 +11,8 @@ use Rattle.table.specs.Rotation.{rotation}
 use Rattle.tracing.specs.Step.{step}
 use Rattle.tracing.specs.Walk.{walk}
 use Rattle.tracing.specs.laws.Walk.{iterates, run-suc}
-use Rattle.tracing.specs.laws.Stands.{Stands, stands-low}
-use Rattle.tracing.specs.laws.Along.{Walking, walking-none, walking-more, walking-all}
-use Rattle.tracing.specs.laws.Search.{left, searching-less}
+use Rattle.walks.specs.laws.Stands.{Stands, stands-low}
+use Rattle.walks.specs.laws.Along.{Walking, walking-none, walking-more, walking-all}
 use Rattle.weave.specs.declared.hands.Hands.{Hands}
 use Rattle.weave.specs.Letters.{unturned, positive, negative, wordOf, alternates}
 use Rattle.weave.specs.Ribbon.{some, somePositive, someNegative}
@@ -50,11 +49,6 @@ among-more t l x =
     ap₂ two-hands
     (ap (λ b. somePositive t l || b) (sym (or-false (positive (wordOf t x)))) ∙ sym (some-append (λ y. positive (wordOf t y)) l (x ∷ [])))
     (ap (λ b. someNegative t l || b) (sym (or-false (negative (wordOf t x)))) ∙ sym (some-append (λ y. negative (wordOf t y)) l (x ∷ [])))
-
--- a step that does not lead back leaves fewer
-pub walking-less : {t : List ℕ} {s n at next : ℕ} → Walking t s n at → next ≡ step (rotation t) at → next ≢ s → left t s next < left t s at
-walking-less {s = s} {n} w e b =
-    searching-less {p = s} {q = s} (record { so-far = n; walking = w; missed = λ k a l. (w .along .early k a l, w .along .early k a l) }) e b
 
 -- the loop over the walk
 pub record Seeing (t : List ℕ) (s at : ℕ) (h : Hands) : Type 0 where

@@ -14,11 +14,11 @@ use Rattle.tracing.specs.Step.{step}
 use Rattle.tracing.specs.laws.Walk.{iterates, run-suc, walk-run, walk-period, walk-period-le}
 use Rattle.tracing.specs.Listing.{gather}
 use Rattle.tracing.specs.laws.Listing.{gather-one, gather-append}
-use Rattle.tracing.specs.laws.Stands.{Stands, stands-low}
-use Rattle.tracing.specs.laws.Along.{Walking, walking-none, walking-more, walking-all, walking-few, along-few}
-use Rattle.tracing.specs.laws.Writing.{Front, front-none, front-more, next-room}
+use Rattle.walks.specs.laws.Stands.{Stands, stands-low}
+use Rattle.walks.specs.laws.Along.{Walking, walking-none, walking-more, walking-all, walking-few, along-few}
 use Rattle.weave.specs.Letters.{crossings, lettersOn, wordOf, stepLetters, letters}
 use Rattle.weave.specs.laws.Crossing.{EdgeWord, crossings-few, letters-length, LetterRoom, Lettered}
+use Rattle.table.specs.laws.Front.{Front, front-none, front-more, next-room}
 
 -- the letters of the first n steps from s
 abbrev pub lettersBefore : List ℕ → ℕ → ℕ → List ℕ

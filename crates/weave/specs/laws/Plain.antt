@@ -12,11 +12,11 @@ use Rattle.orbits.specs.laws.Truth.{clash, false-unless, both-left}
 use Rattle.table.specs.Layout.{darts}
 use Rattle.table.specs.Good.{Good}
 use Rattle.table.specs.Rotation.{rotation}
-use Rattle.tracing.specs.declared.count.Size.{Size}
+use Rattle.walks.specs.declared.count.Size.{Size}
 use Rattle.tracing.specs.Listing.{gather, starts, fresh, metBy, walkText}
 use Rattle.tracing.specs.laws.Listing.{starts-suc, written-some, gather-one, gather-none}
-use Rattle.tracing.specs.laws.Marks.{mark, unmarked}
-use Rattle.tracing.specs.laws.Size.{LookReady, Looked, unmet, unmet-case, no-start, begins, Seen, seen-none, seen-more, unmet-fresh}
+use Rattle.walks.specs.laws.Marks.{mark, unmarked}
+use Rattle.walks.specs.laws.Size.{LookReady, Looked, unmet, unmet-case, no-start, begins, Seen, seen-none, seen-more, unmet-fresh}
 use Rattle.weave.specs.Letters.{alternates, every, plain}
 
 -- do the ribbons from these darts on alternate

@@ -1,7 +1,7 @@
 -- `tally::tally_step` meets its contract, a return for each refusal in its order: short slice, far, overturned.
 use Rattle.reader.specs.laws.Counts.{unders-left}
 use Rattle.reader.specs.laws.Forward.{tally-short, tally-low, tally-high, tally-forward}
-use Rattle.tracing.specs.laws.Stands.{stands-low}
+use Rattle.walks.specs.laws.Stands.{stands-low}
 use native.Mathlib.Omega.{arith}
 use borrow.Author.Needs.{needs}
 use Rattle.reader.proofs.tally.tally_step.Statement.{statement}

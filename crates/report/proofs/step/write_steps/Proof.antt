@@ -1,10 +1,9 @@
 -- `step::write_steps` meets its contract. The invariant: the walk is under way, and the fields of its steps so far are written.
 use Rattle.report.specs.laws.Steps.{StepsWriting, stepping-none, stepping-near, stepping-more, stepping-all}
 use Rattle.report.specs.laws.Wrote.{wrote-length}
-use Rattle.weave.specs.laws.Hands.{walking-less}
-use Rattle.tracing.specs.laws.Search.{left}
 use mathlib.Core.Path.{_∙_}
 use Rattle.report.proofs.step.write_steps.Statement.{statement}
+use Rattle.walks.specs.laws.Along.{left, walking-less}
 use Rattle.report.proofs.step.write_steps.Tie as tie
 
 abbrev Inv-loop : tie.InvT-loop

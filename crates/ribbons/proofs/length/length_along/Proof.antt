@@ -1,10 +1,9 @@
 -- `length::length_along` meets its contract. The invariant: the walk is under way, and the lengths of its edges so far are in range and summed.
 use Rattle.ribbons.specs.laws.Summing.{Summing, summing-none, summing-within, summing-low, summing-high, summing-fits, summing-more, summing-all}
-use Rattle.weave.specs.laws.Hands.{walking-less}
-use Rattle.tracing.specs.laws.Search.{left}
 use native.Mathlib.Omega.{arith}
-use Rattle.tracing.specs.laws.Stands.{stands-low}
+use Rattle.walks.specs.laws.Stands.{stands-low}
 use Rattle.ribbons.proofs.length.length_along.Statement.{statement}
+use Rattle.walks.specs.laws.Along.{left, walking-less}
 use Rattle.ribbons.proofs.length.length_along.Tie as tie
 
 abbrev Inv-loop : tie.InvT-loop

@@ -1,8 +1,7 @@
 -- `survey::survey_from` meets its contract. The invariant: the walk is under way, and its steps so far are surveyed.
 use Rattle.ribbons.specs.laws.Survey.{Surveying, surveying-none, surveying-lent, surveying-few, surveying-more, surveying-all}
-use Rattle.weave.specs.laws.Hands.{walking-less}
-use Rattle.tracing.specs.laws.Search.{left}
 use Rattle.ribbons.proofs.survey.survey_from.Statement.{statement}
+use Rattle.walks.specs.laws.Along.{left, walking-less}
 use Rattle.ribbons.proofs.survey.survey_from.Tie as tie
 
 abbrev Inv-loop : tie.InvT-loop

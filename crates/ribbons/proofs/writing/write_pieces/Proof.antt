@@ -1,8 +1,6 @@
 -- `writing::write_pieces` meets its contract. The invariant: the walk is under way, and the pieces of its n steps so far stand at the front of the slices.
 use Rattle.ribbons.specs.laws.Laying.{Laying, laying-none, laying-lent, laying-near, laying-room, laying-more, laying-all, laying-kinds, laying-coords}
-use Rattle.weave.specs.laws.Hands.{walking-less}
-use Rattle.tracing.specs.laws.Search.{left}
-use Rattle.tracing.specs.laws.Along.{walking-few}
+use Rattle.walks.specs.laws.Along.{walking-few, left, walking-less}
 use native.Mathlib.Omega.{arith}
 use Rattle.ribbons.proofs.writing.write_pieces.Statement.{statement}
 use Rattle.ribbons.proofs.writing.write_pieces.Tie as tie

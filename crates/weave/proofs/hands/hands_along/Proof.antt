@@ -1,8 +1,8 @@
 -- `hands::hands_along` meets its contract. The invariant: the walk is under way, and the hands of its edges so far are seen; the measure is what is left of it.
 use borrow.Author.Needs.{needs}
-use Rattle.tracing.specs.laws.Search.{left}
-use Rattle.weave.specs.laws.Hands.{Seeing, seeing-none, seeing-more, seeing-all, walking-less}
+use Rattle.weave.specs.laws.Hands.{Seeing, seeing-none, seeing-more, seeing-all}
 use Rattle.weave.proofs.hands.hands_along.Statement.{statement}
+use Rattle.walks.specs.laws.Along.{left, walking-less}
 use Rattle.weave.proofs.hands.hands_along.Tie as tie
 
 abbrev Inv-loop : tie.InvT-loop

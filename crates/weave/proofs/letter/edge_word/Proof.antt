@@ -1,6 +1,6 @@
 -- `letter::edge_word` meets its contract: the word of a live edge, between 1 and 199.
 use native.Mathlib.Omega.{arith}
-use Rattle.tracing.specs.laws.Stands.{near, stands-dart}
+use Rattle.walks.specs.laws.Stands.{near, stands-dart}
 use Rattle.weave.specs.laws.Crossing.{edge-read}
 use borrow.Author.Needs.{needs}
 use Rattle.weave.proofs.letter.edge_word.Statement.{statement}

@@ -1,8 +1,8 @@
 -- `plain::alternates_from` meets its contract: no ribbon is listed at the dart, or one, which is judged.
 use borrow.Author.Needs.{needs}
-use Rattle.tracing.specs.laws.Writing.{looked-begins}
 use Rattle.weave.specs.laws.Plain.{judged-none, judged-one}
 use Rattle.weave.proofs.plain.alternates_from.Statement.{statement}
+use Rattle.walks.specs.laws.Size.{looked-begins}
 use Rattle.weave.proofs.plain.alternates_from.Tie as tie
 
 look-requires : tie.Need-look-requires

@@ -3,7 +3,7 @@ use Prim.Native.Nat.{_-_}
 use native.Mathlib.Omega.{arith}
 use mathlib.Core.Path.{_≡_}
 use borrow.Author.Tests.{not-true, not-false}
-use Rattle.tracing.specs.laws.Size.{seen-range}
+use Rattle.walks.specs.laws.Size.{seen-range}
 use Rattle.weave.specs.laws.Plain.{Judging, judging-none, judging-more, judging-no, judging-all}
 use Rattle.weave.proofs.plain.is_plain.Statement.{statement}
 use Rattle.weave.proofs.plain.is_plain.Tie as tie

@@ -1,10 +1,9 @@
 -- `ribbon::letter_count` meets its contract. The invariant: the walk is under way, and the letters of its steps so far are counted, at most 99 for each.
 use borrow.Author.Needs.{needs}
 use native.Mathlib.Omega.{arith}
-use Rattle.tracing.specs.laws.Search.{left}
-use Rattle.weave.specs.laws.Hands.{walking-less}
 use Rattle.weave.specs.laws.Passing.{LetterCounting, counting-none, counting-more, counting-all, count-few}
 use Rattle.weave.proofs.ribbon.letter_count.Statement.{statement}
+use Rattle.walks.specs.laws.Along.{left, walking-less}
 use Rattle.weave.proofs.ribbon.letter_count.Tie as tie
 
 abbrev Inv-loop : tie.InvT-loop

@@ -1,8 +1,7 @@
 -- `ribbon::write_letters` meets its contract. The invariant: the walk is under way, and the letters of its steps so far stand at the front of the slice.
-use Rattle.tracing.specs.laws.Search.{left}
-use Rattle.weave.specs.laws.Hands.{walking-less}
 use Rattle.weave.specs.laws.Passing.{Lettering, lettering-none, lettering-room, lettering-more, lettering-all, lettering-size}
 use Rattle.weave.proofs.ribbon.write_letters.Statement.{statement}
+use Rattle.walks.specs.laws.Along.{left, walking-less}
 use Rattle.weave.proofs.ribbon.write_letters.Tie as tie
 
 abbrev Inv-loop : tie.InvT-loop

@@ -1,0 +1,90 @@
+// Inserting, deleting and turning an edge.
+use crate::splice::link;
+use crate::splice::unlink;
+use crate::turns::turned_word;
+use crate::verdict::delete_verdict;
+use crate::verdict::insert_verdict;
+use crate::verdict::turn_verdict;
+use edits::edit::Verdict;
+use table::answer::Answer;
+use table::layout::EDGE;
+use walks::count::face_count;
+ghost use mathlib.Core.Path.{_≡_};
+ghost use Prim.Native.Nat.{_*_, _+_, _<_};
+ghost use Rattle.edits.specs.Edge.{firstCorner, inserted, deleted};
+ghost use Rattle.edits.specs.Edits.{answer, edited};
+ghost use Rattle.edits.specs.declared.edit.Edit.the-variants.{InsertEdge, DeleteEdge, TurnEdge};
+ghost use Rattle.edits.specs.laws.Ready.{InsertReady, DeleteReady};
+
+// Puts edge e, of word w, between corners c1 and c2. The second dart goes first, so that with one corner for both the first stands before it.
+fn insert(t: &mut [u16], e: usize, c1: usize, c2: usize, w: u16)
+    requires { ⌜ InsertReady (now t) e c1 c2 ⌝ }
+    ensures { λ _. ⌜ now (t .exit) ≡ inserted (now (t .entry)) e c1 c2 w ⌝ }
+{
+    link(t, 2 * e + 1, c2);
+    let c = first_corner(e, c1, c2);
+    link(t, 2 * e, c);
+    t[EDGE + e] = w;
+}
+
+// The corner of the first dart, once the second is in.
+fn first_corner(e: usize, c1: usize, c2: usize) -> usize
+    requires { ⌜ e < 1024 ⌝ }
+    ensures { λ r. ⌜ r ≡ firstCorner e c1 c2 ⌝ }
+{
+    if c1 == c2 {
+        return 2 * e + 1;
+    }
+    c1
+}
+
+// Inserts edge e with turns k: dart 2e into corner c1, 2e+1 into c2. Answers the new face count.
+pub fn insert_edge(t: &mut [u16], e: u16, c1: u16, c2: u16, k: i16) -> Answer
+    ensures { λ r. ⌜ (r ≡ answer (now (t .entry)) (InsertEdge e c1 c2 k)) × (now (t .exit) ≡ edited (now (t .entry)) (InsertEdge e c1 c2 k)) ⌝ }
+{
+    match insert_verdict(t, e, c1, c2, k) {
+        Verdict::Declines(r) => Answer::Declined(r),
+        Verdict::Passes => {
+            let w = turned_word(100, k);
+            insert(t, e as usize, c1 as usize, c2 as usize, w);
+            Answer::Done(face_count(t))
+        }
+    }
+}
+
+// Takes edge e out.
+fn delete(t: &mut [u16], e: usize)
+    requires { ⌜ DeleteReady (now t) e ⌝ }
+    ensures { λ _. ⌜ now (t .exit) ≡ deleted (now (t .entry)) e ⌝ }
+{
+    unlink(t, 2 * e);
+    unlink(t, 2 * e + 1);
+    t[EDGE + e] = 0;
+}
+
+// Deletes edge e. Answers the new face count.
+pub fn delete_edge(t: &mut [u16], e: u16) -> Answer
+    ensures { λ r. ⌜ (r ≡ answer (now (t .entry)) (DeleteEdge e)) × (now (t .exit) ≡ edited (now (t .entry)) (DeleteEdge e)) ⌝ }
+{
+    match delete_verdict(t, e) {
+        Verdict::Declines(r) => Answer::Declined(r),
+        Verdict::Passes => {
+            delete(t, e as usize);
+            Answer::Done(face_count(t))
+        }
+    }
+}
+
+// Turns edge e by an amount. Answers the new face count.
+pub fn turn_edge(t: &mut [u16], e: u16, amount: i16) -> Answer
+    ensures { λ r. ⌜ (r ≡ answer (now (t .entry)) (TurnEdge e amount)) × (now (t .exit) ≡ edited (now (t .entry)) (TurnEdge e amount)) ⌝ }
+{
+    match turn_verdict(t, e, amount) {
+        Verdict::Declines(r) => Answer::Declined(r),
+        Verdict::Passes => {
+            let w = turned_word(t[EDGE + e as usize], amount);
+            t[EDGE + e as usize] = w;
+            Answer::Done(face_count(t))
+        }
+    }
+}

@@ -1,0 +1,104 @@
+// The listed walks counted: how many they are, and how many words their listing has.
+use crate::step::corner;
+use crate::step::step;
+use table::layout::DARTS;
+use table::layout::EDGE;
+use table::layout::ISOLATED;
+use table::layout::VERTEX;
+use table::layout::VERTICES;
+ghost use mathlib.Core.Path.{_≡_};
+ghost use lib.ListN.{length};
+ghost use Rattle.table.specs.Layout.{darts};
+ghost use Rattle.table.specs.Good.{Good};
+ghost use Rattle.table.specs.Rotation.{rotation};
+ghost use Rattle.tracing.specs.Listing.{faceCount};
+ghost use Rattle.walks.specs.laws.Stands.{Stands};
+ghost use Rattle.walks.specs.laws.Size.{Marked, Looked, LookReady, Lone, Measured};
+
+// So many walks, and so many words of their listing.
+pub struct Size {
+    pub walks: u32,
+    pub words: usize,
+}
+
+// Marks the corners of the walk from step s, and counts its steps.
+pub fn mark_walk(t: &[u16], met: &mut [u8; 2048], s: u16) -> usize
+    requires { ⌜ Stands (now t) s × (length (now met) ≡ darts) ⌝ }
+    ensures { λ n. ⌜ Marked (now (t .entry)) s (now (met .entry)) n (now (met .exit)) ⌝ }
+{
+    let mut at = s;
+    let mut n: usize = 0;
+    loop {
+        let c = corner(t, at);
+        met[c] = 1;
+        n += 1;
+        at = step(t, at);
+        if at == s {
+            return n;
+        }
+    }
+}
+
+// The walk that starts at dart d, if one does: its corner has not been met. Marks its corners.
+pub fn look(t: &[u16], met: &mut [u8; 2048], d: usize) -> Size
+    requires { ⌜ LookReady (now t) (now met) d ⌝ }
+    ensures { λ r. ⌜ Looked (now (t .entry)) d (now (met .entry)) r (now (met .exit)) ⌝ }
+{
+    if t[EDGE + d / 2] == 0 {
+        return Size { walks: 0, words: 0 };
+    }
+    if met[d] != 0 {
+        return Size { walks: 0, words: 0 };
+    }
+    let n = mark_walk(t, met, 2 * (d as u16));
+    Size {
+        walks: 1,
+        words: n + 1,
+    }
+}
+
+// The number of isolated vertices.
+fn isolated(t: &[u16]) -> u32
+    requires { ⌜ Good (now t) ⌝ }
+    ensures { λ n. ⌜ Lone (now (t .entry)) 512 n ⌝ }
+{
+    let mut n: u32 = 0;
+    let mut v: usize = 0;
+    while v < VERTICES {
+        if t[VERTEX + v] == ISOLATED {
+            n += 1;
+        }
+        v += 1;
+    }
+    n
+}
+
+// How many walks are listed, and how many words their listing has.
+pub fn measure(t: &[u16]) -> Size
+    requires { ⌜ Good (now t) ⌝ }
+    ensures { λ r. ⌜ Measured (now (t .entry)) r ⌝ }
+{
+    let mut met = [0u8; 2048];
+    let mut walks: u32 = 0;
+    let mut words: usize = 0;
+    let mut d: usize = 0;
+    while d < DARTS {
+        let found = look(t, &mut met, d);
+        walks += found.walks;
+        words += found.words;
+        d += 1;
+    }
+    let alone = isolated(t);
+    Size {
+        walks: walks + alone,
+        words: words + 2 * (alone as usize),
+    }
+}
+
+// The face count.
+pub fn face_count(t: &[u16]) -> u32
+    requires { ⌜ Good (now t) ⌝ }
+    ensures { λ n. ⌜ n ≡ faceCount (rotation (now (t .entry))) ⌝ }
+{
+    measure(t).walks
+}

@@ -1,13 +1,13 @@
 // Inserting, deleting and turning an edge.
-use crate::splice::link;
-use crate::splice::unlink;
-use crate::turns::turned_word;
-use crate::verdict::delete_verdict;
-use crate::verdict::insert_verdict;
-use crate::verdict::turn_verdict;
 use edits::edit::Verdict;
+use splicing::splice::link;
+use splicing::splice::unlink;
 use table::answer::Answer;
 use table::layout::EDGE;
+use verdicts::turns::turned_word;
+use verdicts::verdict::delete_verdict;
+use verdicts::verdict::insert_verdict;
+use verdicts::verdict::turn_verdict;
 use walks::count::face_count;
 ghost use mathlib.Core.Path.{_≡_};
 ghost use Prim.Native.Nat.{_*_, _+_, _<_};

@@ -1,11 +1,11 @@
 // Adding a vertex, and removing one that is isolated.
-use crate::verdict::add_verdict;
-use crate::verdict::remove_verdict;
 use edits::edit::Verdict;
 use table::answer::Answer;
 use table::layout::ISOLATED;
 use table::layout::NOTHING;
 use table::layout::VERTEX;
+use verdicts::verdict::add_verdict;
+use verdicts::verdict::remove_verdict;
 use walks::count::face_count;
 ghost use mathlib.Core.Path.{_≡_};
 ghost use Rattle.edits.specs.Edits.{answer, edited};

@@ -1,11 +1,11 @@
 // V, E, F, the number of parts and V-E+F of a good table.
-use crate::tally::euler;
 use labels::forest::label_parts;
 use table::layout::EDGE;
 use table::layout::EDGES;
 use table::layout::NOTHING;
 use table::layout::VERTEX;
 use table::layout::VERTICES;
+use tallies::tally::euler;
 use walks::count::face_count;
 ghost use mathlib.Core.Path.{_≡_};
 ghost use Prim.Native.Nat.{_*_, _<_};
@@ -14,7 +14,7 @@ ghost use Rattle.table.specs.Good.{Good};
 ghost use Rattle.table.specs.Rotation.{rotation, there?, live?};
 ghost use Rattle.tracing.specs.Listing.{bit};
 ghost use Rattle.surface.specs.Parts.{root?, parts};
-ghost use Rattle.measure.specs.laws.Tally.{Keyed};
+ghost use Rattle.tallies.specs.laws.Tally.{Keyed};
 ghost use Rattle.measure.specs.laws.Mesh.{AddedUp, MeshCounts};
 
 pub struct Mesh {

@@ -1,9 +1,9 @@
 // The parts written out: six signed words for each, upward.
-use crate::tally::euler;
-use crate::tally::tally_parts;
 use table::layout::NOTHING;
 use table::layout::VERTEX;
 use table::layout::VERTICES;
+use tallies::tally::euler;
+use tallies::tally::tally_parts;
 ghost use mathlib.Core.Path.{_≡_};
 ghost use Prim.Native.Nat.{_+_, _<_, _≤_};
 ghost use lib.Dec.{eqb};

@@ -2,11 +2,11 @@
 use crate::line::field;
 use crate::line::signed_field;
 use labels::forest::label_parts;
-use measure::tally::euler;
-use measure::tally::tally_parts;
 use table::layout::NOTHING;
 use table::layout::VERTEX;
 use table::layout::VERTICES;
+use tallies::tally::euler;
+use tallies::tally::tally_parts;
 use text::window::byte;
 use text::window::bytes;
 ghost use Prim.Native.Nat.{_<_, _^_};

@@ -26,14 +26,14 @@ use Rattle.tracing.specs.laws.FaceCount.{face-count}
 use mir.Syntax.{w32}
 use mir.Val.{SFits, toZ, ofZ}
 use mir.Facts.{toZ-ofZ}
-use Rattle.measure.specs.laws.EulerWord.{euler-sfits}
+use Rattle.tallies.specs.laws.EulerWord.{euler-sfits}
 use Rattle.surface.specs.Labels.{label}
 use Rattle.surface.specs.Counts.{vertexCount}
 use Rattle.surface.specs.Parts.{root?, partsBelow, parts}
 use Rattle.surface.specs.laws.Parts.{root-there, root-label}
 use Rattle.surface.specs.Signed.{eulerOf, meshEuler}
 use Rattle.surface.specs.Rows.{rows, rowIf, row}
-use Rattle.measure.specs.laws.Tally.{Keyed}
+use Rattle.tallies.specs.laws.Tally.{Keyed}
 use Rattle.tracing.specs.Met.{edgeCount}
 
 -- k of the numbers below n pass

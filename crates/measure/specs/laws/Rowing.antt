@@ -21,8 +21,8 @@ use Rattle.surface.specs.Parts.{root?}
 use Rattle.surface.specs.laws.Parts.{root-there, root-label}
 use Rattle.surface.specs.Rows.{flagOf, rowOf, row, rows}
 use Rattle.measure.specs.laws.Rows.{Written, written-none, written-skip, written-more, written-room}
-use Rattle.measure.specs.laws.Tally.{Keyed}
-use Rattle.measure.specs.laws.Tallying.{PartTally}
+use Rattle.tallies.specs.laws.Tally.{Keyed}
+use Rattle.tallies.specs.laws.Tallying.{PartTally}
 
 -- labels and counts, and room for a row where vertex n is a root
 pub record RowReady (t up vs es fs odd : List ℕ) (n at : ℕ) (out : List ℤ) : Type 0 where

@@ -19,7 +19,7 @@ use mir.Syntax.{w32}
 use mir.Val.{SFits, toZ, ofZ}
 use mir.Facts.{toZ-ofZ, toZ-pos, sfits-lit}
 use Rattle.surface.specs.Signed.{eulerOf}
-use Rattle.measure.specs.laws.EulerWord.{euler-sfits}
+use Rattle.tallies.specs.laws.EulerWord.{euler-sfits}
 use Rattle.surface.specs.Rows.{flagOf, rowOf, row, rowIf, rows}
 
 -- the rows of the parts labelled below n stand at the front

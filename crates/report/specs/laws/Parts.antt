@@ -20,9 +20,9 @@ use Rattle.tracing.specs.Listing.{gather, only, bit}
 use Rattle.tracing.specs.laws.Listing.{gather-one, gather-none, gather-append}
 use Rattle.surface.specs.Parts.{root?, partsBelow, parts}
 use Rattle.surface.specs.Signed.{eulerOf, partEuler}
-use Rattle.measure.specs.laws.EulerWord.{euler-sfits}
-use Rattle.measure.specs.laws.Tally.{Keyed}
-use Rattle.measure.specs.laws.Tallying.{PartTally}
+use Rattle.tallies.specs.laws.EulerWord.{euler-sfits}
+use Rattle.tallies.specs.laws.Tally.{Keyed}
+use Rattle.tallies.specs.laws.Tallying.{PartTally}
 use Rattle.measure.specs.laws.Mesh.{root-none, root-other, root-yes}
 use Rattle.text.specs.Decimal.{integer}
 use Rattle.report.specs.Lines.{space, partText, partLine}

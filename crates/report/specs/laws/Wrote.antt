@@ -17,7 +17,7 @@ use Rattle.table.specs.laws.Lawful.{good-lawful}
 use Rattle.tracing.specs.Listing.{faceCount}
 use Rattle.surface.specs.Counts.{vertexCount}
 use Rattle.surface.specs.Signed.{meshEuler}
-use Rattle.measure.specs.laws.EulerWord.{euler-sfits}
+use Rattle.tallies.specs.laws.EulerWord.{euler-sfits}
 use Rattle.measure.specs.laws.Mesh.{MeshCounts, faces-low}
 use Rattle.weave.specs.Letters.{plain}
 use Rattle.text.specs.laws.Paste.{Pasted, paste-none, pasted-then, pasted-as, pasted-length}

@@ -1,6 +1,6 @@
 -- `call::parts` meets its contract: torn, short or written.
 use Rattle.measure.specs.laws.Calls.{rows-size, parts-short, parts-done}
-use Rattle.measure.specs.laws.Tally.{labelled-keyed}
+use Rattle.tallies.specs.laws.Tally.{labelled-keyed}
 use Rattle.table.specs.laws.Output.{output-torn}
 use Rattle.table.specs.laws.Check.{seen-good, seen-torn}
 use native.Mathlib.Omega.{arith}

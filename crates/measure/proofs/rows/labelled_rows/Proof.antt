@@ -1,5 +1,5 @@
 -- `rows::labelled_rows` meets its contract: counts, then rows.
-use Rattle.measure.specs.laws.Tally.{labelled-keyed}
+use Rattle.tallies.specs.laws.Tally.{labelled-keyed}
 use Rattle.measure.specs.laws.Rowing.{rowing-none}
 use borrow.Author.Needs.{needs}
 use Rattle.measure.proofs.rows.labelled_rows.Statement.{statement}

@@ -1,5 +1,5 @@
 -- `part::part_lines` meets its contract: labels, counts, then lines.
-use Rattle.measure.specs.laws.Tally.{labelled-keyed}
+use Rattle.tallies.specs.laws.Tally.{labelled-keyed}
 use borrow.Author.Needs.{needs}
 use Rattle.report.proofs.part.part_lines.Statement.{statement}
 use Rattle.report.proofs.part.part_lines.Tie as tie

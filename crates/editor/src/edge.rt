@@ -15,6 +15,7 @@ ghost use Rattle.edits.specs.Edge.{firstCorner, inserted, deleted};
 ghost use Rattle.edits.specs.Edits.{answer, edited};
 ghost use Rattle.edits.specs.declared.edit.Edit.the-variants.{InsertEdge, DeleteEdge, TurnEdge};
 ghost use Rattle.edits.specs.laws.Ready.{InsertReady, DeleteReady};
+ghost use Rattle.table.specs.Layout.{edges};
 
 // Puts edge e, of word w, between corners c1 and c2. The second dart goes first, so that with one corner for both the first stands before it.
 fn insert(t: &mut [u16], e: usize, c1: usize, c2: usize, w: u16)
@@ -29,7 +30,7 @@ fn insert(t: &mut [u16], e: usize, c1: usize, c2: usize, w: u16)
 
 // The corner of the first dart, once the second is in.
 fn first_corner(e: usize, c1: usize, c2: usize) -> usize
-    requires { ⌜ e < 1024 ⌝ }
+    requires { ⌜ e < edges ⌝ }
     ensures { λ r. ⌜ r ≡ firstCorner e c1 c2 ⌝ }
 {
     if c1 == c2 {

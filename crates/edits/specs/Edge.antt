@@ -3,9 +3,8 @@ use Prim.Native.Nat.{ℕ, _+_, _-_, _*_, zero, suc}
 use mathlib.Core.Bool.{true, false, cond}
 use mathlib.Core.List.{List}
 use lib.Dec.{eqb, ltb}
-use Rattle.table.specs.Layout.{darts, nothing, isolated, nextWord, prevWord, leaves, vertexWord}
+use Rattle.table.specs.Layout.{darts, nothing, isolated, nextWord, prevWord, leaves, vertexWord, loneAt}
 use Rattle.table.specs.Writes.{setEdge, setNext, setPrev, setLeaves, setVertex}
-use Rattle.tracing.specs.Listing.{loneAt}
 
 -- b comes next after a
 abbrev pub tie : List ℕ → ℕ → ℕ → List ℕ

@@ -2,7 +2,9 @@ pub mod Turns
 pub mod Held
 pub mod Splice
 pub mod Unlink
-pub mod Link
+pub mod Grown
+pub mod LinkBefore
+pub mod LinkAlone
 pub mod Edge
 pub mod Ready
 pub mod Deleted

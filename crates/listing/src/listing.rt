@@ -1,9 +1,9 @@
 // The listing, written to a lent slice that is long enough.
 use table::layout::DARTS;
 use table::layout::ISOLATED;
+use table::layout::LONE;
 use table::layout::VERTEX;
 use table::layout::VERTICES;
-use walks::corner::LONE;
 use walks::count::look;
 use walks::step::step;
 ghost use mathlib.Core.Path.{_≡_};
@@ -17,6 +17,7 @@ ghost use Rattle.tracing.specs.Walk.{walk};
 ghost use Rattle.tracing.specs.Listing.{listing};
 ghost use Rattle.walks.specs.laws.Stands.{Stands};
 ghost use Rattle.listing.specs.laws.Writing.{RoomAt, Entered, RoomLone, EnteredLone, walksText, lonesText, WroteWalks};
+ghost use Rattle.table.specs.Layout.{darts, vertices};
 
 // The steps of the walk from s, from index `start` on.
 fn write_walk(t: &[u16], out: &mut [u16], start: usize, s: u16)
@@ -36,7 +37,7 @@ fn write_walk(t: &[u16], out: &mut [u16], start: usize, s: u16)
 }
 
 // The walk that starts at dart d, if one does, from index `at` on. The index after it.
-fn write_from(t: &[u16], met: &mut [u8; 2048], out: &mut [u16], at: usize, d: usize) -> usize
+fn write_from(t: &[u16], met: &mut [u8; DARTS], out: &mut [u16], at: usize, d: usize) -> usize
     requires { ⌜ RoomAt (now t) (now met) (now out) at d ⌝ }
     ensures { λ r. ⌜ Entered (now (t .entry)) (now (met .entry)) (now (out .entry)) at d r (now (met .exit)) (now (out .exit)) ⌝ }
 {
@@ -65,10 +66,10 @@ fn write_lone(t: &[u16], out: &mut [u16], at: usize, v: usize) -> usize
 
 // The walks that start at a dart, upward, from the front of `out`. The index after them.
 fn write_walks(t: &[u16], out: &mut [u16]) -> usize
-    requires { ⌜ Good (now t) × (length (walksText (rotation (now t)) 2048) ≤ length (now out)) ⌝ }
+    requires { ⌜ Good (now t) × (length (walksText (rotation (now t)) darts) ≤ length (now out)) ⌝ }
     ensures { λ r. ⌜ WroteWalks (now (t .entry)) (now (out .entry)) r (now (out .exit)) ⌝ }
 {
-    let mut met = [0u8; 2048];
+    let mut met = [0u8; DARTS];
     let mut at: usize = 0;
     let mut d: usize = 0;
     while d < DARTS {
@@ -80,8 +81,8 @@ fn write_walks(t: &[u16], out: &mut [u16]) -> usize
 
 // The empty walks, upward, from index `start` on.
 fn write_lones(t: &[u16], out: &mut [u16], start: usize)
-    requires { ⌜ Good (now t) × (start + length (lonesText (rotation (now t)) 512) ≤ length (now out)) ⌝ }
-    ensures { λ _. ⌜ now (out .exit) ≡ sets (now (out .entry)) start (lonesText (rotation (now (t .entry))) 512) ⌝ }
+    requires { ⌜ Good (now t) × (start + length (lonesText (rotation (now t)) vertices) ≤ length (now out)) ⌝ }
+    ensures { λ _. ⌜ now (out .exit) ≡ sets (now (out .entry)) start (lonesText (rotation (now (t .entry))) vertices) ⌝ }
 {
     let mut at = start;
     let mut v: usize = 0;

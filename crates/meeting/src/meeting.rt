@@ -1,8 +1,8 @@
 // Whether two corners are on one face, and how the two sides of an edge lie: each by one walk.
 use table::layout::EDGE;
+use table::layout::LONE;
 use tracing::meeting::Meeting;
 use tracing::meeting::Sides;
-use walks::corner::LONE;
 use walks::step::mirror;
 use walks::step::step;
 ghost use mathlib.Core.Path.{_≡_};

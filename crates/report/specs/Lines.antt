@@ -8,7 +8,7 @@ use lib.IntN.{ℤ}
 use lib.ListN.{length}
 use Rattle.table.specs.Rotation.{Rotation, rotation}
 use Rattle.tracing.specs.Walk.{walk}
-use Rattle.tracing.specs.Listing.{gather, loneAt, faces, faceCount}
+use Rattle.tracing.specs.Listing.{gather, faces, faceCount}
 use Rattle.surface.specs.Labels.{orientable}
 use Rattle.surface.specs.Counts.{vertexCount}
 use Rattle.surface.specs.Parts.{parts}
@@ -16,6 +16,7 @@ use Rattle.surface.specs.Signed.{partEuler, meshEuler}
 use Rattle.weave.specs.Letters.{stepLetters, plain}
 use Rattle.text.specs.Decimal.{decimal, integer}
 use Rattle.tracing.specs.Met.{edgeCount}
+use Rattle.table.specs.Layout.{loneAt}
 
 -- "One space between fields, a newline after each line."
 abbrev pub space : ℕ

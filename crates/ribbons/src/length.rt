@@ -12,6 +12,7 @@ ghost use Rattle.table.specs.Rotation.{rotation};
 ghost use Rattle.walks.specs.laws.Stands.{Stands};
 ghost use Rattle.tracing.specs.Walk.{walk};
 ghost use Rattle.ribbons.specs.CutLength.{lengthAlong, cutLengthOf};
+ghost use Rattle.table.specs.Layout.{edges};
 
 // The shortest and the longest edge, in sixteenths of a millimetre.
 pub const SHORTEST: u32 = 1;
@@ -20,7 +21,7 @@ pub const LONGEST: u32 = 65535;
 
 // The cut length of the ribbon through step s, or a refusal for an edge whose length is out of range.
 fn length_along(t: &[u16], s: u16, lengths: &[u32]) -> Answer
-    requires { ⌜ Stands (now t) s × (1024 ≤ length (now lengths)) ⌝ }
+    requires { ⌜ Stands (now t) s × (edges ≤ length (now lengths)) ⌝ }
     ensures { λ r. ⌜ r ≡ lengthAlong (now (lengths .entry)) (walk (rotation (now (t .entry))) s) ⌝ }
 {
     let mut at = s;

@@ -12,6 +12,7 @@ ghost use Rattle.tracing.specs.Walk.{walk};
 ghost use Rattle.ribbons.specs.Path.{manyTurns};
 ghost use Rattle.ribbons.specs.laws.Places.{Lent};
 ghost use Rattle.ribbons.specs.laws.Survey.{surveyOf, surveyWith};
+ghost use Rattle.tracing.specs.Step.{steps};
 
 // The number of steps; has an edge more than one turn; is a point or a lift out of range.
 pub struct Survey {
@@ -32,7 +33,7 @@ fn either(a: bool, b: bool) -> bool
 
 // With one step more.
 fn with_step(v: Survey, many: bool, far: bool) -> Survey
-    requires { ⌜ v .steps < 4096 ⌝ }
+    requires { ⌜ v .steps < steps ⌝ }
     ensures { λ r. ⌜ r ≡ surveyWith v many far ⌝ }
 {
     let a = either(v.many, many);

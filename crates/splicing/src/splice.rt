@@ -2,21 +2,16 @@
 use table::layout::DARTS;
 use table::layout::ISOLATED;
 use table::layout::LEAVES;
+use table::layout::LONE;
 use table::layout::NOTHING;
 use table::layout::PREV;
 use table::layout::VERTEX;
 ghost use mathlib.Core.Path.{_≡_};
-ghost use Prim.Native.Nat.{_≤_, _<_};
+ghost use Prim.Native.Nat.{_<_};
 ghost use lib.ListN.{length};
-ghost use Rattle.table.specs.Layout.{words, darts, vertices};
-ghost use Rattle.edits.specs.Edge.{splice, cut};
-ghost use Rattle.edits.specs.Edge.{lesser};
-ghost use Rattle.edits.specs.Edge.{successor, unlink};
-ghost use Rattle.edits.specs.Edge.{link};
+ghost use Rattle.table.specs.Layout.{words, darts};
+ghost use Rattle.edits.specs.Edge.{splice, cut, lesser, successor, unlink, link};
 ghost use Rattle.edits.specs.laws.Ready.{SpliceReady, CutReady, LinkReady, UnlinkReady};
-
-// The word by which an isolated vertex's corner is named, less the vertex.
-pub const LONE: usize = 32768;
 
 // Puts x between p and d at vertex v, whose word becomes w.
 fn splice(t: &mut [u16], x: usize, d: usize, p: usize, v: usize, w: u16)
@@ -54,7 +49,7 @@ pub fn link(t: &mut [u16], x: usize, c: usize)
         splice(t, x, c, p, v, w);
         return;
     }
-    splice(t, x, x, x, c - LONE, x as u16);
+    splice(t, x, x, x, c - LONE as usize, x as u16);
 }
 
 // Lets n come next after p, and takes x out.

@@ -5,7 +5,7 @@ use mathlib.Core.List.{List}
 use mathlib.Core.Logic.{_≢_}
 use lib.ListN.{length}
 use Rattle.orbits.specs.Reach.{Reach}
-use Rattle.table.specs.Layout.{vertices, edges, darts, words, nothing, isolated, nextWord, prevWord, leaves, edgeWord, vertexWord, edgeOf, Live}
+use Rattle.table.specs.Layout.{vertices, edges, darts, words, nothing, isolated, nextWord, prevWord, leaves, edgeWord, vertexWord, edgeOf, Live, edgeWordMost}
 
 -- "The three words of a dart that is not live are 65,535."
 pub record Bare (t : List ℕ) (d : ℕ) : Type 0 where
@@ -23,7 +23,7 @@ pub record Good (t : List ℕ) : Type 0 where
   -- "a lent slice of 7,680 unsigned 16-bit words"
   pub size : length t ≡ words
   -- "0 if not live, else its turns plus 100; turns run from -99 to 99"
-  pub turns : (e : ℕ) → e < edges → edgeWord t e ≤ 199
+  pub turns : (e : ℕ) → e < edges → edgeWord t e ≤ edgeWordMost
   pub bare : (d : ℕ) → d < darts → edgeWord t (edgeOf d) ≡ 0 → Bare t d
   -- "every live dart leaves a live vertex"
   pub leaves-low : (d : ℕ) → Live t d → leaves t d < vertices

@@ -59,6 +59,14 @@ edgeWord t e = getD t (edgeAt + e) 0
 abbrev pub vertexWord : List ℕ → ℕ → ℕ
 vertexWord t v = getD t (vertexAt + v) 0
 
+-- "turns run from -99 to 99", plus 100
+abbrev pub edgeWordMost : ℕ
+edgeWordMost = 199
+
+-- "An isolated vertex v has one corner, named 32,768+v."
+abbrev pub loneAt : ℕ
+loneAt = 32768
+
 -- "Edge e has two darts: 2e leaves its first end, 2e+1 its second; the reverse of d is the other one"
 abbrev pub rev : ℕ → ℕ
 rev d = d + 1 - 2 * (d % 2)

@@ -23,3 +23,6 @@ pub const ISOLATED: u16 = 65534;
 
 // The largest edge word: 99 turns, plus 100.
 pub const EDGE_WORD_MAX: u16 = 199;
+
+// Where the corner words of isolated vertices begin.
+pub const LONE: u16 = 32768;

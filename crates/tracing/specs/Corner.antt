@@ -5,13 +5,13 @@ use mathlib.Core.Path.{_≡_}
 use mathlib.Core.Bool.{Bool, true, false, _||_, cond}
 use mathlib.Core.List.{List, [], _∷_}
 use lib.Dec.{eqb, ltb}
-use Rattle.table.specs.Layout.{vertices, darts}
+use Rattle.table.specs.Layout.{vertices, darts, loneAt}
 use Rattle.table.specs.Rotation.{Rotation}
 use Rattle.tracing.specs.declared.meeting.Meeting.{Meeting}
 use Rattle.tracing.specs.declared.meeting.Meeting.the-variants.{Apart, SameType, OtherType}
 use Rattle.tracing.specs.Step.{corner}
 use Rattle.tracing.specs.Walk.{walk, corners}
-use Rattle.tracing.specs.Listing.{has, loneAt, loneCorner, starts}
+use Rattle.tracing.specs.Listing.{has, loneCorner, starts}
 
 -- a corner that is there
 pub data Present (R : Rotation) (c : ℕ) : Type 0 where

@@ -5,7 +5,7 @@ use mathlib.Core.Bool.{Bool, true, false, not, cond}
 use mathlib.Core.List.{List, [], _∷_, _++_, map}
 use lib.Dec.{eqb, ltb}
 use lib.ListN.{length}
-use Rattle.table.specs.Layout.{vertices, darts}
+use Rattle.table.specs.Layout.{vertices, darts, loneAt}
 use Rattle.table.specs.Rotation.{Rotation}
 use Rattle.tracing.specs.Walk.{walk, corners}
 
@@ -50,9 +50,6 @@ alones R zero = []
 alones R (suc v) = alones R v ++ lone R v
 
 -- "An isolated vertex v has one corner, named 32,768+v."
-abbrev pub loneAt : ℕ
-loneAt = 32768
-
 abbrev pub loneCorner : ℕ → ℕ
 loneCorner v = loneAt + v
 

@@ -5,8 +5,8 @@ use mathlib.Core.List.{List, [], _∷_}
 use lib.Dec.{eqb, ltb}
 use Rattle.table.specs.Rotation.{Rotation}
 use Rattle.orbits.specs.Count.{more, count}
-use Rattle.tracing.specs.Listing.{gather, starts, loneAt, faces}
-use Rattle.table.specs.Layout.{darts, edges}
+use Rattle.tracing.specs.Listing.{gather, starts, faces}
+use Rattle.table.specs.Layout.{darts, edges, loneAt}
 use Rattle.tracing.specs.Walk.{walk, corners}
 
 -- the corners that a listed face's walk meets; "An empty walk meets its vertex's corner"

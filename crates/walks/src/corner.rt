@@ -2,6 +2,7 @@
 use table::layout::DARTS;
 use table::layout::EDGE;
 use table::layout::ISOLATED;
+use table::layout::LONE;
 use table::layout::VERTEX;
 use table::layout::VERTICES;
 ghost use mathlib.Core.Path.{_≡_};
@@ -9,9 +10,6 @@ ghost use mathlib.Core.Bool.{true};
 ghost use Rattle.table.specs.Good.{Good};
 ghost use Rattle.table.specs.Rotation.{rotation};
 ghost use Rattle.tracing.specs.Corner.{wellFormed, present};
-
-// Where the corners of isolated vertices begin.
-pub const LONE: u16 = 32768;
 
 // Is c a corner word, and not malformed.
 pub fn is_corner(c: u16) -> bool

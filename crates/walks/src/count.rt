@@ -8,7 +8,7 @@ use table::layout::VERTEX;
 use table::layout::VERTICES;
 ghost use mathlib.Core.Path.{_≡_};
 ghost use lib.ListN.{length};
-ghost use Rattle.table.specs.Layout.{darts};
+ghost use Rattle.table.specs.Layout.{darts, vertices};
 ghost use Rattle.table.specs.Good.{Good};
 ghost use Rattle.table.specs.Rotation.{rotation};
 ghost use Rattle.tracing.specs.Listing.{faceCount};
@@ -22,7 +22,7 @@ pub struct Size {
 }
 
 // Marks the corners of the walk from step s, and counts its steps.
-pub fn mark_walk(t: &[u16], met: &mut [u8; 2048], s: u16) -> usize
+pub fn mark_walk(t: &[u16], met: &mut [u8; DARTS], s: u16) -> usize
     requires { ⌜ Stands (now t) s × (length (now met) ≡ darts) ⌝ }
     ensures { λ n. ⌜ Marked (now (t .entry)) s (now (met .entry)) n (now (met .exit)) ⌝ }
 {
@@ -40,7 +40,7 @@ pub fn mark_walk(t: &[u16], met: &mut [u8; 2048], s: u16) -> usize
 }
 
 // The walk that starts at dart d, if one does: its corner has not been met. Marks its corners.
-pub fn look(t: &[u16], met: &mut [u8; 2048], d: usize) -> Size
+pub fn look(t: &[u16], met: &mut [u8; DARTS], d: usize) -> Size
     requires { ⌜ LookReady (now t) (now met) d ⌝ }
     ensures { λ r. ⌜ Looked (now (t .entry)) d (now (met .entry)) r (now (met .exit)) ⌝ }
 {
@@ -60,7 +60,7 @@ pub fn look(t: &[u16], met: &mut [u8; 2048], d: usize) -> Size
 // The number of isolated vertices.
 fn isolated(t: &[u16]) -> u32
     requires { ⌜ Good (now t) ⌝ }
-    ensures { λ n. ⌜ Lone (now (t .entry)) 512 n ⌝ }
+    ensures { λ n. ⌜ Lone (now (t .entry)) vertices n ⌝ }
 {
     let mut n: u32 = 0;
     let mut v: usize = 0;
@@ -78,7 +78,7 @@ pub fn measure(t: &[u16]) -> Size
     requires { ⌜ Good (now t) ⌝ }
     ensures { λ r. ⌜ Measured (now (t .entry)) r ⌝ }
 {
-    let mut met = [0u8; 2048];
+    let mut met = [0u8; DARTS];
     let mut walks: u32 = 0;
     let mut words: usize = 0;
     let mut d: usize = 0;

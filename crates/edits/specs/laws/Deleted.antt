@@ -9,7 +9,7 @@ use mathlib.Core.Logic.{_≢_}
 use lib.ListN.{length}
 use Rattle.orbits.specs.laws.Truth.{clash, both, both-left, both-right, same-truth}
 use Rattle.orbits.specs.laws.Count.{without, without-at, without-other, without-on}
-use Rattle.table.specs.Layout.{vertices, edges, darts, words, leaves, edgeWord, vertexWord, edgeOf}
+use Rattle.table.specs.Layout.{vertices, edges, darts, words, leaves, edgeWord, vertexWord, edgeOf, edgeWordMost}
 use Rattle.table.specs.Good.{Good}
 use Rattle.table.specs.Rotation.{rotation, live?, nextDart, turnsOf, there?}
 use Rattle.table.specs.laws.Rotation.{live-yes, yes-live, there-yes, there-word}
@@ -84,7 +84,7 @@ module _ (t : List ℕ) (g : Good t) (e : ℕ) (h : e < edges) (on : edgeWord t 
   same-live : left ≡ live? (deleted t e)
   same-live = fun-ext (λ d. sym (live-left d))
 
-  turns-low : (i : ℕ) → i < edges → edgeWord (deleted t e) i ≤ 199
+  turns-low : (i : ℕ) → i < edges → edgeWord (deleted t e) i ≤ edgeWordMost
   turns-low i l = elim (ℕ-discrete i e) [
     | yes q ↦ rw (q, deleted-own) (omega arith)
     | no n ↦ rw (deleted-other i l n) (g .turns i l)

@@ -9,16 +9,17 @@ use mathlib.Core.Logic.{_≢_}
 use lib.ListN.{length-set}
 use borrow.Author.Tests.{eq-eqb, ne-eqb, lt-ltb, le-ltb}
 use Rattle.orbits.specs.laws.Truth.{truth, holds, fails}
-use Rattle.table.specs.Layout.{vertices, edges, darts, nothing, isolated, nextWord, prevWord, leaves, edgeWord, vertexWord}
+use Rattle.table.specs.Layout.{vertices, edges, darts, nothing, isolated, nextWord, prevWord, leaves, edgeWord, vertexWord, loneAt}
 use Rattle.table.specs.Rotation.{live?, nextDart}
 use Rattle.table.specs.Writes.{setEdge}
 use Rattle.table.specs.laws.Writes.{upd, next-edge, prev-edge, leaves-edge, vertex-edge, leaves-vertex}
-use Rattle.tracing.specs.Listing.{loneAt}
 use Rattle.edits.specs.laws.Held.{Held, nextIn, next-in, next-out, held-kept}
 use Rattle.edits.specs.Edge.{splice, lesser, seek, successor, taken, unlink, link, firstCorner, inserted, deleted}
 use Rattle.edits.specs.laws.Splice.{Reads, reads-splice, reads-cut, reads-vertex}
-use Rattle.edits.specs.laws.Link.{new, old, plus-case, Grown, before-grown, before-seat, alone-grown, alone-seat}
 use Rattle.edits.specs.laws.Unlink.{Sought, found, none, sought, Shrunk, out-shrunk}
+use Rattle.edits.specs.laws.Grown.{new, old, plus-case, Grown}
+use Rattle.edits.specs.laws.LinkBefore.{before-grown, before-seat}
+use Rattle.edits.specs.laws.LinkAlone.{alone-grown, alone-seat}
 
 -- a corner that is there, where L are the live darts
 pub data Corner (t : List ℕ) (L : ℕ → Bool) (c : ℕ) : Type 0 where

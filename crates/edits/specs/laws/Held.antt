@@ -9,8 +9,8 @@ use mathlib.Core.Logic.{_≢_, _↔_}
 use lib.ListN.{length}
 use Rattle.orbits.specs.laws.Truth.{clash, truth, holds, fails}
 use Rattle.orbits.specs.Reach.{Reach}
-use Rattle.orbits.specs.laws.Reach.{reach-here, reach-step, reach-ind}
-use Rattle.table.specs.Layout.{vertices, edges, darts, words, nothing, isolated, nextWord, prevWord, leaves, edgeWord, vertexWord, edgeOf}
+use Rattle.orbits.specs.laws.Reach.{reach-agree}
+use Rattle.table.specs.Layout.{vertices, edges, darts, words, nothing, isolated, nextWord, prevWord, leaves, edgeWord, vertexWord, edgeOf, edgeWordMost}
 use Rattle.table.specs.Good.{Good, Bare}
 use Rattle.table.specs.laws.Writes.{same-words}
 use Rattle.table.specs.Rotation.{live?}
@@ -63,7 +63,7 @@ module _ (t : List ℕ) where
         | no n ↦ absurd (clash (yes-live t d (record { low = h; on = n })) e)
       ]
 
-  pub held-good : Held t (live? t) → ((e : ℕ) → e < edges → edgeWord t e ≤ 199) → Good t
+  pub held-good : Held t (live? t) → ((e : ℕ) → e < edges → edgeWord t e ≤ edgeWordMost) → Good t
   held-good h turns = record {
     size = h .size;
     turns = turns;
@@ -101,13 +101,8 @@ module _ (t u : List ℕ) (L : ℕ → Bool) (H : Held t L) (size : length u ≡
   at : (d : ℕ) → L d ≡ true → leaves u d ≡ leaves t d
   at d e = from d (H .low d e)
 
-  record Onward (d k : ℕ) : Type 0 where
-    live : L k ≡ true
-    path : Reach (nextWord u) d k
-
   reach-kept : (d k : ℕ) → L d ≡ true → Reach (nextWord t) d k → Reach (nextWord u) d k
-  reach-kept d k e c = reach-ind (nextWord t) (Onward d) d (record { live = e; path = reach-here })
-      (λ i s o. record { live = H .next-live i (o .live); path = rw (← (next i (H .low i (o .live)))) (reach-step (o .path)) }) k c .path
+  reach-kept = reach-agree (λ i. L i ≡ true) (H .next-live) (λ i e. next i (H .low i e))
 
   pub held-kept : Held u L
   held-kept = record {

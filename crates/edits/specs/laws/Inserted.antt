@@ -8,23 +8,22 @@ use mathlib.Core.List.{List}
 use mathlib.Core.Logic.{_≢_}
 use borrow.Author.Tests.{eq-eqb, ne-eqb}
 use Rattle.orbits.specs.laws.Truth.{clash, both, both-left, both-right, same-truth}
-use Rattle.table.specs.Layout.{vertices, edges, darts, isolated, nextWord, leaves, edgeWord, vertexWord, edgeOf}
+use Rattle.table.specs.Layout.{vertices, edges, darts, isolated, nextWord, leaves, edgeWord, vertexWord, edgeOf, edgeWordMost, loneAt}
 use Rattle.table.specs.Good.{Good}
 use Rattle.table.specs.Rotation.{rotation, live?, nextDart, turnsOf, there?}
 use Rattle.table.specs.laws.Rotation.{live-yes, yes-live, not-live, there-yes, there-word, alone-yes}
 use Rattle.table.specs.laws.Writes.{upd-at, upd-off, edge-edge, leaves-edge, vertex-edge}
-use Rattle.tracing.specs.Listing.{loneAt}
 use Rattle.surgery.specs.Without.{bypass, Without, apart}
 use Rattle.surgery.specs.laws.Bypass.{bypass-into, bypass-off}
 use Rattle.surgery.specs.Sits.{Sits, just-before, before-other, at-vertex, Inserted}
 use Rattle.surgery.specs.laws.Without.{apart-own, apart-other}
 use Rattle.edits.specs.laws.Held.{Held, good-held, held-good, nextIn, next-in}
-use Rattle.edits.specs.laws.Link.{plus, plus-new, plus-old, new, old, plus-case, Grown}
 use Rattle.edits.specs.laws.Ready.{InsertReady, link-ready}
 use Rattle.edits.specs.Edge.{link, firstCorner, inserted}
 use Rattle.edits.specs.laws.Edge.{Corner, at-dart, at-lone, link-grown, link-before, link-alone, still-isolated, edge-held, edge-next, next-of}
+use Rattle.edits.specs.laws.Grown.{plus, plus-new, plus-old, new, old, plus-case, Grown}
 
-module _ (t : List ℕ) (g : Good t) (e c₁ c₂ w : ℕ) (h : e < edges) (off : edgeWord t e ≡ 0) (some : w ≢ 0) (few : w ≤ 199)
+module _ (t : List ℕ) (g : Good t) (e c₁ c₂ w : ℕ) (h : e < edges) (off : edgeWord t e ≡ 0) (some : w ≢ 0) (few : w ≤ edgeWordMost)
     (C₁ : Corner t (live? t) c₁) (C₂ : Corner t (live? t) c₂) where
   H : Held t (live? t)
   H = good-held t g
@@ -132,7 +131,7 @@ module _ (t : List ℕ) (g : Good t) (e c₁ c₂ w : ℕ) (h : e < edges) (off 
   same-live : more ≡ live? result
   same-live = fun-ext (λ d. sym (live-more d))
 
-  turns-low : (i : ℕ) → i < edges → edgeWord result i ≤ 199
+  turns-low : (i : ℕ) → i < edges → edgeWord result i ≤ edgeWordMost
   turns-low i l = elim (ℕ-discrete i e) [
     | yes q ↦ rw (q, inserted-own) few
     | no n ↦ rw (inserted-other i l n) (g .turns i l)

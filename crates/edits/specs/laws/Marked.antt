@@ -7,7 +7,7 @@ use mathlib.Core.List.{List}
 use mathlib.Core.Logic.{_≢_, _⊎_, ⊎-elim}
 use lib.ListN.{length-set}
 use Rattle.orbits.specs.Reach.{Reach}
-use Rattle.orbits.specs.laws.Reach.{reach-here, reach-step, reach-ind}
+use Rattle.orbits.specs.laws.Reach.{reach-agree}
 use Rattle.table.specs.Layout.{vertices, edges, darts, nothing, isolated, nextWord, prevWord, leaves, edgeWord, vertexWord, edgeOf, Live}
 use Rattle.table.specs.Good.{Good}
 use Rattle.table.specs.Writes.{setVertex}
@@ -46,13 +46,8 @@ module _ (t : List ℕ) (g : Good t) (v w : ℕ) (low : v < vertices) (bare : (d
   vertex-apart : (d : ℕ) → Live t d → vertexWord marked (leaves t d) ≡ vertexWord t (leaves t d)
   vertex-apart d l = other-word (leaves t d) (g .leaves-low d l) (bare d l)
 
-  record Onward (d k : ℕ) : Type 0 where
-    live : Live t k
-    path : Reach (nextWord marked) d k
-
   reach-kept : (d k : ℕ) → Live t d → Reach (nextWord t) d k → Reach (nextWord marked) d k
-  reach-kept d k l c = reach-ind (nextWord t) (Onward d) d (record { live = l; path = reach-here })
-      (λ i s o. record { live = g .next-live i (o .live); path = rw (← (next-same i (o .live .low))) (reach-step (o .path)) }) k c .path
+  reach-kept = reach-agree (Live t) (g .next-live) (λ i l. next-same i (l .low))
 
   pub marked-good : Good marked
   marked-good = record {

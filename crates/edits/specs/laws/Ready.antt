@@ -5,8 +5,7 @@ use mathlib.Core.Path.{_≡_}
 use mathlib.Core.Bool.{Bool, true}
 use mathlib.Core.List.{List}
 use lib.ListN.{length}
-use Rattle.table.specs.Layout.{words, darts, edges, vertices, nextWord, prevWord, leaves}
-use Rattle.tracing.specs.Listing.{loneAt}
+use Rattle.table.specs.Layout.{words, darts, edges, vertices, nextWord, prevWord, leaves, loneAt}
 use Rattle.edits.specs.Edge.{unlink, link, firstCorner}
 use Rattle.edits.specs.laws.Edge.{Corner, at-dart, at-lone}
 use Rattle.edits.specs.laws.Held.{Held}

@@ -4,7 +4,7 @@ use native.Mathlib.Decide.{ℕ-discrete}
 use mathlib.Core.Path.{_≡_, sym, _∙_, subst, fun-ext}
 use mathlib.Core.List.{List}
 use mathlib.Core.Logic.{_≢_}
-use Rattle.table.specs.Layout.{vertices, edges, nothing, edgeWord, vertexWord}
+use Rattle.table.specs.Layout.{vertices, edges, nothing, edgeWord, vertexWord, edgeWordMost}
 use Rattle.table.specs.Good.{Good}
 use Rattle.table.specs.Rotation.{live?, nextDart, there?}
 use Rattle.table.specs.laws.Rotation.{there-yes, there-word, nextDart-live}
@@ -14,7 +14,7 @@ use Rattle.edits.specs.laws.Edge.{Corner}
 use Rattle.edits.specs.laws.Deleted.{deleted-good, deleted-without, deleted-own, deleted-other}
 use Rattle.edits.specs.laws.Inserted.{inserted-good, inserted-without, inserted-own, inserted-other}
 
-module _ (t : List ℕ) (g : Good t) (e c₁ c₂ w : ℕ) (h : e < edges) (off : edgeWord t e ≡ 0) (some : w ≢ 0) (few : w ≤ 199)
+module _ (t : List ℕ) (g : Good t) (e c₁ c₂ w : ℕ) (h : e < edges) (off : edgeWord t e ≡ 0) (some : w ≢ 0) (few : w ≤ edgeWordMost)
     (C₁ : Corner t (live? t) c₁) (C₂ : Corner t (live? t) c₂) where
   abbrev there-and-back : List ℕ
   there-and-back = deleted (inserted t e c₁ c₂ w) e

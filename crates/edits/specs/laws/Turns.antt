@@ -13,6 +13,7 @@ use Rattle.orbits.specs.laws.Truth.{clash}
 use Rattle.table.specs.laws.Signed.{difference, below, above, mag-sum}
 use borrow.Author.Tests.{lt-ltb, le-ltb, ltb-true, ltb-false}
 use Rattle.edits.specs.Turns.{turnsIn, overturned, wordFor, turnedWord}
+use Rattle.table.specs.Layout.{edgeWordMost}
 
 -- the tests that the code makes
 pub overturned-low : (z : ℤ) → ltZ z (negsuc 98) ≡ true → overturned z ≡ true
@@ -28,7 +29,7 @@ pub record FewTurns (z : ℤ) : Type 0 where
   pub few : overturned z ≡ false
   pub plus-hundred : z +ℤ pos 100 ≡ pos (wordFor z)
   pub some : 1 ≤ wordFor z
-  pub most : wordFor z ≤ 199
+  pub most : wordFor z ≤ edgeWordMost
 
 pub in-range : (z : ℤ) → ltZ z (negsuc 98) ≡ false → ltZ (pos 99) z ≡ false → FewTurns z
 in-range (pos n) e f =
@@ -102,7 +103,7 @@ pub amount-on : (w : ℕ) (a : ℤ) {r : ℕ} → SFits w16 a → r ≡ turnedWo
 amount-on w a f e = e ∙ ap (turnedWord w) (toZ-ofZ {w = w16} f)
 
 -- a word of turns in range is a live edge's
-pub turned-some : (w : ℕ) (a : ℤ) → overturned (turnsIn w +ℤ a) ≡ false → (turnedWord w a ≢ 0) × (turnedWord w a ≤ 199)
+pub turned-some : (w : ℕ) (a : ℤ) → overturned (turnsIn w +ℤ a) ≡ false → (turnedWord w a ≢ 0) × (turnedWord w a ≤ edgeWordMost)
 turned-some w a e =
     let r = few-range (turnsIn w +ℤ a) e in
     let q = word-in w a e in
@@ -110,5 +111,5 @@ turned-some w a e =
     let m = r .most in
     (λ z. omega (arith, q), omega (arith, q))
 
-pub inserted-word : (k : ℤ) → overturned k ≡ false → (turnedWord 100 k ≢ 0) × (turnedWord 100 k ≤ 199)
+pub inserted-word : (k : ℤ) → overturned k ≡ false → (turnedWord 100 k ≢ 0) × (turnedWord 100 k ≤ edgeWordMost)
 inserted-word k e = turned-some 100 k (ap overturned (hundred k) ∙ e)

@@ -8,7 +8,7 @@ use mathlib.Core.List.{List, [], _∷_, _++_, map, map-append}
 use mathlib.Core.Logic.{_≢_}
 use lib.ListN.{length, set, length-append, length-set}
 use lib.Seq.{sets, length-sets}
-use Rattle.table.specs.Layout.{vertices, darts, isolated, vertexWord}
+use Rattle.table.specs.Layout.{vertices, darts, isolated, vertexWord, loneAt}
 use Rattle.table.specs.Good.{Good}
 use Rattle.table.specs.Rotation.{Rotation, rotation, alone?}
 use Rattle.table.specs.laws.Rotation.{alone-yes, alone-word}
@@ -127,7 +127,7 @@ pub entered-blank : (t out : List ℕ) (at v : ℕ) → vertexWord t v ≢ isola
 entered-blank t out at v e = let b = lone-blank t v e in record { end = rw b (omega arith); words = rw b }
 
 pub entered-lone : {t out : List ℕ} {at v : ℕ} → RoomLone t out at v → vertexWord t v ≡ isolated
-    → EnteredLone t out at v (at + 2) (set (set out at 0) (at + 1) (32768 + v))
+    → EnteredLone t out at v (at + 2) (set (set out at 0) (at + 1) (loneAt + v))
 entered-lone {t} {out} {at} {v} k e = let b = lone-text t v (k .low) e in record { end = rw b (omega arith); words = rw (b, add-one) }
 
 pub lone-room : {t out : List ℕ} {at v : ℕ} → RoomLone t out at v → vertexWord t v ≡ isolated → at + 2 ≤ length out
@@ -153,23 +153,23 @@ unfolding listing faces
 listing-parts R = gather-append (walkText R) (starts R darts) (map loneCorner (alones R vertices))
 
 pub record WroteWalks (t out : List ℕ) (r : ℕ) (out′ : List ℕ) : Type 0 where
-  pub end : r ≡ length (walksText (rotation t) 2048)
-  pub words : out′ ≡ sets out 0 (walksText (rotation t) 2048)
+  pub end : r ≡ length (walksText (rotation t) darts)
+  pub words : out′ ≡ sets out 0 (walksText (rotation t) darts)
 
 -- the loop over the darts
 pub record Writing (t : List ℕ) (d at : ℕ) (m out₀ out : List ℕ) : Type 0 where
   pub seen : Seen t d m
-  pub room : length (walksText (rotation t) 2048) ≤ length out₀
+  pub room : length (walksText (rotation t) darts) ≤ length out₀
   pub front : Front (walksText (rotation t) d) out₀ 0 at out
 
-pub writing-none : {t out : List ℕ} → Good t → length (walksText (rotation t) 2048) ≤ length out → Writing t 0 0 unmarked out out
+pub writing-none : {t out : List ℕ} → Good t → length (walksText (rotation t) darts) ≤ length out → Writing t 0 0 unmarked out out
 unfolding starts gather
 writing-none {out = out} g h = record { seen = seen-none g; room = h; front = front-none out 0 }
 
 pub writing-room : {t : List ℕ} {d at : ℕ} {m out₀ out : List ℕ} → Writing t d at m out₀ out → d < darts → RoomAt t m out at d
 writing-room {t} {d} {at} {m} {out₀} {out} k h =
     let R = rotation t in
-    let next = next-room (walksText R) (λ n. gather (walkText R) (fresh R (starts R n) n)) (walksText-suc R) 2048 d h in
+    let next = next-room (walksText R) (λ n. gather (walkText R) (fresh R (starts R n) n)) (walksText-suc R) darts d h in
     let room = k .room in
     let end = k .front .end in
     let size = k .front .size in
@@ -186,24 +186,24 @@ writing-more {t} {d} {at} {r} {m} {m′} {out₀} {out} {out′} k h e =
       front = rw (add-one, walksText-suc R d) (front-more (gather (walkText R) (fresh R (starts R d) d)) (k .front) (rw u at (e .end)) (rw u at (e .words)));
     }
 
-pub writing-all : {t : List ℕ} {at : ℕ} {m out₀ out : List ℕ} → Writing t 2048 at m out₀ out → WroteWalks t out₀ at out
+pub writing-all : {t : List ℕ} {at : ℕ} {m out₀ out : List ℕ} → Writing t darts at m out₀ out → WroteWalks t out₀ at out
 writing-all k = let end = k .front .end in record { end = omega arith; words = k .front .words }
 
 -- the loop over the vertices
 pub record Ending (t : List ℕ) (v start at : ℕ) (out₀ out : List ℕ) : Type 0 where
   pub good : Good t
   pub low : v ≤ vertices
-  pub room : start + length (lonesText (rotation t) 512) ≤ length out₀
+  pub room : start + length (lonesText (rotation t) vertices) ≤ length out₀
   pub front : Front (lonesText (rotation t) v) out₀ start at out
 
-pub ending-none : {t : List ℕ} {start : ℕ} {out : List ℕ} → Good t → start + length (lonesText (rotation t) 512) ≤ length out → Ending t 0 start start out out
+pub ending-none : {t : List ℕ} {start : ℕ} {out : List ℕ} → Good t → start + length (lonesText (rotation t) vertices) ≤ length out → Ending t 0 start start out out
 unfolding alones gather
 ending-none {start = start} {out = out} g h = record { good = g; low = omega arith; room = h; front = front-none out start }
 
 pub ending-room : {t : List ℕ} {v start at : ℕ} {out₀ out : List ℕ} → Ending t v start at out₀ out → v < vertices → RoomLone t out at v
 ending-room {t} {v} k h =
     let R = rotation t in
-    let next = next-room (lonesText R) (λ n. gather (walkText R) (map loneCorner (lone R n))) (lonesText-suc R) 512 v h in
+    let next = next-room (lonesText R) (λ n. gather (walkText R) (map loneCorner (lone R n))) (lonesText-suc R) vertices v h in
     let room = k .room in
     let end = k .front .end in
     let size = k .front .size in
@@ -222,18 +222,18 @@ ending-more {t} {v} k h e =
 
 -- the walks and then the isolated vertices: the listing, at the front of the slice
 pub listed-parts : {t out : List ℕ} {r : ℕ} {mid out′ : List ℕ} → length (listing (rotation t)) ≤ length out → WroteWalks t out r mid
-    → out′ ≡ sets mid r (lonesText (rotation t) 512) → out′ ≡ front (listing (rotation t)) out
+    → out′ ≡ sets mid r (lonesText (rotation t) vertices) → out′ ≡ front (listing (rotation t)) out
 listed-parts {t} {out} {r} {mid} {out′} h k e =
     let R = rotation t in
     let joined : out′ ≡ sets out 0 (listing R) =
     e ∙ rw (listing-parts R, sets-append out 0 (walksText R darts) (lonesText R vertices), zero-add, k .words, k .end) in
     joined ∙ sets-front (listing R) out h
 
-pub walks-room : (R : Rotation) (n : ℕ) → length (listing R) ≤ n → length (walksText R 2048) ≤ n
+pub walks-room : (R : Rotation) (n : ℕ) → length (listing R) ≤ n → length (walksText R darts) ≤ n
 walks-room R n h = let size = ap length (listing-parts R) ∙ length-append (walksText R darts) (lonesText R vertices) in omega arith
 
 pub lones-room : {t out : List ℕ} {r : ℕ} {mid : List ℕ} → length (listing (rotation t)) ≤ length out → WroteWalks t out r mid
-    → r + length (lonesText (rotation t) 512) ≤ length mid
+    → r + length (lonesText (rotation t) vertices) ≤ length mid
 lones-room {t} {out} h k =
     let R = rotation t in
     let size = ap length (listing-parts R) ∙ length-append (walksText R darts) (lonesText R vertices) in

@@ -5,7 +5,7 @@ use mathlib.Core.Path.{_≡_, refl, sym}
 use mathlib.Core.Bool.{true}
 use mathlib.Core.List.{List}
 use mathlib.Core.Logic.{_≢_}
-use Rattle.table.specs.Layout.{darts}
+use Rattle.table.specs.Layout.{darts, loneAt}
 use Rattle.table.specs.Good.{Good}
 use Rattle.table.specs.Rotation.{Rotation, Lawful, rotation}
 use Rattle.table.specs.laws.Lawful.{good-lawful}
@@ -16,7 +16,6 @@ use Rattle.orbits.specs.laws.Faces.{face-flip}
 use Rattle.tracing.specs.declared.meeting.Meeting.the-variants.{Apart, SameType, OtherType}
 use Rattle.tracing.specs.Step.{step, mirror}
 use Rattle.tracing.specs.laws.Place.{trace, flip, on, flip-step}
-use Rattle.tracing.specs.Listing.{loneAt}
 use Rattle.tracing.specs.laws.Mirrored.{whole, mirrored as tracing-mirror}
 use Rattle.tracing.specs.laws.Meets.{step-reach, trace-reach}
 use Rattle.tracing.specs.laws.Cover.{lone-apart, lones-apart}

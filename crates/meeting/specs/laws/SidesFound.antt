@@ -6,7 +6,7 @@ use mathlib.Core.Bool.{true}
 use mathlib.Core.List.{List}
 use mathlib.Core.Logic.{_≢_}
 use lib.ListN.{length}
-use Rattle.table.specs.Layout.{words, edges, edgeWord, rev}
+use Rattle.table.specs.Layout.{words, edges, edgeWord, rev, edgeWordMost}
 use Rattle.table.specs.Good.{Good}
 use Rattle.table.specs.Rotation.{Lawful, rotation, live?, turnsOf}
 use Rattle.table.specs.laws.Lawful.{good-lawful}
@@ -30,7 +30,7 @@ pub record LiveEdge (t : List ℕ) (e : ℕ) : Type 0 where
 pub record EdgeNear (t : List ℕ) (e : ℕ) : Type 0 where
   pub size : length t ≡ words
   pub low : e < edges
-  pub word : edgeWord t e ≤ 199
+  pub word : edgeWord t e ≤ edgeWordMost
 
 module _ {t : List ℕ} {e : ℕ} (k : LiveEdge t e) where
   lawful : Lawful (rotation t)

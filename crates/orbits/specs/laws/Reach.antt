@@ -2,9 +2,10 @@
 -- equivalence, and it is decided by trying fewer than N steps.
 --     reach-here, reach-one, reach-trans, reach-sym      it is an equivalence, and each step stays in it
 --     reach-ind        what holds at i and is kept by a step along the orbit holds on the whole orbit
+--     reach-by, reach-agree     a way of f is a way of g, where g leads along each of its steps
 --     reach-within     fewer steps than the period are enough;     reach-below    so fewer than N
 --     reaches          the test; reach-says and says-reach: it passes exactly if i reaches j; reach-dec
-use mathlib.Core.Path.{_≡_, refl, sym, _∙_, ap}
+use mathlib.Core.Path.{_≡_, refl, sym, _∙_, ap, subst}
 use mathlib.Core.Bool.{true}
 use Prim.Native.Nat.{ℕ, zero, suc, _+_, _<_, pred}
 use native.Mathlib.Nat.{lt-of-lt-of-le}
@@ -40,6 +41,19 @@ reach-ind f P i base step j r = rw (r .lands) at (along (r .steps))
     along : (k : ℕ) → P (iter f k i)
     along zero = base
     along (suc k) = step (iter f k i) (record { steps = k; lands = refl }) (along k)
+
+-- numbers that f keeps among P: where g leads from each of them to the next, it leads along the whole way of f
+record On (P : ℕ → Type 0) (g : ℕ → ℕ) (i j : ℕ) : Type 0 where
+  passes : P j
+  way : Reach g i j
+
+pub reach-by : {f g : ℕ → ℕ} (P : ℕ → Type 0) → ((i : ℕ) → P i → P (f i)) → ((i : ℕ) → P i → Reach g i (f i)) → (i j : ℕ) → P i → Reach f i j → Reach g i j
+reach-by {f} {g} P keep leads i j p r =
+    reach-ind f (On P g i) i (record { passes = p; way = reach-here }) (λ k s o. record { passes = keep k (o .passes); way = reach-trans (o .way) (leads k (o .passes)) }) j r .way
+
+-- the same, where g agrees with f
+pub reach-agree : {f g : ℕ → ℕ} (P : ℕ → Type 0) → ((i : ℕ) → P i → P (f i)) → ((i : ℕ) → P i → g i ≡ f i) → (i j : ℕ) → P i → Reach f i j → Reach g i j
+reach-agree {g = g} P keep agree = reach-by P keep (λ i p. subst (Reach g i) (agree i p) (reach-one i))
 
 pub reach-low : {N : ℕ} {f : ℕ → ℕ} → Inj N f → {i j : ℕ} → i < N → Reach f i j → j < N
 reach-low I {i} h r = rw (r .lands) at (iter-low I (r .steps) i h)

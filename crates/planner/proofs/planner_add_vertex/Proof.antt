@@ -1,5 +1,4 @@
 -- `planner::planner_add_vertex` meets its contract. Adds vertex v.
--- Assumes nothing.
 use mathlib.Core.Path.{_∙_, ap}
 use Rattle.table.specs.Answers.{codeOf}
 use Rattle.table.specs.laws.Answers.{handed-on}

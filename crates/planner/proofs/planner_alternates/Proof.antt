@@ -1,5 +1,4 @@
 -- `planner::planner_alternates` meets its contract. Does the ribbon through the step of dart and type alternate.
--- Assumes nothing.
 use Rattle.table.specs.Answers.{codeOf}
 use Rattle.table.specs.laws.Answers.{handed-on}
 use mathlib.Core.Path.{_∙_, ap}

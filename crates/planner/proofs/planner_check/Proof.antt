@@ -1,5 +1,4 @@
 -- `planner::planner_check` meets its contract. Is the slice a good table.
--- Assumes nothing.
 use Rattle.table.specs.Answers.{codeOf}
 use Rattle.table.specs.laws.Answers.{handed-on}
 use mathlib.Core.Path.{_∙_, ap}

@@ -1,5 +1,4 @@
 -- `planner::planner_counts` meets its contract. Writes V, E, F, the number of parts and the Euler number.
--- Assumes nothing.
 use mathlib.Core.Path.{_∙_, ap}
 use Rattle.table.specs.Answers.{codeOf}
 use Rattle.table.specs.laws.Answers.{handed-on}

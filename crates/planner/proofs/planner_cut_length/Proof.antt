@@ -1,5 +1,4 @@
 -- `planner::planner_cut_length` meets its contract. The cut length of the ribbon through the step of dart and type.
--- Assumes nothing.
 use Rattle.table.specs.Answers.{codeOf}
 use Rattle.table.specs.laws.Answers.{handed-on}
 use mathlib.Core.Path.{_∙_, ap}

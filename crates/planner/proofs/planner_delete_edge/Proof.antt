@@ -1,5 +1,4 @@
 -- `planner::planner_delete_edge` meets its contract. Deletes edge e.
--- Assumes nothing.
 use mathlib.Core.Path.{_∙_, ap}
 use Rattle.table.specs.Answers.{codeOf}
 use Rattle.table.specs.laws.Answers.{handed-on}

@@ -1,5 +1,4 @@
 -- `planner::planner_empty` meets its contract. Fills the slice with the empty mesh.
--- Assumes nothing.
 use Rattle.table.specs.Answers.{codeOf}
 use Rattle.table.specs.laws.Answers.{handed-on}
 use mathlib.Core.Path.{_∙_, ap}

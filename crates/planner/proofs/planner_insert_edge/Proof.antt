@@ -1,5 +1,4 @@
 -- `planner::planner_insert_edge` meets its contract. Inserts edge e with turns k: dart 2e into corner c1, then 2e+1 into c2.
--- Assumes nothing.
 use mathlib.Core.Path.{_∙_, ap, refl}
 use Rattle.table.specs.Answers.{codeOf}
 use Rattle.table.specs.laws.Answers.{handed-on}

@@ -1,5 +1,4 @@
 -- `planner::planner_letters` meets its contract. Writes the letters of the ribbon through the step of dart and type, in the order of travel from it.
--- Assumes nothing.
 use mathlib.Core.Path.{_∙_, ap}
 use Rattle.table.specs.Answers.{codeOf}
 use Rattle.table.specs.laws.Answers.{handed-on}

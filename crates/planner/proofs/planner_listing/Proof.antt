@@ -1,5 +1,4 @@
 -- `planner::planner_listing` meets its contract. Writes the listing of the table's walks, and answers its number of words.
--- Assumes nothing.
 use mathlib.Core.Path.{_∙_, ap}
 use Rattle.table.specs.Answers.{codeOf}
 use Rattle.table.specs.laws.Answers.{handed-on}

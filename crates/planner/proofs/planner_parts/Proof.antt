@@ -1,5 +1,4 @@
 -- `planner::planner_parts` meets its contract. Writes six words for each part, upward.
--- Assumes nothing.
 use mathlib.Core.Path.{_∙_, ap}
 use Rattle.table.specs.Answers.{codeOf}
 use Rattle.table.specs.laws.Answers.{handed-on}

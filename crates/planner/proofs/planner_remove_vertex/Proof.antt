@@ -1,5 +1,4 @@
 -- `planner::planner_remove_vertex` meets its contract. Removes the isolated vertex v.
--- Assumes nothing.
 use mathlib.Core.Path.{_∙_, ap}
 use Rattle.table.specs.Answers.{codeOf}
 use Rattle.table.specs.laws.Answers.{handed-on}

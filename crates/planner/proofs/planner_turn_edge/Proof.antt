@@ -1,5 +1,4 @@
 -- `planner::planner_turn_edge` meets its contract. Turns edge e by an amount.
--- Assumes nothing.
 use mathlib.Core.Path.{_∙_, ap, refl}
 use Rattle.table.specs.Answers.{codeOf}
 use Rattle.table.specs.laws.Answers.{handed-on}

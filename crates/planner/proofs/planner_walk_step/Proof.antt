@@ -1,6 +1,5 @@
 -- `planner::planner_walk_step` meets its contract: a walk of its MIR, by hand. The tally's borrow is opened, the tally is read and passed by value to `step_code`, the tally that comes back is stored, and the borrow is closed at it. All that the proof knows of `step_code` is that it meets its contract.
 -- The table, the words and the lengths go to the callee for good (`stay-dropped`, `gave-slice`).
--- Assumes nothing.
 use mathlib.Core.Path.{_≡_, refl, ap}
 use Prim.Native.Nat.{ℕ}
 use mathlib.Core.List.{[], _∷_, List}

@@ -9,12 +9,12 @@ use mathlib.Core.Logic.{_≢_}
 use lib.ListN.{length, length-append, length-map}
 use borrow.Author.Tests.{lt-ltb, le-ltb}
 use Rattle.orbits.specs.laws.Truth.{false-unless}
-use Rattle.table.specs.Layout.{vertices, darts, isolated, vertexWord}
+use Rattle.table.specs.Layout.{vertices, darts, isolated, vertexWord, loneAt}
 use Rattle.table.specs.Good.{Good}
 use Rattle.table.specs.Rotation.{rotation, alone?}
 use Rattle.table.specs.laws.Rotation.{alone-yes, alone-word}
 use Rattle.tracing.specs.Walk.{walk}
-use Rattle.tracing.specs.Listing.{gather, metBy, starts, fresh, lone, alones, loneAt, loneCorner, walkText}
+use Rattle.tracing.specs.Listing.{gather, metBy, starts, fresh, lone, alones, loneCorner, walkText}
 use Rattle.tracing.specs.laws.Listing.{gather-one, gather-none, starts-suc, lone-yes, lone-no, alones-suc, written-some}
 use Rattle.walks.specs.laws.Stands.{Stands}
 use Rattle.walks.specs.laws.Marks.{mark, unmarked}

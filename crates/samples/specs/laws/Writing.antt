@@ -9,8 +9,7 @@ use mathlib.Core.List.{List, _∷_}
 use lib.Dec.{eqb, ltb}
 use lib.ListN.{getD, set}
 use borrow.Author.Tests.{eq-eqb, ne-eqb, lt-ltb, le-ltb}
-use Rattle.table.specs.Layout.{darts, nothing, isolated, leaves, prevAt, leavesAt, edgeAt, vertexAt}
-use Rattle.tracing.specs.Listing.{loneAt}
+use Rattle.table.specs.Layout.{darts, nothing, isolated, leaves, prevAt, leavesAt, edgeAt, vertexAt, loneAt}
 use Rattle.edits.specs.Turns.{turnedWord}
 use Rattle.edits.specs.Edge.{splice, cut, lesser, seek, successor, unlink, link, firstCorner}
 use Rattle.edits.specs.laws.Edge.{dart-link, link-past}

@@ -32,6 +32,7 @@ use Rattle.surgery.specs.laws.Alike.{alike-flip}
 use Rattle.surgery.specs.Vertex.{Added}
 use Rattle.surgery.specs.laws.Vertex.{vertex-whole, stillAt, add-vertex}
 use Rattle.surgery.specs.Change.{Changes, deletion, turning, insertion}
+use Rattle.tracing.specs.Step.{steps}
 
 module _ {R R′ : Rotation} {e : ℕ} (L : Lawful R) (L′ : Lawful R′) (W : Without R e R′) {P P′ : ℕ → Bool} (K : Parts R e R′ P P′) (i : Inside R e P) where
   pub delete-change : Changes (deletion (sidesOf R e)) (facesOf R P) (facesOf R′ P′)
@@ -109,6 +110,6 @@ turn-even-count {R} {R₁} L L₁ W even =
 
 pub add-count : {R R₁ : Rotation} {v : ℕ} → Lawful R → Lawful R₁ → Added R v R₁ → faceCount R₁ ≡ suc (faceCount R)
 add-count {R} {R₁} {v} L L₁ A =
-    let same : (stillAt v - 4096) / 2 ≡ v = omega arith in
+    let same : (stillAt v - steps) / 2 ≡ v = omega arith in
     rw (face-count R L, face-count R₁ L₁)
     (add-vertex L L₁ A (vertex-whole L L₁ A) (on-still R₁ (stillAt v) (omega arith) ∙ rw same (A .now)))

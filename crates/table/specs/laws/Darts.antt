@@ -9,7 +9,7 @@ use mathlib.Core.List.{List}
 use mathlib.Core.Logic.{_≢_}
 use Rattle.orbits.specs.Count.{count}
 use Rattle.orbits.specs.laws.Count.{count-le}
-use Rattle.table.specs.Layout.{vertices, darts, nextWord, prevWord, leaves, edgeWord, edgeOf, Live}
+use Rattle.table.specs.Layout.{vertices, darts, nextWord, prevWord, leaves, edgeWord, edgeOf, Live, edgeWordMost}
 use Rattle.table.specs.Good.{Good, Bare}
 use Rattle.table.specs.Rotation.{live?}
 use Rattle.table.specs.laws.Rotation.{yes-live, not-live}
@@ -27,7 +27,7 @@ pub record Linked (t : List ℕ) (d : ℕ) : Type 0 where
   pub next-prev : nextWord t (prevWord t d) ≡ d
 
 pub record DartRule (t : List ℕ) (d : ℕ) : Type 0 where
-  pub turns : edgeWord t (edgeOf d) ≤ 199
+  pub turns : edgeWord t (edgeOf d) ≤ edgeWordMost
   pub bare : edgeWord t (edgeOf d) ≡ 0 → Bare t d
   pub linked : edgeWord t (edgeOf d) ≢ 0 → Linked t d
 
@@ -58,7 +58,7 @@ module _ (t : List ℕ) (d : ℕ) where
   pub rule-dead : edgeWord t (edgeOf d) ≡ 0 → Bare t d → DartRule t d
   rule-dead e b = record { turns = omega arith; bare = λ _. b; linked = λ on. absurd (on e) }
 
-  pub rule-live : edgeWord t (edgeOf d) ≢ 0 → edgeWord t (edgeOf d) ≤ 199 → Linked t d → DartRule t d
+  pub rule-live : edgeWord t (edgeOf d) ≢ 0 → edgeWord t (edgeOf d) ≤ edgeWordMost → Linked t d → DartRule t d
   rule-live on h l = record { turns = h; bare = λ e. absurd (on e); linked = λ _. l }
 
 -- The loop over the darts: those below d keep their rules, and n of them are live.

@@ -12,7 +12,7 @@ use Rattle.orbits.specs.Count.{count}
 use Rattle.orbits.specs.Iterate.{iter}
 use Rattle.orbits.specs.laws.Iterate.{period, period-le}
 use Rattle.orbits.specs.laws.Reach.{reach-within}
-use Rattle.table.specs.Layout.{darts, vertices, words, nothing, isolated, nextWord, prevWord, leaves, edgeWord, vertexWord, edgeOf}
+use Rattle.table.specs.Layout.{darts, vertices, words, nothing, isolated, nextWord, prevWord, leaves, edgeWord, vertexWord, edgeOf, edgeWordMost}
 use Rattle.table.specs.Good.{Good, Bare}
 use Rattle.table.specs.Rotation.{live?, nextDart}
 use Rattle.table.specs.laws.Darts.{Linked, DartRule, Ruled, rule-dead, rule-live, good-ruled}
@@ -49,7 +49,7 @@ module _ (t : List ℕ) where
   rule-dec : (d : ℕ) → Dec (DartRule t d)
   rule-dec d = elim (ℕ-discrete (edgeWord t (edgeOf d)) 0) [
     | yes off ↦ map-dec (rule-dead t d off) (λ r. r .bare off) (bare-dec d)
-    | no on ↦ map-dec (λ p. rule-live t d on (p .0) (p .1)) (λ r. (r .turns, r .linked on)) (Dec·and (decLe (edgeWord t (edgeOf d)) 199) (linked-dec d))
+    | no on ↦ map-dec (λ p. rule-live t d on (p .0) (p .1)) (λ r. (r .turns, r .linked on)) (Dec·and (decLe (edgeWord t (edgeOf d)) edgeWordMost) (linked-dec d))
   ]
 
   module _ (r : Ruled t darts) where

@@ -9,7 +9,7 @@ use mathlib.Core.List.{List, [], _∷_, map}
 use mathlib.Core.Logic.{_≢_}
 use lib.Dec.{eqb}
 use borrow.Author.Tests.{eq-eqb, ne-eqb, eqb-true, lt-ltb, le-ltb}
-use Rattle.table.specs.Layout.{darts}
+use Rattle.table.specs.Layout.{darts, loneAt}
 use Rattle.table.specs.Rotation.{Rotation, Lawful}
 use Rattle.orbits.specs.laws.Truth.{Truth, truth, holds, fails, clash}
 use Rattle.orbits.specs.Reach.{Reach}
@@ -25,7 +25,7 @@ use Rattle.tracing.specs.Step.{steps, corner}
 use Rattle.tracing.specs.laws.Step.{mirror-type}
 use Rattle.tracing.specs.laws.Place.{places, trace, flip, on, flip-step, on-step, on-still}
 use Rattle.tracing.specs.Walk.{walk, corners}
-use Rattle.tracing.specs.Listing.{has, loneAt, starts}
+use Rattle.tracing.specs.Listing.{has, starts}
 use Rattle.tracing.specs.laws.Listing.{has-here}
 use Rattle.tracing.specs.laws.Has.{has-empty, has-cons, here, later, has-tail}
 use Rattle.tracing.specs.laws.Mirrored.{whole, mirrored as tracing-mirror}

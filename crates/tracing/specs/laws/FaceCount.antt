@@ -9,7 +9,7 @@ use mathlib.Core.List.{List, [], _∷_, map}
 use lib.Dec.{ltb}
 use lib.ListN.{length}
 use borrow.Author.Tests.{lt-ltb, le-ltb}
-use Rattle.table.specs.Layout.{vertices, darts}
+use Rattle.table.specs.Layout.{vertices, darts, loneAt}
 use Rattle.table.specs.Rotation.{Rotation, Lawful}
 use Rattle.orbits.specs.laws.Truth.{both, both-left, both-right}
 use Rattle.orbits.specs.Count.{count, Partner}
@@ -21,7 +21,7 @@ use Rattle.orbits.specs.laws.Faces.{face-flip, face-trans, face-partition, face
 use Rattle.tracing.specs.Step.{steps, corner}
 use Rattle.tracing.specs.laws.Step.{type?, is-zero, is-one, corner-live}
 use Rattle.tracing.specs.laws.Place.{places, trace, flip, on, place, is-step, is-still, flip-still, on-step, on-still}
-use Rattle.tracing.specs.Listing.{has, starts, alones, loneAt, loneCorner, faces, faceCount}
+use Rattle.tracing.specs.Listing.{has, starts, alones, loneCorner, faces, faceCount}
 use Rattle.tracing.specs.laws.Listing.{has-here}
 use Rattle.tracing.specs.laws.Has.{has-parts, left, right, has-tail, has-mapped, countIn-append, countIn-map}
 use Rattle.tracing.specs.Met.{countIn}
@@ -60,7 +60,7 @@ module _ (R : Rotation) where
       let less : darts + v - darts ≡ v = omega arith in
       rw (le-ltb (darts + v) darts (omega arith), less)
 
-  facesIn-named : (P : ℕ → Bool) → facesIn R P ≡ count (named R P) 2560
+  facesIn-named : (P : ℕ → Bool) → facesIn R P ≡ count (named R P) (darts + vertices)
   unfolding facesIn faces
   facesIn-named P =
       let q : ℕ → Bool = λ c. P (placeOf c) in
@@ -98,14 +98,14 @@ all-pass q [] h = refl
 all-pass q (x ∷ l) h = rw (h x (has-here x l), all-pass q l (λ c e. h c (has-tail c x l e)))
 
 module _ (R : Rotation) (L : Lawful R) where
-  named-apart : (P : ℕ → Bool) → Part R P → (i j : ℕ) → i < 2560 → j < 2560 → NamesWalk R P i → NamesWalk R P j → Face (trace R) (flip R) (2 * i) (2 * j) → i ≡ j
+  named-apart : (P : ℕ → Bool) → Part R P → (i j : ℕ) → i < (darts + vertices) → j < (darts + vertices) → NamesWalk R P i → NamesWalk R P j → Face (trace R) (flip R) (2 * i) (2 * j) → i ≡ j
   named-apart P K i j h l (dart-named a s p) (dart-named b t q) f = starts-one R L i j a b s t f
   named-apart P K i j h l (dart-named a s p) (lone-named b t q) f = absurd (lone-apart R L i j a b f)
   named-apart P K i j h l (lone-named a s p) (dart-named b t q) f =
       absurd (lone-apart R L j i b a (face-flip (tracing-mirror R L P K) (omega arith) (omega arith) f))
   named-apart P K i j h l (lone-named a s p) (lone-named b t q) f = lones-apart R L i j a b f
 
-  named-hit : (P : ℕ → Bool) → Part R P → (i : ℕ) → i < places → P i ≡ true → Partner (λ i j. Face (trace R) (flip R) i (2 * j)) (named R P) 2560 i
+  named-hit : (P : ℕ → Bool) → Part R P → (i : ℕ) → i < places → P i ≡ true → Partner (λ i j. Face (trace R) (flip R) i (2 * j)) (named R P) (darts + vertices) i
   named-hit P K i h p = elim (place i) [
     | is-step l ↦
         let E = tracing-mirror R L P K in

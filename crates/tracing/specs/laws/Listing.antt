@@ -11,7 +11,8 @@ use borrow.Author.Tests.{eq-eqb, ne-eqb, lt-ltb, le-ltb}
 use Rattle.table.specs.Rotation.{Rotation}
 use Rattle.orbits.specs.laws.Truth.{truth, holds, fails}
 use Rattle.tracing.specs.Walk.{walk}
-use Rattle.tracing.specs.Listing.{has, gather, metBy, fresh, starts, lone, alones, loneAt, loneCorner, walkText}
+use Rattle.tracing.specs.Listing.{has, gather, metBy, fresh, starts, lone, alones, loneCorner, walkText}
+use Rattle.table.specs.Layout.{loneAt}
 
 -- laws
 

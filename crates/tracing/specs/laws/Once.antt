@@ -6,7 +6,7 @@ use mathlib.Core.Bool.{Bool, true, false, _&&_}
 use mathlib.Core.List.{[], _∷_, map}
 use lib.Dec.{eqb}
 use borrow.Author.Tests.{eq-eqb, eqb-true, lt-ltb, le-ltb}
-use Rattle.table.specs.Layout.{vertices, darts}
+use Rattle.table.specs.Layout.{vertices, darts, loneAt}
 use Rattle.table.specs.Rotation.{Rotation, Lawful}
 use Rattle.orbits.specs.laws.Truth.{both, both-right, false-unless, not-both}
 use Rattle.orbits.specs.Count.{count, more}
@@ -24,7 +24,7 @@ use Rattle.tracing.specs.laws.Step.{corner-dart}
 use Rattle.tracing.specs.laws.Place.{places, trace, flip, on, flip-step, on-step}
 use Rattle.tracing.specs.Walk.{walk, corners}
 use Rattle.tracing.specs.laws.Walk.{iterates, walk-run, walk-period, walk-period-le, step-inj}
-use Rattle.tracing.specs.Listing.{has, starts, alones, loneAt, loneCorner, faces}
+use Rattle.tracing.specs.Listing.{has, starts, alones, loneCorner, faces}
 use Rattle.tracing.specs.laws.Has.{has-empty, has-cons, here, later, has-parts, left, right, has-mapped, countIn-append, countIn-map, times-none, times-gather, count-single}
 use Rattle.tracing.specs.Met.{countIn, times, cornersOf, listedCorners}
 use Rattle.tracing.specs.laws.Mirrored.{whole, mirrored as tracing-mirror}

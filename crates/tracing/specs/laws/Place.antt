@@ -7,7 +7,7 @@ use mathlib.Core.Bool.{Bool, cond}
 use mathlib.Core.Logic.{_≢_}
 use lib.Dec.{ltb}
 use borrow.Author.Tests.{lt-ltb, le-ltb, ltb-true, ltb-false}
-use Rattle.table.specs.Layout.{rev}
+use Rattle.table.specs.Layout.{rev, vertices}
 use Rattle.table.specs.Rotation.{Rotation, Lawful}
 use Rattle.orbits.specs.laws.Truth.{truth, holds, fails}
 use Rattle.tracing.specs.Step.{steps, step, mirror}
@@ -15,7 +15,7 @@ use Rattle.tracing.specs.laws.Step.{is-zero, is-one, type?, step-word, m
 
 -- 4,096 step words, then two still places for each of 512 vertices
 abbrev pub places : ℕ
-places = 5120
+places = steps + 2 * vertices
 
 -- a step goes on; "an isolated vertex gives one empty walk", which stays where it is
 unfoldable pub trace : Rotation → ℕ → ℕ

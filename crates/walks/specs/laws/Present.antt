@@ -7,10 +7,9 @@ use mathlib.Core.Bool.{true, false, not}
 use mathlib.Core.List.{List}
 use lib.Dec.{eqb, ltb}
 use borrow.Author.Tests.{lt-ltb, le-ltb, ltb-true}
-use Rattle.table.specs.Layout.{vertices, darts, isolated, edgeOf, edgeWord, vertexWord}
+use Rattle.table.specs.Layout.{vertices, darts, isolated, edgeOf, edgeWord, vertexWord, loneAt}
 use Rattle.table.specs.Rotation.{rotation, live?, alone?}
 use Rattle.orbits.specs.laws.Truth.{clash}
-use Rattle.tracing.specs.Listing.{loneAt}
 use Rattle.tracing.specs.Corner.{wellFormed, present}
 use Rattle.tracing.specs.laws.Corner.{present-dart, present-lone}
 

@@ -6,7 +6,7 @@ use mathlib.Core.Bool.{true}
 use mathlib.Core.List.{List}
 use lib.ListN.{length}
 use borrow.Author.Tests.{ne-eqb}
-use Rattle.table.specs.Layout.{words, darts, edgeOf, nextWord, prevWord, edgeWord, rev}
+use Rattle.table.specs.Layout.{words, darts, edgeOf, nextWord, prevWord, edgeWord, rev, edgeWordMost}
 use Rattle.table.specs.Good.{Good}
 use Rattle.table.specs.Rotation.{rotation, live?}
 use Rattle.table.specs.laws.Rotation.{nextDart-live, prevDart-live, live-yes}
@@ -28,7 +28,7 @@ pub record Near (t : List ℕ) (d : ℕ) : Type 0 where
   pub dart : d < darts
   pub next : nextWord t d < darts
   pub prev : prevWord t d < darts
-  pub edge : edgeWord t (edgeOf d) ≤ 199
+  pub edge : edgeWord t (edgeOf d) ≤ edgeWordMost
 
 module _ {t : List ℕ} where
   pub near : {d : ℕ} → LiveDart t d → Near t d

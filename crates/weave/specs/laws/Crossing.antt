@@ -13,6 +13,7 @@ use Rattle.table.specs.laws.Rotation.{live-yes}
 use Rattle.walks.specs.laws.Stands.{Stands, near, stands-dart}
 use Rattle.weave.specs.Letters.{over, under, unturned, positive, crossings, letter, crossed, lettersOn, wordOf}
 use Rattle.table.specs.laws.Front.{Front, front-none, front-more}
+use Rattle.table.specs.Layout.{edgeWordMost}
 
 -- the letter of crossing j, from 0 on: "the type flips at each one"
 unfoldable pub letterAt : ℕ → ℕ → ℕ → ℕ
@@ -22,7 +23,7 @@ letterAt w kind j = letter (positive w) ((kind + j) % 2)
 pub record EdgeWord (t : List ℕ) (s r : ℕ) : Type 0 where
   pub word : r ≡ wordOf t s
   pub some : 1 ≤ r
-  pub most : r ≤ 199
+  pub most : r ≤ edgeWordMost
 
 pub edge-read : {t : List ℕ} {s : ℕ} → Stands t s → EdgeWord t s (wordOf t s)
 edge-read {t} {s} h =
@@ -31,7 +32,7 @@ edge-read {t} {s} h =
     record { word = refl; some = omega arith; most = n .edge }
 
 -- a live edge has at most 99 crossings
-pub crossings-few : {w : ℕ} → 1 ≤ w → w ≤ 199 → crossings w ≤ 99
+pub crossings-few : {w : ℕ} → 1 ≤ w → w ≤ edgeWordMost → crossings w ≤ 99
 unfolding crossings
 crossings-few h l = omega arith
 

@@ -1,5 +1,4 @@
 -- `edits::edge::delete` meets its contract. Takes edge e out.
--- Assumes nothing.
 use Rattle.edits.specs.laws.Ready.{ready-second}
 use Rattle.edits.specs.laws.Edge.{delete-last}
 use denote.Ref.{now}

@@ -1,6 +1,5 @@
 -- `reader::new` meets its contract: a walk of its MIR, by hand. A `Reader` is made of the slice and the numbers passed, in the result's local.
 -- The slice is shared, so what it owns is had twice: once for the table at exit, and once inside the result, beside the facts of the numbers.
--- Assumes nothing.
 use mathlib.Core.Path.{refl}
 use Prim.Native.Nat.{ℕ, _<_, _^_}
 use mathlib.Core.List.{List, [], _∷_}

@@ -1,6 +1,5 @@
 -- `reader::step` meets its contract: a walk of its MIR, by hand. The reader's borrow and the tally's are opened, the struct is taken apart, and `walk_step` is called on the slice, the steps, the lengths and the tally; what it gives is stored in the reader's dart and type and in the tally, and both borrows are closed. All that the proof knows of `walk_step` is that it meets its contract.
 -- The lengths go to the callee for good (`stay-dropped`), and of what the reader owns, a copy of what the table owns. The reader's cell stands at the raw form of its type: it is read and written at the type that the MIR derefs, whose lifetimes are erased.
--- Assumes nothing.
 use mathlib.Core.Path.{_≡_, refl, ap}
 use Prim.Native.Nat.{ℕ, _<_, _^_}
 use mathlib.Core.List.{[], _∷_, List}

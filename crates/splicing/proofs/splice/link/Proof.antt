@@ -1,5 +1,4 @@
 -- `edits::splice::link` meets its contract. Puts dart x into corner c.
--- Assumes nothing.
 use Rattle.edits.specs.laws.Edge.{dart-link, link-past}
 use denote.Ref.{now}
 use mir.Facts.{fits-16-64}
@@ -65,11 +64,14 @@ returns c =
     let splice = c .before .before .splice in
     splice .ensures ∙ dart-link (now (start .args .t)) (start .args .x) (start .args .c) (lesser .result) (if1 .taken) (lesser .ensures)
 
+cast-splice : tie.Need-cast-splice
+cast-splice c = search needs
+
 sub-splice : tie.Need-sub-splice
 sub-splice c = c .before .before .before .pre .lone (c .before .if1 .left)
 
-cast-splice : tie.Need-cast-splice
-cast-splice c = search needs
+cast-splice-2 : tie.Need-cast-splice-2
+cast-splice-2 c = search needs
 
 splice-requires-2 : tie.Need-splice-requires-2
 splice-requires-2 c κs =
@@ -102,8 +104,9 @@ link-spec =
     splice-requires
     same-length
     returns
-    sub-splice
     cast-splice
+    sub-splice
+    cast-splice-2
     splice-requires-2
     same-length-2
     returns-2)

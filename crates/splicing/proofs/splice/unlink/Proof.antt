@@ -1,5 +1,4 @@
 -- `edits::splice::unlink` meets its contract. Takes dart x out of its vertex's cycle.
--- Assumes nothing.
 use Rattle.edits.specs.laws.Unlink.{unlink-last}
 use denote.Ref.{now}
 use borrow.Author.Needs.{needs}

@@ -1,5 +1,4 @@
 -- `empty::fill` meets its contract. The invariant: w stands up to index i; `to - i` falls.
--- Assumes nothing.
 use Rattle.table.specs.laws.Empty.{Filled, filled-none, filled-more}
 use lib.ListN.{length}
 use mathlib.Core.Path.{_≡_}

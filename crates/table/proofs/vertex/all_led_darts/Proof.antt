@@ -1,5 +1,4 @@
 -- `table::vertex::all_led_darts` meets its contract. The number of darts on the cycles that the vertices' words lead. The loop keeps `Summed`, and `vertices - v` falls.
--- Assumes nothing.
 use Rattle.table.specs.laws.Vertices.{Summed, summed-none, summed-more, summed-few, summed-all, summed-broken}
 use Rattle.table.specs.laws.Counting.{counts-broken, counts-of}
 use Rattle.table.specs.Layout.{vertices}

@@ -1,5 +1,4 @@
 -- `table::vertex::led_darts` meets its contract. The number of darts on the cycle that v's word leads.
--- Assumes nothing.
 use Rattle.table.specs.laws.Vertices.{vertex-none, vertex-alone, vertex-astray, leaving-live, vertex-leads, vertex-follows}
 use mir.Facts.{fits-16-64}
 use native.Mathlib.Omega.{arith}

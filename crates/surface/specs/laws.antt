@@ -9,6 +9,7 @@ pub mod Inside
 pub mod Joint
 pub mod Euler
 pub mod Parts
+pub mod Listed
 pub mod Signed
 pub mod EulerWord
 pub mod Rows

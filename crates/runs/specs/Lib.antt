@@ -5,3 +5,4 @@ pub mod Blocks
 pub mod Run
 pub mod RunLaws
 pub mod laws
+pub mod Theorems

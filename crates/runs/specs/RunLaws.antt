@@ -1,6 +1,6 @@
--- The third demand: one claim about a whole run, a field for each clause, document 01, "Runs of edits".
--- It holds for every list of edits, declined ones included, from every good table, and so from the empty mesh.
-use Prim.Native.Nat.{ℕ, _+_, _*_}
+-- The third demand: one claim about a whole run, a field for each clause, document 01, "Runs of edits" and "Counts".
+-- It holds for every list of edits, declined ones included, from every good table, and so from the empty mesh (`Theorems`).
+use Prim.Native.Nat.{ℕ, _+_, _*_, _/_, _≤_}
 use mathlib.Core.Path.{_≡_}
 use mathlib.Core.Bool.{true}
 use mathlib.Core.List.{List, [], _∷_, _++_}
@@ -8,45 +8,74 @@ use mathlib.Core.Logic.{_↔_}
 use lib.ListN.{length}
 use lib.IntN.{ℤ, pos, _+ℤ_}
 use Rattle.table.specs.Good.{Good}
-use Rattle.table.specs.Rotation.{rotation, live?}
+use Rattle.table.specs.Check.{checkOf}
+use Rattle.table.specs.Rotation.{Rotation, rotation}
 use Rattle.table.specs.Output.{Accepted}
 use Rattle.table.specs.declared.answer.Answer.the-variants.{Done}
-use Rattle.tracing.specs.Met.{times, countIn, listedCorners, listedSteps, onEdge}
-use Rattle.tracing.specs.Listing.{listing, bit}
+use Rattle.tracing.specs.Met.{times, countIn, cornersOf, listedCorners, listedSteps, onEdge}
+use Rattle.tracing.specs.Listing.{has, faces, listing, bit}
 use Rattle.tracing.specs.Call.{listAnswer, listOut}
 use Rattle.tracing.specs.Corner.{Present}
-use Rattle.walks.specs.laws.Stands.{Stands}
 use Rattle.edits.specs.Edits.{answer}
 use Rattle.edits.specs.declared.edit.Edit.{Edit}
-use Rattle.surface.specs.Parts.{root?}
-use Rattle.surface.specs.Signed.{PartLaws}
+use Rattle.surface.specs.Chain.{Chain, Orientable}
+use Rattle.surface.specs.Labels.{inPart, orientable}
+use Rattle.surface.specs.Counts.{cornerVertex}
+use Rattle.surface.specs.Parts.{parts, Together}
+use Rattle.surface.specs.Signed.{PartLaws, partEuler, meshEuler, totalℤ}
 use Rattle.surface.specs.Calls.{countsOf, countsAnswer, countsOut, partRows, partsAnswer, partsOut}
 use Rattle.weave.specs.Letters.{letters, alternates, plain}
 use Rattle.weave.specs.Calls.{lettersOf, lettersOut, alternatesOf, plainOf}
 use Rattle.weave.specs.Ribbon.{SameWay}
 use Rattle.runs.specs.Run.{run, called, faceNumber}
 
-pub record RunLaws (t : List ℕ) (Es : List Edit) : Type 0 where
-  -- "the table stays good"
-  pub good : Good (run t Es)
-  -- "listed walks meet every corner once and every live edge twice"; what is no corner of the table is met by none
-  pub corners-once : (c : ℕ) → Present (rotation (run t Es)) c → times c (listedCorners (rotation (run t Es))) ≡ 1
-  pub no-others : (c : ℕ) → (Present (rotation (run t Es)) c → ⊥) → times c (listedCorners (rotation (run t Es))) ≡ 0
-  pub edges-twice : (e : ℕ) → live? (run t Es) (2 * e) ≡ true → countIn (onEdge e) (listedSteps (rotation (run t Es))) ≡ 2
-  -- "in each part V-E+F is at most 2, even if orientable, at most 1 if not"
-  pub parts : (r : ℕ) → root? (rotation (run t Es)) r ≡ true → PartLaws (rotation (run t Es)) r
-  -- "the face count is exactly that at the start plus what the rules call for"
-  pub count : faceNumber (run t Es) ≡ faceNumber t +ℤ called t Es
-  -- "and every accepted edit answered it": wherever in the run the edit stands
-  pub answered : (front : List Edit) (E : Edit) (back : List Edit) → Es ≡ front ++ E ∷ back → (n : ℕ) → answer (run t front) E ≡ Done n
-      → pos n ≡ faceNumber t +ℤ called t (front ++ (E ∷ []))
-  -- "a ribbon alternates exactly if its turned edges all turn the same way"
-  pub alternation : (s : ℕ) → Stands (run t Es) s → (alternates (run t Es) s ≡ true) ↔ SameWay (run t Es) s
-  -- "the calls for the listing, the counts and the letters, where accepted on it, answer exactly these"
-  pub listing-call : (out : List ℕ) → Accepted (listAnswer (run t Es) (length out)) (listing (rotation (run t Es))) out (listOut (run t Es) out)
-  pub counts-call : (out : List ℤ) → Accepted (countsAnswer (run t Es) (length out)) (countsOf (rotation (run t Es))) out (countsOut (run t Es) out)
-  pub parts-call : (out : List ℤ) → Accepted (partsAnswer (run t Es) (length out)) (partRows (rotation (run t Es))) out (partsOut (run t Es) out)
-  pub letters-call : (d k : ℕ) (out : List ℕ)
-      → Accepted (lettersOf (run t Es) d k (length out)) (letters (run t Es) (2 * d + k)) out (lettersOut (run t Es) d k out)
-  pub alternates-call : (d k n : ℕ) → alternatesOf (run t Es) d k ≡ Done n → n ≡ bit (alternates (run t Es) (2 * d + k))
-  pub plain-call : (n : ℕ) → plainOf (run t Es) ≡ Done n → n ≡ bit (plain (run t Es))
+module _ (t : List ℕ) (Es : List Edit) where
+  -- "Walks, counts, orientable marks and letters are those of the table after the run": that table, and its rotation system
+  abbrev after : List ℕ
+  after = run t Es
+
+  abbrev R : Rotation
+  R = rotation after
+
+  pub record RunLaws : Type 0 where
+    -- "the table stays good": every rule of a good table holds, and so the check answers
+    pub good : Good after
+    pub checked : checkOf after ≡ Done 0
+    -- "listed walks meet every corner once and every live edge twice"; what is no corner of the table is met by none
+    pub corners-once : (c : ℕ) → Present R c → times c (listedCorners R) ≡ 1
+    pub no-others : (c : ℕ) → ¬ Present R c → times c (listedCorners R) ≡ 0
+    pub edges-twice : (e : ℕ) → R .live (2 * e) ≡ true → countIn (onEdge e) (listedSteps R) ≡ 2
+    -- "Live vertices are in one connected part if a chain of live edges joins them", and if not, then not
+    pub one-part : (u v : ℕ) → R .there u ≡ true → R .there v ≡ true → Together R u v ↔ Chain R u v
+    -- every live vertex is in exactly one of the parts that are counted and written
+    pub part-once : (v : ℕ) → R .there v ≡ true → countIn (λ r. inPart R r v) (parts R) ≡ 1
+    -- each of them is named by its smallest vertex, a live one
+    pub part-named : (r : ℕ) → has r (parts R) ≡ true → (R .there r ≡ true) × (inPart R r r ≡ true) × ((v : ℕ) → inPart R r v ≡ true → r ≤ v)
+    -- "an isolated vertex is a part alone"
+    pub part-alone : (v : ℕ) → R .alone v ≡ true → (has v (parts R) ≡ true) × ((w : ℕ) → inPart R v w ≡ true → w ≡ v)
+    -- "A part is orientable if its vertices can be marked 0 or 1 so that each edge's turns are even exactly when its ends' marks
+    -- agree.": `orientable R r` is the mark in the part's row
+    pub part-marked : (r : ℕ) → has r (parts R) ≡ true → (orientable R r ≡ true) ↔ Orientable R (inPart R r)
+    -- "A walk is in the part whose corners it meets.": the walk c is counted in one part, that of its first corner, and each corner k
+    -- that it meets is in that part and in no other
+    pub walk-once : (c : ℕ) → has c (faces R) ≡ true → countIn (λ r. inPart R r (cornerVertex R c)) (parts R) ≡ 1
+    pub walk-part : (c k r : ℕ) → has c (faces R) ≡ true → has k (cornersOf R c) ≡ true
+        → inPart R r (cornerVertex R k) ≡ inPart R r (cornerVertex R c)
+    -- "in each part V-E+F is at most 2, even if orientable, at most 1 if not"
+    pub part-euler : (r : ℕ) → has r (parts R) ≡ true → PartLaws R r
+    -- "The Euler number is V-E+F, signed, for each connected part and for the mesh": the mesh's is the sum of its parts'
+    pub mesh-euler : meshEuler R ≡ totalℤ (partEuler R) (parts R)
+    -- "the face count is exactly that at the start plus what the rules call for"
+    pub count : faceNumber after ≡ faceNumber t +ℤ called t Es
+    -- "and every accepted edit answered it": wherever in the run the edit stands
+    pub answered : (front : List Edit) (E : Edit) (back : List Edit) → Es ≡ front ++ E ∷ back → (n : ℕ) → answer (run t front) E ≡ Done n
+        → pos n ≡ faceNumber t +ℤ called t (front ++ (E ∷ []))
+    -- "a ribbon alternates exactly if its turned edges all turn the same way": the ribbon through any step on a live dart
+    pub alternation : (s : ℕ) → R .live (s / 2) ≡ true → (alternates after s ≡ true) ↔ SameWay after s
+    -- "the calls for the listing, the counts and the letters, where accepted on it, answer exactly these"
+    pub listing-call : (out : List ℕ) → Accepted (listAnswer after (length out)) (listing R) out (listOut after out)
+    pub counts-call : (out : List ℤ) → Accepted (countsAnswer after (length out)) (countsOf R) out (countsOut after out)
+    pub parts-call : (out : List ℤ) → Accepted (partsAnswer after (length out)) (partRows R) out (partsOut after out)
+    pub letters-call : (d k : ℕ) (out : List ℕ) → Accepted (lettersOf after d k (length out)) (letters after (2 * d + k)) out (lettersOut after d k out)
+    pub alternates-call : (d k n : ℕ) → alternatesOf after d k ≡ Done n → n ≡ bit (alternates after (2 * d + k))
+    pub plain-call : (n : ℕ) → plainOf after ≡ Done n → n ≡ bit (plain after)

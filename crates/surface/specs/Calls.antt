@@ -4,7 +4,6 @@ use Prim.Native.Nat.{ℕ}
 use mathlib.Core.List.{List, [], _∷_}
 use lib.ListN.{length}
 use lib.IntN.{ℤ, pos}
-use Rattle.table.specs.Layout.{vertices}
 use Rattle.table.specs.Rotation.{Rotation, rotation}
 use Rattle.table.specs.Output.{outputAnswer, outputOut}
 use Rattle.table.specs.declared.answer.Answer.{Answer}
@@ -12,7 +11,7 @@ use Rattle.tracing.specs.Listing.{faceCount}
 use Rattle.surface.specs.Counts.{vertexCount}
 use Rattle.surface.specs.Parts.{parts}
 use Rattle.surface.specs.Signed.{meshEuler}
-use Rattle.surface.specs.Rows.{rows}
+use Rattle.surface.specs.Rows.{rowsOf}
 use Rattle.tracing.specs.Met.{edgeCount}
 
 abbrev pub fiveWords : ℕ → ℕ → ℕ → ℕ → ℤ → List ℤ
@@ -30,7 +29,7 @@ countsOut t out = outputOut t (countsOf (rotation t)) out
 
 -- of each part, upward: smallest vertex, V, E, F, Euler number, and 1 if it is orientable, else 0
 abbrev pub partRows : Rotation → List ℤ
-partRows R = rows R vertices
+partRows R = rowsOf R (parts R)
 
 abbrev pub partsAnswer : List ℕ → ℕ → Answer
 partsAnswer t n = outputAnswer t (partRows (rotation t)) n

@@ -1,9 +1,6 @@
 -- Connected parts and marks, document 01, "Counts", in its own words: a chain of live edges, and marks that exist.
---     Chain                chains of live edges;     chain-trans, chain-sym     they join into parts
---     chain-ind            what holds at u and goes along each live edge holds on the part of u
---     Fits, MarksOn        the marks agree with an edge; with each edge of a part
---     Orientable           such marks exist
---     orient-fits, fits-orient     the same with sums: the turns and the marks of the two ends add to an even number
+--     Chain                chains of live edges;     PartOf     the vertices that chains join with one
+--     Orientable           marks exist that agree with each edge of a part
 use Prim.Native.Nat.{ℕ, _%_, _<_}
 use mathlib.Core.Path.{_≡_}
 use mathlib.Core.Bool.{Bool, true}

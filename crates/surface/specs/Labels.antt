@@ -1,10 +1,8 @@
--- Labels and marks that keep to `Labelling`, and what they answer: two vertices have one label exactly if a chain joins them, the label
--- is the smallest vertex of its part, and the part is orientable exactly if the marks found agree with each of its edges.
+-- Labels and marks found by a fold over the live edges, and what they answer: two vertices have one label exactly if a chain joins them,
+-- the label is the smallest vertex of its part, and the part is orientable exactly if the marks found agree with each of its edges.
 -- So labels are the same however they are found, and so is the answer whether a part is orientable.
---     label-chain, chain-label     equal labels and chains
---     part-of                      the vertices labelled r are the part of r
---     agree-orient, orient-agree   marks that agree, and marks that exist
---     label, orientable            those of the fold over the live edges;     label-one, orientable-one    the only ones
+--     label, inPart        the smallest vertex of a part, and which vertices the part has
+--     orientable           do the marks found agree with each edge of the part
 use Prim.Native.Nat.{ℕ, _+_, _*_, _%_}
 use mathlib.Core.Bool.{Bool, not, _&&_}
 use lib.Dec.{eqb}

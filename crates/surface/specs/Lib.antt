@@ -7,3 +7,4 @@ pub mod Rows
 pub mod Calls
 pub mod Chain
 pub mod laws
+pub mod Theorems

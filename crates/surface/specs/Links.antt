@@ -1,9 +1,7 @@
 -- The parts and their marks found: a fold over the live edges. Each edge links two labels, and a vertex follows the links made so far
 -- from itself to the label of its part. Two vertices have one label exactly if a chain joins them, and the label is the smallest of them.
---     Link, Spot, spot     a joinedBy; where a vertex has come to, and its mark there
---     links                one joinedBy for each edge of a list
---     Labelling            what labels and marks must keep to, however they are found
---     links-label          the fold over all live edges does
+--     Link, Spot, spot     a link; where a vertex has come to, and its mark there
+--     links                one link for each edge of a list
 use Prim.Native.Nat.{ℕ, zero, suc, _+_, _*_, _%_, min, max}
 use mathlib.Core.Bool.{true, false}
 use mathlib.Core.List.{List, [], _∷_, _++_}

@@ -1,17 +1,16 @@
--- The parts of a mesh, upward by their smallest vertices; V, E and F of the mesh are the sums of those of its parts, document 01, "Counts".
---     parts                the smallest vertices of the parts;     part-root     each is live and its own label
+-- The parts of a mesh, upward by their smallest vertices, document 01, "Counts".
+--     parts                the smallest vertices of the parts
+--     Together             two vertices are in one part
 --     total                the sum over a list
---     additive             any count that adds up over exclusive parts is the sum over the parts
---     vertices-sum, edges-sum, faces-sum     V, E and F
---     empty-mesh           "The empty mesh has no parts", and no vertex, edge or walk
 use Prim.Native.Nat.{ℕ, zero, suc, _+_}
-use mathlib.Core.Bool.{Bool, _&&_}
+use mathlib.Core.Path.{_≡_}
+use mathlib.Core.Bool.{Bool, true, _&&_}
 use mathlib.Core.List.{List, [], _∷_, _++_}
 use lib.Dec.{eqb}
 use Rattle.table.specs.Layout.{vertices}
 use Rattle.table.specs.Rotation.{Rotation}
-use Rattle.tracing.specs.Listing.{only}
-use Rattle.surface.specs.Labels.{label}
+use Rattle.tracing.specs.Listing.{has, only}
+use Rattle.surface.specs.Labels.{label, inPart}
 
 -- is r a live vertex and the smallest of its part
 unfoldable pub root? : Rotation → ℕ → Bool
@@ -24,6 +23,13 @@ partsBelow R (suc r) = partsBelow R r ++ only (root? R r) r
 -- "part" lines go upward by the smallest vertex
 unfoldable pub parts : Rotation → List ℕ
 parts R = partsBelow R vertices
+
+-- u and v are in one of the listed parts
+pub record Together (R : Rotation) (u v : ℕ) : Type 0 where
+  pub part : ℕ
+  pub listed : has part (parts R) ≡ true
+  pub first : inPart R part u ≡ true
+  pub second : inPart R part v ≡ true
 
 unfoldable pub total : (ℕ → ℕ) → List ℕ → ℕ
 total f [] = 0

@@ -1,16 +1,16 @@
 -- The Euler number, signed, document 01, "Counts": "The Euler number is V-E+F, signed, for each connected part and for the mesh."
 --     eulerOf              V-E+F;     partEuler, meshEuler     of a part and of the mesh
---     PartLaws, part-laws      at most 2, even if the part is orientable, at most 1 if not
---     mesh-sum             the mesh's is the sum of its parts';     empty-euler     of the empty mesh 0
+--     PartLaws             at most 2, even if the part is orientable, at most 1 if not
+--     totalℤ               the sum over a list
 use Prim.Native.Nat.{ℕ, _%_}
 use mathlib.Core.Path.{_≡_}
-use mathlib.Core.Bool.{true, false}
 use mathlib.Core.List.{List, [], _∷_}
 use lib.IntN.{ℤ, pos, natAbs, _+ℤ_, _-ℤ_}
 use lib.Signed.{_≤ℤ_}
 use Rattle.table.specs.Rotation.{Rotation}
 use Rattle.tracing.specs.Listing.{faceCount}
-use Rattle.surface.specs.Labels.{inPart, orientable}
+use Rattle.surface.specs.Labels.{inPart}
+use Rattle.surface.specs.Chain.{Orientable}
 use Rattle.surface.specs.Counts.{vertexCount, verticesIn, edgesIn, walksIn}
 use Rattle.tracing.specs.Met.{edgeCount}
 
@@ -25,10 +25,11 @@ partEuler R r = eulerOf (verticesIn R (inPart R r)) (edgesIn R (inPart R r)) (wa
 unfoldable pub meshEuler : Rotation → ℤ
 meshEuler R = eulerOf (vertexCount R) (edgeCount R) (faceCount R)
 
+-- "in each part V-E+F is at most 2, even if orientable, at most 1 if not"
 pub record PartLaws (R : Rotation) (r : ℕ) : Type 0 where
   pub at-most-two : partEuler R r ≤ℤ pos 2
-  pub even : orientable R r ≡ true → natAbs (partEuler R r) % 2 ≡ 0
-  pub at-most-one : orientable R r ≡ false → partEuler R r ≤ℤ pos 1
+  pub even : Orientable R (inPart R r) → natAbs (partEuler R r) % 2 ≡ 0
+  pub at-most-one : ¬ Orientable R (inPart R r) → partEuler R r ≤ℤ pos 1
 
 -- the mesh's is the sum
 

@@ -9,5 +9,6 @@ pub mod Inside
 pub mod Joint
 pub mod Euler
 pub mod Parts
+pub mod Listed
 pub mod Signed
 pub mod Tables

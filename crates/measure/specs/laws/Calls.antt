@@ -2,7 +2,7 @@
 --     countsOf             the five words of the mesh;     partRows     six words for each part, upward
 use Prim.Native.Nat.{ℕ, _*_, _<_, _≤_}
 use native.Mathlib.Omega.{arith}
-use mathlib.Core.Path.{_≡_, refl, sym, _∙_}
+use mathlib.Core.Path.{_≡_, refl, sym, _∙_, ap}
 use mathlib.Core.Bool.{true}
 use mathlib.Core.List.{List}
 use lib.ListN.{length, set}
@@ -18,7 +18,8 @@ use Rattle.table.specs.laws.Output.{output-done, sets-front, output-short}
 use Rattle.table.specs.declared.answer.Answer.the-variants.{Done, Declined}
 use Rattle.table.specs.declared.answer.Refusal.the-variants.{ShortSlice}
 use Rattle.surface.specs.Parts.{root?}
-use Rattle.measure.specs.laws.Rows.{Written}
+use Rattle.surface.specs.Rows.{rows}
+use Rattle.measure.specs.laws.Rows.{Written, rows-all}
 use Rattle.measure.specs.laws.Mesh.{MeshCounts, AddedUp, parts-count, rows-length}
 use Rattle.surface.specs.Calls.{fiveWords, countsOf, countsAnswer, countsOut, partRows, partsAnswer, partsOut}
 
@@ -53,14 +54,19 @@ module _ (t : List ℕ) (out : List ℤ) (g : good? t ≡ true) where
       output-done t text out g refl h (stored ∙ sets-front text out h)
 
 module _ (t : List ℕ) {k : ℕ} (c : AddedUp (root? (rotation t)) vertices k) where
-  pub rows-size : length (partRows (rotation t)) ≡ 6 * k
+  pub rows-size : length (rows (rotation t) vertices) ≡ 6 * k
   rows-size = let a = rows-length (rotation t) in let b = parts-count (rotation t) in let p = c .passed in omega arith
 
   module _ (out : List ℤ) (g : good? t ≡ true) where
     pub parts-short : length out < 6 * k → (Declined ShortSlice ≡ partsAnswer t (length out)) × (out ≡ partsOut t out)
-    parts-short h = let s = rows-size in output-short t (partRows (rotation t)) out g (omega arith)
+    parts-short h =
+        let s = rows-size in
+        let all = ap length (rows-all (rotation t)) in
+        output-short t (partRows (rotation t)) out g (omega arith)
 
     pub parts-done : {n : ℕ} {out′ : List ℤ} → Written (rotation t) vertices n out out′ → (Done (6 * k) ≡ partsAnswer t (length out)) × (out′ ≡ partsOut t out)
     parts-done W =
         let text = partRows (rotation t) in
-        output-done t text out g (sym rows-size) (W .room) (W .words ∙ sets-front text out (W .room))
+        let all = rows-all (rotation t) in
+        let room = rw all at (W .room) in
+        output-done t text out g (sym (ap length (sym all) ∙ rows-size)) room (W .words ∙ ap (sets out 0) all ∙ sets-front text out room)

@@ -7,7 +7,7 @@ use native.Mathlib.Omega.{arith}
 use native.Mathlib.Numerals.{add-one}
 use mathlib.Core.Path.{_≡_, refl, sym, _∙_, ap}
 use mathlib.Core.Bool.{Bool, true, false}
-use mathlib.Core.List.{List}
+use mathlib.Core.List.{List, [], _∷_}
 use mathlib.Core.Logic.{_≢_}
 use lib.ListN.{length, getD, length-append}
 use lib.IntN.{ℤ}
@@ -32,7 +32,7 @@ use Rattle.surface.specs.Counts.{vertexCount}
 use Rattle.surface.specs.Parts.{root?, partsBelow, parts}
 use Rattle.surface.specs.laws.Parts.{root-there, root-label}
 use Rattle.surface.specs.Signed.{eulerOf, meshEuler}
-use Rattle.surface.specs.Rows.{rows, rowIf, row}
+use Rattle.surface.specs.Rows.{rows, rowsOf, row}
 use Rattle.tallies.specs.laws.Tally.{Keyed}
 use Rattle.tracing.specs.Met.{edgeCount}
 
@@ -108,18 +108,15 @@ pub parts-count : (R : Rotation) → length (parts R) ≡ count (root? R) vertic
 unfolding parts
 parts-count R = parts-below R vertices
 
-rows-count : (R : Rotation) (n : ℕ) → length (rows R n) ≡ 6 * count (root? R) n
-unfolding rows rowIf row count
-rows-count R zero = refl
-rows-count R (suc n) = rw (length-append (rows R n) (rowIf R (root? R n) n), rows-count R n) (by (root? R n) (count (root? R) n))
-  where
-    by : (b : Bool) (k : ℕ) → 6 * k + length (rowIf R b n) ≡ 6 * more b k
-    by true k = omega arith
-    by false k = omega arith
-
 -- six words for each part
+six-each : (R : Rotation) (l : List ℕ) → length (rowsOf R l) ≡ 6 * length l
+unfolding rowsOf row
+six-each R [] = refl
+six-each R (r ∷ l) = let rest = six-each R l in rw (length-append (row R r) (rowsOf R l)) (omega arith)
+
 pub rows-length : (R : Rotation) → length (rows R vertices) ≡ 6 * length (parts R)
-rows-length R = let a = rows-count R vertices in let b = parts-count R in omega arith
+unfolding rows parts
+rows-length R = six-each R (parts R)
 
 pub faces-low : {R : Rotation} → Lawful R → faceCount R ≤ places
 unfolding faceClasses

@@ -1,5 +1,5 @@
 -- What is written of the parts: for each, upward, six signed words: its smallest vertex, V, E, F, V-E+F, and 1 if it is orientable, else 0.
---     row, rows            the words of a part; of the parts labelled below n
+--     rows-all             the rows below the number of vertices are those of all parts
 --     Written              the loop that writes them;     written-none, written-skip, written-more
 use Prim.Native.Nat.{ℕ, zero, suc, _+_, _<_, _≤_}
 use native.Mathlib.Omega.{arith}
@@ -7,20 +7,48 @@ use native.Mathlib.Numerals.{add-one, towards-suc}
 use native.Mathlib.Decide.{ℕ-discrete}
 use mathlib.Core.Path.{_≡_, refl, sym, _∙_, ap}
 use mathlib.Core.Bool.{Bool, true, false}
-use mathlib.Core.List.{List, _++_, append-nil}
+use mathlib.Core.List.{List, [], _∷_, _++_, append-nil, append-assoc}
 use lib.ListN.{length, set, length-append}
 use lib.Seq.{sets, length-sets}
 use lib.IntN.{ℤ}
 use Rattle.table.specs.Layout.{vertices}
 use Rattle.table.specs.Rotation.{Rotation}
 use Rattle.table.specs.laws.Output.{sets-append}
-use Rattle.surface.specs.Parts.{root?}
+use Rattle.tracing.specs.Listing.{only}
+use Rattle.surface.specs.Parts.{root?, partsBelow, parts}
 use mir.Syntax.{w32}
 use mir.Val.{SFits, toZ, ofZ}
 use mir.Facts.{toZ-ofZ, toZ-pos, sfits-lit}
 use Rattle.surface.specs.Signed.{eulerOf}
 use Rattle.tallies.specs.laws.EulerWord.{euler-sfits}
-use Rattle.surface.specs.Rows.{flagOf, rowOf, row, rowIf, rows}
+use Rattle.surface.specs.Rows.{flagOf, rowOf, row, rowsOf, rows}
+use Rattle.surface.specs.Calls.{partRows}
+
+module _ (R : Rotation) where
+  rows-append : (a b : List ℕ) → rowsOf R (a ++ b) ≡ rowsOf R a ++ rowsOf R b
+  unfolding rowsOf
+  rows-append [] b = refl
+  rows-append (r ∷ a) b = ap (λ l. row R r ++ l) (rows-append a b) ∙ sym (append-assoc (row R r) (rowsOf R a) (rowsOf R b))
+
+  pub rows-all : rows R vertices ≡ partRows R
+  unfolding rows parts
+  rows-all = refl
+
+  rows-none : rows R 0 ≡ []
+  unfolding rows rowsOf partsBelow
+  rows-none = refl
+
+  rows-next : (n : ℕ) → rows R (suc n) ≡ rows R n ++ rowsOf R (only (root? R n) n)
+  unfolding rows partsBelow
+  rows-next n = rows-append (partsBelow R n) (only (root? R n) n)
+
+  rows-skip : (n : ℕ) → root? R n ≡ false → rows R (suc n) ≡ rows R n
+  unfolding rowsOf
+  rows-skip n f = rows-next n ∙ rw (f, append-nil (rows R n))
+
+  rows-more : (n : ℕ) → root? R n ≡ true → rows R (suc n) ≡ rows R n ++ row R n
+  unfolding rowsOf
+  rows-more n t = rows-next n ∙ rw (t, append-nil (row R n))
 
 -- the rows of the parts labelled below n stand at the front
 pub record Written (R : Rotation) (n at : ℕ) (out₀ out : List ℤ) : Type 0 where
@@ -29,32 +57,25 @@ pub record Written (R : Rotation) (n at : ℕ) (out₀ out : List ℤ) : Type 0 
   pub words : out ≡ sets out₀ 0 (rows R n)
 
 pub written-none : {R : Rotation} {out : List ℤ} → length (rows R vertices) ≤ length out → Written R 0 0 out out
-unfolding rows
-written-none h = record { room = h; here = refl; words = refl }
+written-none {R} h = record { room = h; here = rw (rows-none R); words = rw (rows-none R) }
 
 pub written-size : {R : Rotation} {n at : ℕ} {out₀ out : List ℤ} → Written R n at out₀ out → length out ≡ length out₀
 written-size {R} {n} {at} {out₀} K = rw (K .words) (length-sets out₀ 0 (rows R n))
 
 pub written-skip : {R : Rotation} {n at : ℕ} {out₀ out : List ℤ} → Written R n at out₀ out → root? R n ≡ false → Written R (n + 1) at out₀ out
-unfolding rows rowIf
 written-skip {R} {n} K f = rw (add-one n) (record {
   room = K .room;
-  here = K .here ∙ rw (f, append-nil (rows R n));
-  words = K .words ∙ rw (f, append-nil (rows R n));
+  here = K .here ∙ rw (rows-skip R n f);
+  words = K .words ∙ rw (rows-skip R n f);
 })
 
-rows-more : (R : Rotation) (n : ℕ) → root? R n ≡ true → rows R (suc n) ≡ rows R n ++ row R n
-unfolding rows rowIf
-rows-more R n t = rw t
-
 rows-below : (R : Rotation) (n m : ℕ) → n ≤ m → length (rows R n) ≤ length (rows R m)
-unfolding rows
 rows-below R n zero h = let e : n ≡ 0 = omega arith in rw e (omega arith)
 rows-below R n (suc m) h = elim (ℕ-discrete n (suc m)) [
   | yes e ↦ rw e (omega arith)
   | no d ↦
       let back = rows-below R n m (omega arith) in
-      rw (length-append (rows R m) (rowIf R (root? R m) m)) (omega arith)
+      rw (rows-next R m, length-append (rows R m) (rowsOf R (only (root? R m) m))) (omega arith)
 ]
 
 module _ {R : Rotation} {n at : ℕ} {out₀ out : List ℤ} (K : Written R n at out₀ out) (h : n < vertices) (t : root? R n ≡ true) where

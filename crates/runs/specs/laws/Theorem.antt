@@ -1,5 +1,5 @@
--- The third demand: one claim about a whole run, a field for each clause, document 01, "Runs of edits".
--- It holds for every list of edits, declined ones included, from every good table, and so from the empty mesh.
+-- The third demand holds: for every list of edits, declined ones included, from every good table, and so from the empty mesh.
+-- The laws of one edit, by induction along the run; the laws of good tables, at the table after it.
 use Prim.Native.Nat.{ℕ}
 use native.Mathlib.Omega.{arith}
 use mathlib.Core.Path.{_≡_, refl, sym, _∙_, ap}
@@ -7,6 +7,7 @@ use mathlib.Core.List.{List, [], _∷_, _++_}
 use lib.IntN.{pos, _+ℤ_, +ℤ-idr, +ℤ-assoc}
 use Rattle.table.specs.Good.{Good}
 use Rattle.table.specs.Rotation.{Rotation, Lawful, rotation}
+use Rattle.table.specs.laws.Check.{good-yes}
 use Rattle.table.specs.laws.Lawful.{good-lawful}
 use Rattle.table.specs.Empty.{emptyTable}
 use Rattle.table.specs.laws.Empty.{empty-good}
@@ -26,7 +27,9 @@ use Rattle.edits.specs.laws.Changes.{written-changes}
 use Rattle.edits.specs.declared.edit.Edit.{Edit}
 use Rattle.edits.specs.declared.edit.Verdict.{Verdict}
 use Rattle.edits.specs.declared.edit.Verdict.the-variants.{Passes, Declines}
-use Rattle.surface.specs.laws.Tables.{table-parts}
+use Rattle.surface.specs.laws.Labels.{orientable-marks}
+use Rattle.surface.specs.laws.Listed.{one-part, part-once, part-named, part-alone, walk-once, walk-part}
+use Rattle.surface.specs.laws.Tables.{table-parts, table-sum}
 use Rattle.surface.specs.Calls.{countsOf, partRows}
 use Rattle.weave.specs.laws.Calls.{letters-accepted, alternates-accepted, plain-accepted}
 use Rattle.weave.specs.laws.Ribbon.{alternates-iff}
@@ -99,16 +102,25 @@ run-count t (E ∷ Es) g =
 pub run-laws : (t : List ℕ) → Good t → (Es : List Edit) → RunLaws t Es
 run-laws t g Es = record {
   good = after;
+  checked = rw (← good-yes (run t Es) after);
   corners-once = present-once R L;
   no-others = absent-never R L;
   edges-twice = λ e l. edge-twice R L e l;
-  parts = λ r h. table-parts after r h;
+  one-part = one-part L;
+  part-once = part-once L;
+  part-named = part-named L;
+  part-alone = part-alone L;
+  part-marked = λ r h. orientable-marks L r;
+  walk-once = walk-once L;
+  walk-part = walk-part L;
+  part-euler = λ r h. table-parts after r h;
+  mesh-euler = table-sum after;
   count = run-count t Es g;
   answered = λ front E back e n a.
       answered-count (run t front) E n a
       ∙ ap faceNumber (sym (run-append t front (E ∷ []) ∙ run-one (run t front) E))
       ∙ run-count t (front ++ (E ∷ [])) g;
-  alternation = λ s h. alternates-iff (run t Es) after s (stands-low h);
+  alternation = λ s h. alternates-iff (run t Es) after s (stands-low (record { good = after; live = h }));
   listing-call = λ out. output-accepted (run t Es) (listing R) out;
   counts-call = λ out. output-accepted (run t Es) (countsOf R) out;
   parts-call = λ out. output-accepted (run t Es) (partRows R) out;

@@ -11,9 +11,8 @@ use lib.Dec.{le→leb}
 use lib.IntN.{ℤ, pos, negℤ, natAbs, _+ℤ_, _-ℤ_, +ℤ-assoc, +ℤ-comm, negℤ-+ℤ}
 use lib.Signed.{_≤ℤ_}
 use Rattle.table.specs.Rotation.{Rotation, Lawful}
-use Rattle.orbits.specs.laws.Truth.{clash}
 use Rattle.surface.specs.Labels.{inPart}
-use Rattle.surface.specs.laws.Labels.{inPart-of, orientable-marks}
+use Rattle.surface.specs.laws.Labels.{inPart-of}
 use Rattle.surface.specs.Counts.{verticesIn, edgesIn, walksIn}
 use Rattle.surface.specs.laws.Euler.{Closed, euler}
 use Rattle.surface.specs.Parts.{root?, parts, total}
@@ -47,8 +46,8 @@ part-laws closed {R} c r t =
     let H = euler closed c (root-there R r t) (inPart-of L r (root-label R r t)) in
     record {
       at-most-two = at-most _ _ _ 2 (H .bound);
-      even = λ o. even-number _ _ _ (H .even (orientable-marks L r .0 o));
-      at-most-one = λ n. at-most _ _ _ 1 (H .less (λ o. clash (orientable-marks L r .1 o) n));
+      even = λ o. even-number _ _ _ (H .even o);
+      at-most-one = λ n. at-most _ _ _ 1 (H .less n);
     }
 
 exchange : (a b c d : ℤ) → (a +ℤ b) +ℤ (c +ℤ d) ≡ (a +ℤ c) +ℤ (b +ℤ d)

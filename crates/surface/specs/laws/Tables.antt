@@ -16,7 +16,9 @@ use Rattle.table.specs.laws.Lawful.{good-lawful}
 use Rattle.edits.specs.Edge.{deleted}
 use Rattle.edits.specs.laws.Deleted.{deleted-good, deleted-without}
 use Rattle.surface.specs.laws.Euler.{Closed}
-use Rattle.surface.specs.Parts.{root?, parts}
+use Rattle.tracing.specs.Listing.{has}
+use Rattle.surface.specs.Parts.{parts}
+use Rattle.surface.specs.laws.Listed.{listed-root}
 use Rattle.surface.specs.Signed.{PartLaws, partEuler, meshEuler, totalℤ}
 use Rattle.surface.specs.laws.Signed.{part-laws, mesh-sum}
 
@@ -41,8 +43,8 @@ tables-closed = record {
       );
 }
 
-pub table-parts : {t : List ℕ} → Good t → (r : ℕ) → root? (rotation t) r ≡ true → PartLaws (rotation t) r
-table-parts {t} g r p = part-laws tables-closed (record { words = t; good = g; reads = refl }) r p
+pub table-parts : {t : List ℕ} → Good t → (r : ℕ) → has r (parts (rotation t)) ≡ true → PartLaws (rotation t) r
+table-parts {t} g r p = part-laws tables-closed (record { words = t; good = g; reads = refl }) r (listed-root (rotation t) r p)
 
 pub table-sum : {t : List ℕ} → Good t → meshEuler (rotation t) ≡ totalℤ (partEuler (rotation t)) (parts (rotation t))
 table-sum {t} g = mesh-sum (good-lawful t g)

@@ -19,19 +19,16 @@ use Rattle.orbits.specs.laws.Truth.{Truth, truth, holds, fails, clash, both, bo
 use Rattle.orbits.specs.Count.{count}
 use Rattle.orbits.specs.laws.Count.{count-same, count-le}
 use Rattle.walks.specs.declared.count.Size.{Size}
-use Rattle.tracing.specs.Step.{steps}
-use Rattle.tracing.specs.laws.Place.{on, on-step, on-still}
 use Rattle.tracing.specs.Listing.{only, starts, alones, loneCorner, faces}
 use Rattle.tracing.specs.laws.Listing.{starts-suc}
 use Rattle.tracing.specs.laws.Has.{countIn-append, countIn-map}
 use Rattle.tracing.specs.laws.Starts.{start?, start-live, starts-more, starts-count, alones-count}
-use Rattle.tracing.specs.laws.FaceCount.{facesIn, placeOf, place-dart, place-lone}
 use Rattle.walks.specs.laws.Size.{Looked, Seen, seen-none, seen-more, unmet-fresh}
 use Rattle.walks.specs.laws.Marks.{unmarked}
 use Rattle.surface.specs.Labels.{label, inPart, agrees, untwisted, twisted, orientable}
 use Rattle.surface.specs.laws.Labels.{label-is, orientable-is}
-use Rattle.surgery.specs.laws.PlacesIn.{placeVertex, vertex-step, vertex-still, placesIn}
-use Rattle.surface.specs.Counts.{verticesIn, edgesIn, walksIn}
+use Rattle.surface.specs.Counts.{cornerVertex, verticesIn, edgesIn, walksIn}
+use Rattle.surface.specs.laws.Counts.{vertex-dart, vertex-lone}
 use Rattle.labels.specs.laws.Forest.{Shape}
 use Rattle.labels.specs.laws.Linking.{Labelled, Taking, first-low, second-low, edge-on}
 use Rattle.tallies.specs.laws.Tally.{tally-none, tally-begin, tally-more, tally-skip, tally-low, Keyed, labelled-keyed, VertexTally, EdgeTally, TwistTally, WalkTally, startsIn, LoneTally, twistSum}
@@ -211,39 +208,17 @@ pub record PartTally (t vs es fs odd : List ℕ) : Type 0 where
   pub orientable-at : (r : ℕ) → r < vertices → eqb (getD odd r 0) 0 ≡ orientable (rotation t) r
 
 -- the listed walks in a part, by their starts
-module _ {t : List ℕ} (g : Good t) (r : ℕ) where
-  start-in : (d : ℕ) → d < darts → (start? (rotation t) d && placesIn (rotation t) (inPart (rotation t) r) (placeOf d)) ≡ (start? (rotation t) d && eqb (label (rotation t) (leaves t d)) r)
-  unfolding placesIn inPart
-  start-in d h = by (truth (start? (rotation t) d))
-    where
-      by : Truth (start? (rotation t) d) → (start? (rotation t) d && placesIn (rotation t) (inPart (rotation t) r) (placeOf d)) ≡ (start? (rotation t) d && eqb (label (rotation t) (leaves t d)) r)
-      by (fails f) = rw f
-      by (holds s) =
-          let half : 2 * d / 2 ≡ d = omega arith in
-          let live : on (rotation t) (2 * d) ≡ true = on-step (rotation t) (2 * d) (omega arith) ∙ rw half (start-live (rotation t) d s) in
-          let at : placeVertex (rotation t) (2 * d) ≡ leaves t d = vertex-step (rotation t) (2 * d) (omega arith) ∙ rw half in
-          rw (s, place-dart d (omega arith), live, at)
-
-  lone-in : (v : ℕ) → v < vertices → (alone? t v && placesIn (rotation t) (inPart (rotation t) r) (placeOf (loneCorner v))) ≡ (alone? t v && eqb (label (rotation t) v) r)
-  unfolding placesIn inPart
-  lone-in v h = by (truth (alone? t v))
-    where
-      by : Truth (alone? t v) → (alone? t v && placesIn (rotation t) (inPart (rotation t) r) (placeOf (loneCorner v))) ≡ (alone? t v && eqb (label (rotation t) v) r)
-      by (fails f) = rw f
-      by (holds s) =
-          let same : (2 * (darts + v) - steps) / 2 ≡ v = omega arith in
-          let live : on (rotation t) (2 * (darts + v)) ≡ true = on-still (rotation t) (2 * (darts + v)) (omega arith) ∙ rw same s in
-          let at : placeVertex (rotation t) (2 * (darts + v)) ≡ v = vertex-still (rotation t) (2 * (darts + v)) (omega arith) ∙ same in
-          rw (s, place-lone v, live, at)
-
-  walks-count : walksIn (rotation t) (inPart (rotation t) r) ≡ startsIn t r + count (λ v. alone? t v && eqb (label (rotation t) v) r) vertices
-  unfolding walksIn facesIn faces
-  walks-count =
-      let q : ℕ → Bool = λ c. placesIn (rotation t) (inPart (rotation t) r) (placeOf c) in
-      countIn-append q (starts (rotation t) darts) (map loneCorner (alones (rotation t) vertices))
-      ∙ ap₂ _+_
-      (starts-count (rotation t) q darts ∙ count-same _ _ darts start-in)
-      (countIn-map q loneCorner (alones (rotation t) vertices) ∙ alones-count (rotation t) (λ v. q (loneCorner v)) vertices ∙ count-same _ _ vertices lone-in)
+walks-count : (t : List ℕ) (r : ℕ)
+    → walksIn (rotation t) (inPart (rotation t) r) ≡ startsIn t r + count (λ v. alone? t v && eqb (label (rotation t) v) r) vertices
+unfolding walksIn inPart faces
+walks-count t r =
+    let R = rotation t in
+    let q : ℕ → Bool = λ c. eqb (label (rotation t) (cornerVertex (rotation t) c)) r in
+    countIn-append q (starts R darts) (map loneCorner (alones R vertices))
+    ∙ ap₂ _+_
+    (starts-count R q darts ∙ count-same _ _ darts (λ d h. ap (λ v. start? R d && eqb (label R v) r) (vertex-dart R d (omega arith))))
+    (countIn-map q loneCorner (alones R vertices) ∙ alones-count R (λ v. q (loneCorner v)) vertices
+    ∙ count-same _ _ vertices (λ v h. ap (λ w. alone? t v && eqb (label R w) r) (vertex-lone R v)))
 
 -- the twisted edges of a part
 module _ {t up turn : List ℕ} (g : Good t) (H : Labelled t up turn) (r : ℕ) where
@@ -275,7 +250,7 @@ unfolding verticesIn edgesIn inPart
 tallied {t} H K E = record {
   vertices-at = λ r h. K .vertex .at r h ∙ omega arith;
   edges-at = λ r h. E .edge .at r h ∙ omega arith;
-  walks-at = λ r h. K .lone .at r h ∙ sym (walks-count (K .keyed .good) r);
+  walks-at = λ r h. K .lone .at r h ∙ sym (walks-count t r);
   orientable-at = λ r h. twist-orientable (K .keyed .good) H r (E .twist) h;
 }
 

@@ -149,7 +149,8 @@ module _ (R : Rotation) (L : Lawful R) where
         one = λ i j h l s t f. named-apart P K i j h l (named-means R P i s) (named-means R P j t) f;
       })
 
-  listed-on : (c : ℕ) → has c (faces R) ≡ true → on R (placeOf c) ≡ true
+  -- the place of a listed face is there
+  pub listed-on : (c : ℕ) → has c (faces R) ≡ true → on R (placeOf c) ≡ true
   unfolding faces
   listed-on c e = elim (has-parts c (starts R darts) (map loneCorner (alones R vertices)) e) [
     | left h ↦

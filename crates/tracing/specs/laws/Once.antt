@@ -152,7 +152,7 @@ module _ (R : Rotation) (L : Lawful R) where
   start-step a s = let half : 2 * a / 2 ≡ a = omega arith in rw half (start-live R a s)
 
   -- the corners of a walk are darts
-  corners-low : (s c : ℕ) → s < steps → has c (corners R s) ≡ true → c < darts
+  pub corners-low : (s c : ℕ) → s < steps → has c (corners R s) ≡ true → c < darts
   unfolding corners
   corners-low s c h e =
       let m = has-mapped (corner R) (walk R s) c e in

@@ -47,7 +47,7 @@ pub record StartBelow (R : Rotation) (n d : ℕ) : Type 0 where
   pub low : d < n
   pub start : start? R d ≡ true
 
-only-has : (b : Bool) (x c : ℕ) → has c (only b x) ≡ true → (c ≡ x) × (b ≡ true)
+pub only-has : (b : Bool) (x c : ℕ) → has c (only b x) ≡ true → (c ≡ x) × (b ≡ true)
 only-has true x c e = elim (has-cons c x [] e) [
   | here q ↦ (q, refl)
   | later h ↦ absurd (has-empty c h)
@@ -77,7 +77,7 @@ module _ (R : Rotation) where
     | no q ↦ rw (starts-more R n) (has-left d (starts R n) (only (start? R n) n) (start-has n d (omega arith) e))
   ]
 
-  one-more : (q : ℕ → Bool) (b : Bool) (x k : ℕ) → k + countIn q (only b x) ≡ more (b && q x) k
+  pub one-more : (q : ℕ → Bool) (b : Bool) (x k : ℕ) → k + countIn q (only b x) ≡ more (b && q x) k
   unfolding countIn
   one-more q true x k = bit (q x)
     where

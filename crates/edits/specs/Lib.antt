@@ -4,3 +4,4 @@ pub mod Turns
 pub mod Verdicts
 pub mod Edits
 pub mod laws
+pub mod Theorems

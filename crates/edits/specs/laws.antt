@@ -14,4 +14,5 @@ pub mod WrittenGood
 pub mod Changes
 pub mod Edits
 pub mod RoundTrip
+pub mod Accepted
 pub mod Verdicts

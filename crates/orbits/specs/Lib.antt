@@ -8,3 +8,4 @@ pub mod Orbits
 pub mod Follow
 pub mod Mirror
 pub mod laws
+pub mod Theorems

@@ -4,3 +4,4 @@ pub mod Path
 pub mod PathCall
 pub mod Unrounded
 pub mod laws
+pub mod Theorems

@@ -1,2 +1,3 @@
 pub mod Samples
 pub mod laws
+pub mod Theorems

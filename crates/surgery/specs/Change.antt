@@ -4,11 +4,12 @@
 --     delete-change, turn-change, insert-change     they hold in every part that has the edge
 --     delete-count, turn-count, insert-count, add-count     they hold of the face count
 use mathlib.Core.Path.{_≡_}
-use Prim.Native.Nat.{ℕ, zero, suc}
+use Prim.Native.Nat.{ℕ, zero, suc, _*_, _%_}
 use Rattle.tracing.specs.declared.meeting.Sides.{Sides}
 use Rattle.tracing.specs.declared.meeting.Sides.the-variants.{TwoFaces, BothDarts, SameDart}
 use Rattle.tracing.specs.declared.meeting.Meeting.{Meeting}
 use Rattle.tracing.specs.declared.meeting.Meeting.the-variants.{Apart, SameType, OtherType}
+use Rattle.table.specs.Rotation.{Rotation}
 
 pub data Change : Type 0 where
   less as-many more : Change
@@ -38,3 +39,7 @@ insertion SameType zero = more
 insertion SameType (suc k) = as-many
 insertion OtherType zero = as-many
 insertion OtherType (suc k) = more
+
+-- the parity of the turns of edge e
+abbrev pub parity : Rotation → ℕ → ℕ
+parity R e = R .turns (2 * e) % 2

@@ -5,3 +5,4 @@ pub mod Turn
 pub mod Vertex
 pub mod Without
 pub mod laws
+pub mod Theorems

@@ -7,3 +7,4 @@ pub mod Empty
 pub mod Output
 pub mod Writes
 pub mod laws
+pub mod Theorems

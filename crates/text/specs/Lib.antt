@@ -1,3 +1,4 @@
 pub mod Decimal
 pub mod Paste
 pub mod laws
+pub mod Theorems

@@ -6,3 +6,4 @@ pub mod Corner
 pub mod Met
 pub mod Sides
 pub mod laws
+pub mod Theorems

@@ -18,10 +18,9 @@ use Rattle.table.specs.Writes.{setVertex, setEdge}
 use Rattle.table.specs.laws.Writes.{upd-at, upd-off, edge-edge, edge-vertex, vertex-vertex, vertex-edge, next-vertex, next-edge}
 use Rattle.tracing.specs.Listing.{faceCount}
 use Rattle.tracing.specs.Sides.{sidesOf}
-use Rattle.surgery.specs.laws.Through.{parity}
 use Rattle.surgery.specs.Turn.{Turned}
 use Rattle.surgery.specs.Vertex.{Added}
-use Rattle.surgery.specs.Change.{Changes, turning}
+use Rattle.surgery.specs.Change.{Changes, turning, parity}
 use Rattle.surgery.specs.laws.Change.{delete-count, insert-count, turn-count, turn-even-count, add-count}
 use Rattle.edits.specs.Turns.{turnsIn, overturned, turnedWord, wordFor}
 use Rattle.edits.specs.laws.Turns.{word-in, hundred, inserted-word}

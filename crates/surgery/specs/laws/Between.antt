@@ -18,13 +18,14 @@ use Rattle.tracing.specs.laws.Place.{places, trace, flip, on, place, is-step, i
 use Rattle.tracing.specs.laws.Mirrored.{whole, mirrored}
 use Rattle.tracing.specs.laws.FaceCount.{placeOf, place-lone}
 use Rattle.surgery.specs.Without.{Without}
-use Rattle.surgery.specs.laws.Through.{parity, parity-type}
+use Rattle.surgery.specs.laws.Through.{parity-type}
 use Rattle.surgery.specs.laws.Past.{facesOf}
 use Rattle.surgery.specs.laws.Delete.{delete-elsewhere}
 use Rattle.surgery.specs.laws.Insert.{bend, bend-zero, bend-one, insert-less, insert-more, insert-same}
 use Rattle.surgery.specs.Sits.{Sits, just-before, before-other, at-vertex, Inserted}
 use Rattle.surgery.specs.laws.Sits.{place-live, live-low, sits-on, inserted-somewhere, enters, first-in, second-in}
 use Rattle.surgery.specs.laws.PlacesIn.{placeVertex, placesIn, EndsTogether, vertex-step, vertex-still, vertex-flip, without-parts, inside-of, outside-of}
+use Rattle.surgery.specs.Change.{parity}
 
 pub record Between (R : Rotation) (e : ℕ) (R′ : Rotation) : Type 0 where
   pub first : ℕ

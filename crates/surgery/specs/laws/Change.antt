@@ -20,7 +20,7 @@ use Rattle.tracing.specs.laws.Sides.{both-darts, same-dart, two-faces, sides-ca
 use Rattle.tracing.specs.Corner.{Present, at-dart, at-lone, meetingOf}
 use Rattle.tracing.specs.laws.Corner.{same, opposite, apart, meeting-case}
 use Rattle.surgery.specs.Without.{Without}
-use Rattle.surgery.specs.laws.Through.{parity, parity-type}
+use Rattle.surgery.specs.laws.Through.{parity-type}
 use Rattle.surgery.specs.laws.Past.{facesOf, Parts, whole-parts, Inside, inside-whole}
 use Rattle.surgery.specs.laws.Delete.{delete-less, delete-more, delete-same}
 use Rattle.surgery.specs.laws.Insert.{bend, bend-zero, bend-one, Enters, insert-less, insert-more, insert-same}
@@ -31,7 +31,7 @@ use Rattle.surgery.specs.laws.Turn.{turned-on, turn-even, turn-less, tur
 use Rattle.surgery.specs.laws.Alike.{alike-flip}
 use Rattle.surgery.specs.Vertex.{Added}
 use Rattle.surgery.specs.laws.Vertex.{vertex-whole, stillAt, add-vertex}
-use Rattle.surgery.specs.Change.{Changes, deletion, turning, insertion}
+use Rattle.surgery.specs.Change.{Changes, deletion, turning, insertion, parity}
 use Rattle.tracing.specs.Step.{steps}
 
 module _ {R R′ : Rotation} {e : ℕ} (L : Lawful R) (L′ : Lawful R′) (W : Without R e R′) {P P′ : ℕ → Bool} (K : Parts R e R′ P P′) (i : Inside R e P) where

@@ -28,10 +28,11 @@ use Rattle.tracing.specs.laws.Mirrored.{mirrored as tracing-mirror}
 use Rattle.surgery.specs.laws.Spin.{flip-spin}
 use Rattle.surgery.specs.Without.{Without}
 use Rattle.surgery.specs.laws.Exchanged.{exchanged-is, exchanged-back}
-use Rattle.surgery.specs.laws.Through.{parity, parity-type, near, far, through, through-exchanged, near-far}
+use Rattle.surgery.specs.laws.Through.{parity-type, near, far, through, through-exchanged, near-far}
 use Rattle.surgery.specs.laws.Seat.{seat, past}
 use Rattle.surgery.specs.laws.SeatFollows.{seat-follows, seat-flip}
 use Rattle.surgery.specs.laws.Past.{facesOf, Parts, Inside, level-in, near-on, far-on, through-mirror, past-faces, past-reach}
+use Rattle.surgery.specs.Change.{parity}
 
 -- the place itself for type 0, its mirror for type 1
 unfoldable pub bend : Rotation → ℕ → ℕ → ℕ

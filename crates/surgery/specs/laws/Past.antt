@@ -25,9 +25,10 @@ use Rattle.tracing.specs.laws.Place.{places, trace, flip, on, trace-low, on-ste
 use Rattle.tracing.specs.laws.Mirrored.{Part, whole, mirrored}
 use Rattle.surgery.specs.Without.{Without}
 use Rattle.surgery.specs.laws.Exchanged.{exchanged-is, exchanged-keeps}
-use Rattle.surgery.specs.laws.Through.{parity, parity-low, near, far, through, through-exchanged, near-low, far-low, near-back, far-back, own-four}
+use Rattle.surgery.specs.laws.Through.{parity-low, near, far, through, through-exchanged, near-low, far-low, near-back, far-back, own-four}
 use Rattle.surgery.specs.laws.Seat.{seat, passedOver}
 use Rattle.surgery.specs.laws.SeatFollows.{seat-follows}
+use Rattle.surgery.specs.Change.{parity}
 
 abbrev pub facesOf : Rotation → (ℕ → Bool) → ℕ
 facesOf R P = faceClasses (trace R) (flip R) places P

@@ -19,10 +19,7 @@ use Rattle.tracing.specs.laws.Place.{places, trace, flip, trace-step, flip-step
 use Rattle.surgery.specs.Without.{apart}
 use Rattle.surgery.specs.laws.Without.{apart-own, apart-other}
 use Rattle.surgery.specs.laws.Exchanged.{Exchanged}
-
--- the parity of the turns of edge e
-abbrev pub parity : Rotation → ℕ → ℕ
-parity R e = R .turns (2 * e) % 2
+use Rattle.surgery.specs.Change.{parity}
 
 pub parity-low : (R : Rotation) (e : ℕ) → parity R e < 2
 parity-low R e = omega arith

@@ -26,9 +26,10 @@ use Rattle.tracing.specs.laws.Mirrored.{Part, mirrored as tracing-mirror}
 use Rattle.surgery.specs.laws.Spin.{other-type}
 use Rattle.surgery.specs.laws.Alike.{alike-around, alike-flip, alike-trace}
 use Rattle.surgery.specs.laws.Exchanged.{Exchanged, exchanged-is}
-use Rattle.surgery.specs.laws.Through.{parity, parity-low, parity-type, near, far, far-low, own-four, trace-near, trace-far, trace-near-back, trace-far-back, near-back, far-back, far-back-back}
+use Rattle.surgery.specs.laws.Through.{parity-low, parity-type, near, far, far-low, own-four, trace-near, trace-far, trace-near-back, trace-far-back, near-back, far-back, far-back-back}
 use Rattle.surgery.specs.laws.Past.{facesOf, Inside, level-in, own-level, near-on}
 use Rattle.surgery.specs.Turn.{Turned}
+use Rattle.surgery.specs.Change.{parity}
 
 module _ {R R₁ : Rotation} {e : ℕ} (L : Lawful R) (L₁ : Lawful R₁) (W : Turned R e R₁) where
   pub turned-on : on R₁ ≡ on R

@@ -1,0 +1,59 @@
+-- The theorems of this crate, document 01, "Edits". Each is proved by the law of its name.
+use Prim.Native.Nat.{ℕ, _+_, _*_}
+use mathlib.Core.Path.{_≡_}
+use mathlib.Core.List.{List}
+use Rattle.table.specs.Good.{Good}
+use Rattle.edits.specs.Edits.{written, edited}
+use Rattle.edits.specs.declared.edit.Edit.{Edit}
+use Rattle.edits.specs.declared.edit.Verdict.the-variants.{Passes, Declines}
+use Rattle.edits.specs.Verdicts.{verdict}
+use Rattle.table.specs.Rotation.{rotation, nextDart}
+use Rattle.tracing.specs.Listing.{faceCount}
+use Rattle.surgery.specs.Change.{Changes}
+use Rattle.edits.specs.Changes.{change}
+use Rattle.table.specs.declared.answer.Refusal.{Refusal}
+use lib.IntN.{ℤ}
+use Rattle.surgery.specs.Without.{Without}
+use Rattle.edits.specs.declared.edit.Edit.the-variants.{InsertEdge, DeleteEdge}
+use Rattle.surgery.specs.Sits.{Inserted}
+use Rattle.edits.specs.laws.WrittenGood as writtenGood
+use Rattle.edits.specs.laws.Changes as changes
+use Rattle.edits.specs.laws.Edits as edits
+use Rattle.edits.specs.laws.Accepted as accepted
+
+-- the table that an accepted edit writes is good
+pub written-good : (t : List ℕ) → (E : Edit) → verdict t E ≡ Passes → Good (written t E)
+written-good = writtenGood.written-good
+
+-- the face count changes as the edit's rule calls for, read on the table before it
+pub written-changes : (t : List ℕ) → (E : Edit) → verdict t E ≡ Passes
+    → Changes (change t E) (faceCount (rotation t)) (faceCount (rotation (written t E)))
+written-changes = changes.written-changes
+
+-- a declined edit leaves every word
+pub edited-declines : (t : List ℕ) (E : Edit) → (r : Refusal) → verdict t E ≡ Declines r → edited t E ≡ t
+edited-declines = edits.edited-declines
+
+-- an inserted edge taken out of the rotation leaves the old one
+pub insert-without : (t : List ℕ) (e c₁ c₂ : ℕ) (k : ℤ) (p : verdict t (InsertEdge e c₁ c₂ k) ≡ Passes)
+    → Without (rotation (written t (InsertEdge e c₁ c₂ k))) e (rotation t)
+insert-without = accepted.insert-without
+
+-- "each just before the dart that names the corner"
+pub insert-sits : (t : List ℕ) (e c₁ c₂ : ℕ) (k : ℤ) (p : verdict t (InsertEdge e c₁ c₂ k) ≡ Passes)
+    → Inserted (rotation (written t (InsertEdge e c₁ c₂ k))) e (rotation t) c₁ c₂
+insert-sits = accepted.insert-sits
+
+-- "With c1 = c2 the order is old, 2e, 2e+1, d"
+pub insert-order : (t : List ℕ) (e c₁ c₂ : ℕ) (k : ℤ) (p : verdict t (InsertEdge e c₁ c₂ k) ≡ Passes) → c₁ ≡ c₂
+    → nextDart (written t (InsertEdge e c₁ c₂ k)) (2 * e) ≡ 2 * e + 1
+insert-order = accepted.insert-order
+
+-- the rotation after a deletion is the old one without the edge
+pub delete-without : (t : List ℕ) (e : ℕ) → verdict t (DeleteEdge e) ≡ Passes → Without (rotation t) e (rotation (written t (DeleteEdge e)))
+delete-without = accepted.delete-without
+
+-- deleting what was inserted gives the first table back, word for word
+pub insert-delete : (t : List ℕ) (e c₁ c₂ : ℕ) (k : ℤ) (p : verdict t (InsertEdge e c₁ c₂ k) ≡ Passes)
+    → written (written t (InsertEdge e c₁ c₂ k)) (DeleteEdge e) ≡ t
+insert-delete = accepted.insert-delete

@@ -12,7 +12,7 @@ use Rattle.tracing.specs.laws.Met as met
 use Rattle.tracing.specs.laws.Edges as edges
 use Rattle.tracing.specs.laws.Length as length
 
--- a corner that is there is met once by the listed walks
+-- a corner that is there is met once by the listed walks: "Every face is traced in two senses; it is listed once"
 pub present-once : (R : Rotation) (L : Lawful R) → (c : ℕ) → Present R c → times c (listedCorners R) ≡ 1
 present-once = met.present-once
 

@@ -8,7 +8,8 @@
  * Every function returns int64_t: the answer, 0 or more, or minus the number of the refusal. A declined call
  * leaves every lent slice as it was.
  *
- * A call needs less than 16 KiB of stack. Its time is at most linear in the size of the table, which it checks first.
+ * A call needs less than 16 KiB of stack (measured). Its time is linear in the size of the table, which it checks first; for
+ * planner_counts and planner_parts, which join parts by pointers that are shortened on the way, with a logarithm more at most.
  *
  * Link with libplanner.a.
  */
@@ -66,8 +67,8 @@ int64_t planner_check(const uint16_t *table, size_t words);
 /*
  * Writes the listing of the table's walks to the front of `out`, and answers its number of words: for each walk
  * its number of steps, then 2*dart+type for each step; for an isolated vertex v, 0 and then 32768+v.
- * Declines: PLANNER_TORN; PLANNER_SHORT_SLICE if out_words is less than the listing's size. A full table's
- * listing has 4,096 words at most. Words of `out` past the listing are not changed.
+ * Declines: PLANNER_TORN; PLANNER_SHORT_SLICE if out_words is less than the listing's size. 4,096 words are enough for every
+ * table: worked out from V-E+F, which is at most 2 in each part; not itself a theorem. Words of `out` past the listing are not changed.
  */
 int64_t planner_listing(const uint16_t *table, size_t words, uint16_t *out, size_t out_words);
 

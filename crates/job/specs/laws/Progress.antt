@@ -16,17 +16,17 @@ use Rattle.runs.specs.declared.block.Block.{Block}
 use Rattle.runs.specs.declared.records.Stop.{Stop}
 use Rattle.runs.specs.declared.records.Stop.the-variants.{End}
 use Rattle.runs.specs.Run.{run}
-use Rattle.runs.specs.laws.Run.{run-append}
 use Rattle.runs.specs.Reading.{reading, readUpTo, ended, readsOn}
 use Rattle.runs.specs.laws.Reading.{joined, reading-bounds}
 use Rattle.runs.specs.Lines.{lines}
-use Rattle.runs.specs.laws.Lines.{lines-append, lines-few}
+use Rattle.runs.specs.laws.Lines.{lines-few}
 use Rattle.runs.specs.Blocks.{left}
-use Rattle.runs.specs.laws.Blocks.{left-some, reading-left, left-again, left-few}
+use Rattle.report.specs.Lines.{report}
+use Rattle.runs.specs.laws.Blocks.{left-some, reading-left, left-again, left-few, lines-blocks, run-blocks, printed-bad, run-bad}
 use Rattle.runs.specs.laws.Running.{Ready}
 use Rattle.runs.specs.laws.Moving.{blockOf, block-fits}
 use Rattle.job.specs.declared.Progress.{Progress}
-use Rattle.job.specs.Job.{goesOn, afterBlock, Turn, came, failed, Read}
+use Rattle.job.specs.Job.{output, goesOn, afterBlock, Turn, came, failed, Read}
 
 -- the first n bytes of the buffer, and a buffer for the lines
 module _ (number n : ℕ) (t buf out : List ℕ) (e : length buf ≡ 4096) (l : n ≤ 4096) (h : number ≤ 2 ^ 61) (f : 65536 ≡ length out) where
@@ -194,8 +194,8 @@ module _ {t₀ t buf : List ℕ} {p : Progress} (k : Going t₀ t buf p) (g : p 
       let read : p′ .read ≡ p .read + length new = ap (λ x. x .read) after in
       let more : p′ .next ≡ p .next + length B = ap (λ x. x .next) after in
       let text : p′ .printed ≡ p .printed + length (lines t (p .next) B) = ap (λ x. x .printed) after in
-      let line : length (lines t₀ 1 (A ++ B)) ≡ length (lines t₀ 1 A) + length (lines t (p .next) B) =
-      ap length (lines-append t₀ 1 A B) ∙ length-append (lines t₀ 1 A) (lines (run t₀ A) (1 + length A) B)
+      let line : length (lines t₀ 1 (reading (k .input ++ new) .edits)) ≡ length (lines t₀ 1 A) + length (lines t (p .next) B) =
+      ap length (lines-blocks t₀ 1 (k .input) new (k .on g)) ∙ length-append (lines t₀ 1 A) (lines (run t₀ A) (1 + length A) B)
       ∙ ap₂ (λ x n. length (lines t₀ 1 A) + length (lines x n B)) (sym (k .table)) (sym next) in
       record {
         input = k .input ++ new;
@@ -204,10 +204,10 @@ module _ {t₀ t buf : List ℕ} {p : Progress} (k : Going t₀ t buf p) (g : p 
         buffer = y ∙ k .buffer;
         all = omega arith;
         low = omega arith;
-        table = f ∙ ap₂ (λ x a. run x (reading a .edits)) (k .table) here ∙ sym (run-append t₀ A B) ∙ ap (λ r. run t₀ (r .edits)) (sym whole);
+        table = f ∙ ap₂ (λ x a. run x (reading a .edits)) (k .table) here ∙ sym (run-blocks t₀ 1 (k .input) new (k .on g));
         next = rw whole (omega arith);
         stop = ap (λ x. x .stop) after ∙ ap (λ r. r .stop) (sym whole);
-        printed = rw whole (omega arith);
+        printed = omega arith;
         waits = ap (λ x. x .left) after ∙ ap length (sym (left-again (k .input) new (k .on g)));
         front = h ∙ ap left here ∙ sym (left-again (k .input) new (k .on g));
         on = λ q. rw whole (goes-reads (p′ .fine) (length new) (reading s .stop) (sym (ap (λ x. x .going) after) ∙ q));
@@ -240,3 +240,7 @@ going-over k h = record {
   over = h;
   low = k .low;
 }
+
+-- why nothing has to be read after a bad mark: whatever follows, the output is the same
+pub output-bad : (t s rest : List ℕ) → readsOn (reading s .stop) ≡ false → output t (s ++ rest) ≡ output t s
+output-bad t s rest h = ap₂ (λ a u. a ++ report u) (printed-bad t 1 s rest h) (run-bad t 1 s rest h)

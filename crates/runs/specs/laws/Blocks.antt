@@ -1,25 +1,19 @@
 -- Why the job program may read its input in blocks: what it prints for a block and then for the bytes that are left is what it prints for all.
 use Prim.Native.Nat.{ℕ, _+_, _<_}
 use native.Mathlib.Omega.{arith}
-use native.Mathlib.Nat.{add-assoc}
-use mathlib.Core.Path.{_≡_, sym, _∙_, ap, ap₂}
-use mathlib.Core.List.{List, [], _++_, append-assoc}
+use mathlib.Core.Path.{_≡_, sym, _∙_, ap}
+use mathlib.Core.List.{List, [], _++_}
 use mathlib.Core.Bool.{true, false}
 use Rattle.orbits.specs.laws.Truth.{truth, holds, fails}
-use lib.ListN.{length, drop, length-append, length-drop}
+use lib.ListN.{length, drop, length-drop}
 use lib.Seq.{drop-drop, drop-append-le}
 use Rattle.runs.specs.Run.{run}
 use Rattle.runs.specs.laws.Run.{run-append}
-use Rattle.runs.specs.Reading.{Reading, reading, readsOn}
+use Rattle.runs.specs.Reading.{reading, readsOn}
 use Rattle.runs.specs.laws.Reading.{joined, reading-blocks, reading-bad, reading-bounds}
-use Rattle.runs.specs.Lines.{stopLine, lines}
+use Rattle.runs.specs.Lines.{lines}
 use Rattle.runs.specs.laws.Lines.{lines-append}
 use Rattle.runs.specs.Blocks.{printedBy, printed, left}
-
-printed-joined : (t : List ℕ) (n : ℕ) (r q : Reading) → printedBy t n (joined r q) ≡ lines t n (r .edits) ++ printedBy (run t (r .edits)) (n + length (r .edits)) q
-printed-joined t n r q =
-    ap₂ _++_ (lines-append t n (r .edits) (q .edits)) (ap (λ k. stopLine k (q .stop)) (ap (λ k. n + k) (length-append (r .edits) (q .edits)) ∙ sym (add-assoc n (length (r .edits)) (length (q .edits)))))
-    ∙ append-assoc (lines t n (r .edits)) (lines (run t (r .edits)) (n + length (r .edits)) (q .edits)) (stopLine (n + length (r .edits) + length (q .edits)) (q .stop))
 
 pub left-none : (s : List ℕ) → readsOn (reading s .stop) ≡ false → left s ≡ []
 unfolding left
@@ -58,10 +52,9 @@ left-again a b h =
 module _ (t : List ℕ) (n : ℕ) (a b : List ℕ) where
   -- the bytes of the block that are left are read again, before those that come
   module _ (h : readsOn (reading a .stop) ≡ true) where
-    pub printed-blocks : printed t n (a ++ b)
-        ≡ lines t n (reading a .edits) ++ printed (run t (reading a .edits)) (n + length (reading a .edits)) (left a ++ b)
-    unfolding printed
-    printed-blocks = ap (printedBy t n) (reading-left a b h) ∙ printed-joined t n (reading a) (reading (left a ++ b))
+    pub lines-blocks : lines t n (reading (a ++ b) .edits)
+        ≡ lines t n (reading a .edits) ++ lines (run t (reading a .edits)) (n + length (reading a .edits)) (reading (left a ++ b) .edits)
+    lines-blocks = ap (λ r. lines t n (r .edits)) (reading-left a b h) ∙ lines-append t n (reading a .edits) (reading (left a ++ b) .edits)
 
     pub run-blocks : run t (reading (a ++ b) .edits) ≡ run (run t (reading a .edits)) (reading (left a ++ b) .edits)
     run-blocks = ap (λ r. run t (r .edits)) (reading-left a b h) ∙ run-append t (reading a .edits) (reading (left a ++ b) .edits)

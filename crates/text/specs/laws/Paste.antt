@@ -113,14 +113,6 @@ window-holds from out text i l h = paste-within from 0 out text i l (omega arith
 pub window-keeps : (from : ℕ) (out text : List ℕ) (i : ℕ) → length text ≤ from + i → getD (paste from 0 out text) i 0 ≡ getD out i 0
 window-keeps from out text i h = paste-behind from 0 out text i (omega arith)
 
--- a window inside the text is the part of the text that it shows
-pub window-text : (from : ℕ) (out text : List ℕ) → length out + from ≤ length text → paste from 0 out text ≡ take (length out) (drop from text)
-window-text from out text h =
-    let size : length (paste from 0 out text) ≡ length out = paste-length from 0 out text in
-    ext-getD 0 (paste from 0 out text) (take (length out) (drop from text)) (simp (paste-length, length-take, length-drop) (omega arith)) (λ i l.
-    let low : i < length out = omega arith in
-    window-holds from out text i low (omega arith) ∙ sym (getD-take (length out) (drop from text) i 0 low ∙ getD-drop from text i 0))
-
 -- a text at the front of a slice
 pub sets-front : (out text : List ℕ) → length text ≤ length out → sets out 0 text ≡ text ++ drop (length text) out
 sets-front out text h = sets-eq text out 0 (rw zero-add h) ∙ ap (λ k. text ++ drop k out) (zero-add (length text))

@@ -71,8 +71,11 @@ returns c =
     let run-block = c .before .before .before .before .before .before .before .before .before .before .run-block in
     let goes-on = c .before .before .goes-on in
     let print = c .before .before .before .print in
-    let start-facts = start .pre in
-    (block-after _ _ _ _ _ (start .pre .0) (start .pre .1) (start .pre .2) (large-buffer .ensures) (run-block .ensures) (start .args .p) (start .args .came) refl (goes-on .ensures) (print .ensures), run-block .ensures .1, block-left _ _ _ _ _ (start .pre .0) (start .pre .1) (start .pre .2) (large-buffer .ensures) (run-block .ensures))
+    let after =
+    block-after _ _ _ _ _ (start .pre .0) (start .pre .1) (start .pre .2) (large-buffer .ensures) (run-block .ensures) (start .args .p)
+    (start .args .came) refl (goes-on .ensures) (print .ensures) in
+    let rest = block-left _ _ _ _ _ (start .pre .0) (start .pre .1) (start .pre .2) (large-buffer .ensures) (run-block .ensures) in
+    (after, run-block .ensures .1, rest)
 
 pub run-and-print-spec : {M : Type 1} → statement M
 run-and-print-spec =

@@ -1,2 +1,2 @@
--- What the job program's loops know.
-pub mod Progress
+pub mod Job
+pub mod laws

@@ -1,20 +1,28 @@
 // The job program, document 01, "The job program": reads records from standard input, runs them over the empty mesh, and prints the lines.
-// The texts and the table are those of proved functions; here are the calls that read and write.
+// The texts and the table are those of proved functions; here are the calls that read and write. Nothing can be said of the bytes that a
+// read gives, and nothing of what becomes of those that are written: so the contracts speak of some bytes, as many as came, and of
+// the number of those that are handed over.
 use libc::STDIN_FILENO;
 use libc::STDOUT_FILENO;
-use report::report::report;
-use runs::block::BAD_MARK;
+use report::report::show;
 use runs::block::run_block;
 use runs::lines::stop_line;
+use runs::records::Stop;
+use runs::records::reads_on;
 use table::empty::empty;
 ghost use Prim.Native.Nat.{_+_, _≤_, _<_, _^_};
 ghost use mathlib.Core.Path.{_≡_};
+ghost use mathlib.Core.Bool.{true};
 ghost use lib.ListN.{length, take};
-ghost use lib.Seq.{sets};
+ghost use Rattle.table.specs.Good.{Good};
+ghost use Rattle.table.specs.Layout.{words};
+ghost use Rattle.table.specs.Empty.{emptyTable};
+ghost use Rattle.report.specs.Lines.{report};
 ghost use Rattle.runs.specs.Run.{run};
 ghost use Rattle.runs.specs.Reading.{reading};
 ghost use Rattle.runs.specs.Blocks.{left};
-ghost use Rattle.table.specs.Good.{Good};
+ghost use Rattle.runs.specs.Lines.{stopLine};
+ghost use Rattle.job.specs.Job.{goesOn, afterBlock, Turn, Read, Ended};
 
 // How far the reading has come.
 struct Progress {
@@ -26,74 +34,110 @@ struct Progress {
     left: usize,
     // the number of the record that comes next
     next: u64,
-    // 0, or the number of the refusal that ends the reading, if nothing more comes
-    stop: u64,
+    // why no whole record follows
+    stop: Stop,
+    // the bytes that came
+    read: u64,
+    // the bytes that were handed to standard output
+    printed: u64,
 }
 
-// Runs the records of the first n bytes of the buffer, and prints the lines of those that are declined.
-fn run_and_print(t: &mut [u16], buf: &mut [u8], n: usize, next: u64) -> Progress
-    requires { ⌜ Good (now t) × (length (now buf) ≡ 4096) × (n ≤ 4096) × (next ≤ 2 ^ 63) ⌝ }
-    ensures { λ r. ⌜ Good (now (t .exit)) × (r .left < 10) × (r .next ≤ next + 4096)
-        × (now (t .exit) ≡ run (now (t .entry)) (reading (take n (now (buf .entry))) .edits))
-        × (now (buf .exit) ≡ sets (now (buf .entry)) 0 (left (take n (now (buf .entry)))))
-        × (r .left ≡ length (left (take n (now (buf .entry)))))
-        × (r .next ≡ next + length (reading (take n (now (buf .entry))) .edits))
-        × (r .stop ≡ reading (take n (now (buf .entry))) .stop) ⌝ }
+// What was handed to standard output.
+struct Printed {
+    fine: bool,
+    bytes: usize,
+}
+
+// What the program did.
+struct Job {
+    fine: bool,
+    read: u64,
+    printed: u64,
+}
+
+// Hands some bytes to standard output. Where that fails, standard error says so.
+fn print(bytes: &[u8]) -> Printed
+    ensures { λ r. ⌜ r .bytes ≡ length (now (bytes .entry)) ⌝ }
 {
-    let mut out = io::large_buffer();
-    let block = run_block(t, buf, n, next, &mut out);
-    let written = block.written;
-    let fine = io::write_all(STDOUT_FILENO, &out[..written]);
-    let going = block.stop != BAD_MARK;
+    let fine = io::write_all(STDOUT_FILENO, bytes);
     if !fine {
         os::fail(b"standard output");
     }
+    Printed {
+        fine,
+        bytes: bytes.len(),
+    }
+}
+
+// Whether there is more to read after a read that gave so many bytes: not where it gave none, and not after a bad mark.
+fn goes_on(fine: bool, came: usize, stop: Stop) -> bool
+    ensures { λ r. ⌜ r ≡ goesOn fine came stop ⌝ }
+{
+    if !fine {
+        return false;
+    }
+    if came == 0 {
+        return false;
+    }
+    reads_on(stop)
+}
+
+// Runs the records of the bytes that were left and of those that came after them, and prints the lines of those that are declined.
+fn run_and_print(t: &mut [u16], buf: &mut [u8], came: usize, p: Progress) -> Progress
+    requires { ⌜ (length (now buf) ≡ 4096) × (p .left + came ≤ 4096) × (p .next ≤ 2 ^ 61) × (p .read ≤ 2 ^ 61) × (p .printed ≤ 2 ^ 63) ⌝ }
+    ensures { λ r. ⌜ (r ≡ afterBlock (now (t .entry)) p came (take (p .left + came) (now (buf .entry))) (r .fine))
+        × (now (t .exit) ≡ run (now (t .entry)) (reading (take (p .left + came) (now (buf .entry))) .edits))
+        × (take (r .left) (now (buf .exit)) ≡ left (take (p .left + came) (now (buf .entry)))) ⌝ }
+{
+    let mut out = io::large_buffer();
+    let n = p.left + came;
+    let block = run_block(t, buf, n, p.next, &mut out);
+    let written = block.written;
+    let lines = print(&out[..written]);
+    let stop = block.stop;
+    let going = goes_on(lines.fine, came, stop);
     Progress {
         going,
-        fine,
+        fine: lines.fine,
         left: block.left,
         next: block.next,
-        stop: block.stop,
+        stop,
+        read: p.read + came as u64,
+        printed: p.printed + lines.bytes as u64,
     }
 }
 
 // Reads once and runs the records of what came.
 fn read_block(t: &mut [u16], buf: &mut [u8], p: Progress) -> Progress
-    requires { ⌜ Good (now t) × (length (now buf) ≡ 4096) × (p .left < 10) × (p .next ≤ 2 ^ 63) ⌝ }
-    ensures { λ r. ⌜ Good (now (t .exit)) × (r .left < 10) × (r .next ≤ p .next + 4096) ⌝ }
+    requires { ⌜ (length (now buf) ≡ 4096) × (p .left < 10) × (p .next ≤ 2 ^ 61) × (p .read ≤ 2 ^ 61) × (p .printed ≤ 2 ^ 63) ⌝ }
+    ensures { λ r. ⌜ Turn (now (t .entry)) (now (buf .entry)) p (now (t .exit)) (now (buf .exit)) r ⌝ }
 {
     let left = p.left;
     let got = libc::read(STDIN_FILENO, &mut buf[left..]);
     if got < 0 {
         os::fail(b"standard input");
+        let stop = p.stop;
         return Progress {
             going: false,
             fine: false,
             left,
             next: p.next,
-            stop: p.stop,
+            stop,
+            read: p.read,
+            printed: p.printed,
         };
     }
-    if got == 0 {
-        return Progress {
-            going: false,
-            fine: true,
-            left,
-            next: p.next,
-            stop: p.stop,
-        };
-    }
-    let n = left + io::count(got, &buf[left..]);
-    run_and_print(t, buf, n, p.next)
+    let came = io::count(got, &buf[left..]);
+    run_and_print(t, buf, came, p)
 }
 
-// A proved loop has to end, and nothing says that the input does. So the loop counts its turns, up to a number that no run reaches.
-const TURNS: u64 = 1 << 50;
+// A proved loop has to end, and nothing says that the input does. So the program reads up to a number of bytes that no input has.
+const MOST: u64 = 1 << 60;
 
 // Reads to the end of the input, or to a bad mark.
 fn read_job(t: &mut [u16]) -> Progress
     requires { ⌜ Good (now t) ⌝ }
-    ensures { λ _. ⌜ Good (now (t .exit)) ⌝ }
+    ensures { λ r. ⌜ Read (now (t .entry)) (now (t .exit)) r ⌝ }
 {
     let mut buf = io::buffer();
     let mut p = Progress {
@@ -101,44 +145,84 @@ fn read_job(t: &mut [u16]) -> Progress
         fine: true,
         left: 0,
         next: 1,
-        stop: 0,
+        stop: Stop::End,
+        read: 0,
+        printed: 0,
     };
-    let mut turns: u64 = 0;
-    while p.fine && p.going && turns < TURNS {
+    while p.going && p.read < MOST {
         p = read_block(t, &mut buf, p);
-        turns += 1;
     }
     p
 }
 
-// The bytes of the report that are printed at a time, those of a large buffer.
-const WINDOW: usize = 65536;
+// Prints the line of the refusal that ended the reading, if one did.
+fn print_stop(n: u64, stop: Stop) -> Printed
+    ensures { λ r. ⌜ r .bytes ≡ length (stopLine n stop) ⌝ }
+{
+    let mut line = [0u8; 64];
+    let size = stop_line(&mut line, n, stop);
+    print(&line[..size])
+}
 
 // Prints the report, a window at a time.
-fn print_report(t: &[u16])
+fn print_report(t: &[u16]) -> Printed
     requires { ⌜ Good (now t) ⌝ }
+    ensures { λ r. ⌜ (r .fine ≡ true → r .bytes ≡ length (report (now (t .entry)))) × (r .bytes < 2 ^ 31) ⌝ }
 {
     let mut out = io::large_buffer();
     let mut from: usize = 0;
-    let mut size = report(t, from, &mut out);
-    while WINDOW < size - from {
-        io::write_all(STDOUT_FILENO, &out);
-        from += WINDOW;
-        size = report(t, from, &mut out);
+    loop {
+        let window = show(t, from, &mut out);
+        let shown = window.shown;
+        let part = print(&out[..shown]);
+        from += part.bytes;
+        if !part.fine {
+            return Printed {
+                fine: false,
+                bytes: from,
+            };
+        }
+        if window.size <= from {
+            return Printed {
+                fine: true,
+                bytes: from,
+            };
+        }
     }
-    let rest = size - from;
-    io::write_all(STDOUT_FILENO, &out[..rest]);
+}
+
+// Runs a job over the empty mesh: its records, the line of the refusal that ended them, the report.
+fn run_job(t: &mut [u16]) -> Job
+    requires { ⌜ length (now t) ≡ words ⌝ }
+    ensures { λ r. ⌜ Ended emptyTable (now (t .exit)) r ⌝ }
+{
+    empty(t);
+    let p = read_job(t);
+    if !p.fine {
+        return Job {
+            fine: false,
+            read: p.read,
+            printed: p.printed,
+        };
+    }
+    let stop = p.stop;
+    let line = print_stop(p.next, stop);
+    if !line.fine {
+        return Job {
+            fine: false,
+            read: p.read,
+            printed: p.printed,
+        };
+    }
+    let lines = print_report(t);
+    Job {
+        fine: lines.fine,
+        read: p.read,
+        printed: p.printed + line.bytes as u64 + lines.bytes as u64,
+    }
 }
 
 fn main() {
     let mut t = [0u16; 7680];
-    empty(&mut t);
-    let p = read_job(&mut t);
-    if !p.fine {
-        return;
-    }
-    let mut line = [0u8; 64];
-    let n = stop_line(&mut line, p.next, p.stop);
-    io::write_all(STDOUT_FILENO, &line[..n]);
-    print_report(&t);
+    run_job(&mut t);
 }

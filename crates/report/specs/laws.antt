@@ -3,3 +3,4 @@ pub mod Parts
 pub mod Steps
 pub mod Walks
 pub mod Whole
+pub mod Window

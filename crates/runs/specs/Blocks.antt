@@ -2,11 +2,8 @@
 use Prim.Native.Nat.{ℕ, _+_}
 use mathlib.Core.Bool.{cond}
 use mathlib.Core.List.{List, [], _++_}
-use lib.Dec.{eqb}
 use lib.ListN.{length, drop}
-use Rattle.table.specs.Answers.{numberOf}
-use Rattle.table.specs.declared.answer.Refusal.the-variants.{BadMark}
-use Rattle.runs.specs.Reading.{Reading, reading}
+use Rattle.runs.specs.Reading.{Reading, reading, readsOn}
 use Rattle.runs.specs.Lines.{stopLine, lines}
 
 -- the "no" lines of a reading from record n on, over table t
@@ -18,4 +15,4 @@ printed t n s = printedBy t n (reading s)
 
 -- the bytes that are read again, before those that come: none after a bad mark
 unfoldable pub left : List ℕ → List ℕ
-left s = cond (eqb (reading s .stop) (numberOf BadMark)) [] (drop (reading s .taken) s)
+left s = cond (readsOn (reading s .stop)) (drop (reading s .taken) s) []

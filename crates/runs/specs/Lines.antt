@@ -1,12 +1,15 @@
 -- The lines for records that are declined, document 01, "The job program".
-use Prim.Native.Nat.{ℕ, zero, suc}
+use Prim.Native.Nat.{ℕ, suc}
 use mathlib.Core.List.{List, [], _∷_, _++_}
 use Rattle.text.specs.Decimal.{decimal}
 use Rattle.table.specs.Answers.{numberOf}
 use Rattle.table.specs.declared.answer.Answer.{Answer}
 use Rattle.table.specs.declared.answer.Answer.the-variants.{Done, Declined}
+use Rattle.table.specs.declared.answer.Refusal.the-variants as refusal
 use Rattle.edits.specs.Edits.{answer, edited}
 use Rattle.edits.specs.declared.edit.Edit.{Edit}
+use Rattle.runs.specs.declared.records.Stop.{Stop}
+use Rattle.runs.specs.declared.records.Stop.the-variants.{End, BadMark, CutRecord}
 
 -- "no", record, number. "One space between fields, a newline after each line."
 abbrev pub noLine : ℕ → ℕ → List ℕ
@@ -26,6 +29,7 @@ lines t n [] = []
 lines t n (E ∷ Es) = editLine t n E ++ lines (edited t E) (suc n) Es
 
 -- "10 and 11 print the same and end the reading": nothing where the reading ended with its bytes
-unfoldable pub stopLine : ℕ → ℕ → List ℕ
-stopLine n zero = []
-stopLine n (suc r) = noLine n (suc r)
+unfoldable pub stopLine : ℕ → Stop → List ℕ
+stopLine n End = []
+stopLine n BadMark = noLine n (numberOf refusal.BadMark)
+stopLine n CutRecord = noLine n (numberOf refusal.CutRecord)

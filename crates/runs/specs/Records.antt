@@ -5,7 +5,6 @@ use mathlib.Core.List.{List}
 use lib.IntN.{ℤ, pos, negsuc}
 use lib.Dec.{ltb, eqb}
 use lib.ListN.{length, getD}
-use Rattle.table.specs.declared.answer.Refusal.the-variants.{BadMark, CutRecord}
 use Rattle.edits.specs.declared.edit.Edit.{Edit}
 use Rattle.edits.specs.declared.edit.Edit.the-variants.{AddVertex, RemoveVertex, InsertEdge, DeleteEdge, TurnEdge}
 use Rattle.runs.specs.declared.records.Mark.{Mark}
@@ -13,7 +12,8 @@ use Rattle.runs.specs.declared.records.Mark.the-variants.{AV, RV, IE, DE
 use Rattle.runs.specs.declared.records.Marked.{Marked}
 use Rattle.runs.specs.declared.records.Marked.the-variants.{Known, Unknown}
 use Rattle.runs.specs.declared.records.Found.{Found}
-use Rattle.runs.specs.declared.records.Found.the-variants.{Record, Refused, Nothing}
+use Rattle.runs.specs.declared.records.Found.the-variants.{Record, Stopped}
+use Rattle.runs.specs.declared.records.Stop.the-variants.{End, BadMark, CutRecord}
 
 -- "16-bit words, high byte first": the one at byte i
 abbrev pub word : List ℕ → ℕ → ℕ
@@ -50,16 +50,16 @@ editOf TW s = TurnEdge (word s 2) (signedWord (word s 4))
 
 -- "cut record: fewer bytes than the record needs"
 unfoldable pub knownRecord : Mark → List ℕ → Found
-knownRecord m s = cond (ltb (length s) (sizeOf m)) (Refused CutRecord) (Record (editOf m s) (sizeOf m))
+knownRecord m s = cond (ltb (length s) (sizeOf m)) (Stopped CutRecord) (Record (editOf m s) (sizeOf m))
 
 -- "bad mark: job record with an unknown mark"
 abbrev pub markedRecord : Marked → List ℕ → Found
 markedRecord (Known m) s = knownRecord m s
-markedRecord Unknown s = Refused BadMark
+markedRecord Unknown s = Stopped BadMark
 
 -- the first record; "one lone byte included" among the cut ones
 unfoldable pub firstRecord : List ℕ → Found
 firstRecord s =
-    cond (eqb (length s) 0) Nothing
-    (cond (eqb (length s) 1) (Refused CutRecord)
+    cond (eqb (length s) 0) (Stopped End)
+    (cond (eqb (length s) 1) (Stopped CutRecord)
     (markedRecord (markOf (word s 0)) s))

@@ -1,4 +1,6 @@
 // A block of a job's bytes: its whole records are run, and what is left waits at the front for the bytes that come.
+use crate::records::Stop;
+use crate::records::reads_on;
 use crate::run::run_records;
 ghost use Prim.Native.Nat.{_-_, _≤_};
 ghost use mathlib.Core.Path.{_≡_};
@@ -19,12 +21,9 @@ pub struct Block {
     pub next: u64,
     // the bytes of the lines
     pub written: usize,
-    // 0 if nothing is left, else the number of the refusal that ended the reading
-    pub stop: u64,
+    // why no whole record follows
+    pub stop: Stop,
 }
-
-// The number of bad mark, after which nothing is read.
-pub const BAD_MARK: u64 = 10;
 
 // Moves the bytes from index `from` up to `to` to the front.
 fn move_front(buf: &mut [u8], from: usize, to: usize)
@@ -50,12 +49,13 @@ pub fn run_block(t: &mut [u16], buf: &mut [u8], n: usize, number: u64, out: &mut
 {
     let ran = run_records(t, &buf[..n], number, out);
     let taken = ran.taken;
-    if ran.stop == BAD_MARK {
+    let stop = ran.stop;
+    if !reads_on(stop) {
         return Block {
             left: 0,
             next: ran.next,
             written: ran.written,
-            stop: ran.stop,
+            stop,
         };
     }
     move_front(buf, taken, n);
@@ -63,6 +63,6 @@ pub fn run_block(t: &mut [u16], buf: &mut [u8], n: usize, number: u64, out: &mut
         left: n - taken,
         next: ran.next,
         written: ran.written,
-        stop: ran.stop,
+        stop,
     }
 }

@@ -1,4 +1,7 @@
 // The lines of the job program for records that are declined.
+use crate::records::Stop;
+use table::answer::Refusal;
+use table::answer::number_of;
 use text::number::number;
 use text::window::byte;
 use text::window::bytes;
@@ -18,12 +21,13 @@ pub fn no_line(out: &mut [u8], at: usize, n: u64, refusal: u64) -> usize
     byte(out, 0, second, b'\n')
 }
 
-// Writes the line of a reading that a refusal ended, to the front of `out`: nothing where it ended with its bytes. The number of bytes.
-pub fn stop_line(out: &mut [u8], n: u64, stop: u64) -> usize
+// Writes the line of the refusal that ended a reading, to the front of `out`: nothing where it ended with its bytes. The number of bytes.
+pub fn stop_line(out: &mut [u8], n: u64, stop: Stop) -> usize
     ensures { λ r. ⌜ Pasted 0 0 (now (out .entry)) (stopLine n stop) r (now (out .exit)) ⌝ }
 {
-    if stop == 0 {
-        return 0;
+    match stop {
+        Stop::End => 0,
+        Stop::BadMark => no_line(out, 0, n, number_of(Refusal::BadMark)),
+        Stop::CutRecord => no_line(out, 0, n, number_of(Refusal::CutRecord)),
     }
-    no_line(out, 0, n, stop)
 }

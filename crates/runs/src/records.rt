@@ -1,10 +1,10 @@
 // Job records, document 01, "The job program": an edit as a two-byte mark and 16-bit words, high byte first.
 use edits::edit::Edit;
-use table::answer::Refusal;
 ghost use mathlib.Core.Path.{_≡_};
 ghost use Prim.Native.Nat.{_+_, _≤_, _<_};
 ghost use lib.ListN.{length};
 ghost use Rattle.runs.specs.Records.{word, signedWord, markOf, sizeOf, editOf, knownRecord, firstRecord};
+ghost use Rattle.runs.specs.Reading.{readsOn};
 
 // The marks, by document 01's names.
 pub enum Mark {
@@ -20,13 +20,21 @@ pub enum Marked {
     Unknown,
 }
 
+// Why no whole record follows.
+pub enum Stop {
+    // nothing follows
+    End,
+    // refusal 10
+    BadMark,
+    // refusal 11
+    CutRecord,
+}
+
 // What stands first among some bytes.
 pub enum Found {
     // a whole record of so many bytes
     Record { edit: Edit, size: usize },
-    // bad mark or cut record
-    Refused(Refusal),
-    Nothing,
+    Stopped(Stop),
 }
 
 // The 16-bit word at byte i, high byte first.
@@ -115,7 +123,7 @@ fn known_record(s: &[u8], m: Mark) -> Found
         let edit = edit_of(s, m);
         return Found::Record { edit, size };
     }
-    Found::Refused(Refusal::CutRecord)
+    Found::Stopped(Stop::CutRecord)
 }
 
 // The first record of some bytes. A lone byte is a cut record, whatever it is.
@@ -124,13 +132,24 @@ pub fn first_record(s: &[u8]) -> Found
 {
     let n = s.len();
     if n == 0 {
-        return Found::Nothing;
+        return Found::Stopped(Stop::End);
     }
     if n == 1 {
-        return Found::Refused(Refusal::CutRecord);
+        return Found::Stopped(Stop::CutRecord);
     }
     match mark_of(word(s, 0)) {
         Marked::Known(m) => known_record(s, m),
-        Marked::Unknown => Found::Refused(Refusal::BadMark),
+        Marked::Unknown => Found::Stopped(Stop::BadMark),
+    }
+}
+
+// Whether bytes that come are read. After a bad mark none are; a cut record may be whole with them.
+pub fn reads_on(stop: Stop) -> bool
+    ensures { λ r. ⌜ r ≡ readsOn stop ⌝ }
+{
+    match stop {
+        Stop::End => true,
+        Stop::BadMark => false,
+        Stop::CutRecord => true,
     }
 }

@@ -1,6 +1,7 @@
 // Records run over a table, with a line for each that is declined.
 use crate::lines::no_line;
 use crate::records::Found;
+use crate::records::Stop;
 use crate::records::first_record;
 use editor::apply::apply;
 use edits::edit::Edit;
@@ -24,8 +25,8 @@ pub struct Ran {
     pub next: u64,
     // the bytes of the lines
     pub written: usize,
-    // 0 if nothing is left, else the number of the refusal that ended the reading
-    pub stop: u64,
+    // why no whole record follows
+    pub stop: Stop,
 }
 
 // Does the edit of record n. One that is declined gets its line, from place `at` on. The place after it.
@@ -56,20 +57,12 @@ pub fn run_records(t: &mut [u16], bytes: &[u8], number: u64, out: &mut [u8]) -> 
                 at += size;
                 next += 1;
             }
-            Found::Refused(r) => {
+            Found::Stopped(stop) => {
                 return Ran {
                     taken: at,
                     next,
                     written: end,
-                    stop: number_of(r),
-                };
-            }
-            Found::Nothing => {
-                return Ran {
-                    taken: at,
-                    next,
-                    written: end,
-                    stop: 0,
+                    stop,
                 };
             }
         }

@@ -1,78 +1,87 @@
--- `print_report` is safe and ends. The invariant: the window lies in the report. The measure is the part of the report that is not printed.
-use Rattle.job.specs.Progress.{Showing, showing-none, showing-more, showing-same}
+-- `print_report` meets its contract. The invariant: the first `from` bytes of the report are handed over. The measure is what is left of it.
 use borrow.Author.Needs.{needs}
+use Rattle.job.specs.laws.Report.{Showing, showing-none, part-room, part-low, showing-more, showing-all}
+use Rattle.report.specs.Lines.{report}
+use Rattle.orbits.specs.laws.Truth.{clash}
 use lib.Seq.{length-take-le}
-use mathlib.Core.Path.{sym}
+use lib.ListN.{length}
 use native.Mathlib.Omega.{arith}
+use mathlib.Core.Path.{refl, sym}
 use Prim.Native.Nat.{_-_}
 use Rattle.job.proofs.print_report.Statement.{statement}
 use Rattle.job.proofs.print_report.Tie as tie
 
 abbrev Inv-loop : tie.InvT-loop
-Inv-loop t out₀ from₀ size₀ out from size = Showing t from size out
+Inv-loop t out₀ from₀ out from = Showing t out from
 
 abbrev μ-loop : tie.MeasureT-loop
-μ-loop t out₀ from₀ size₀ out from size = size - from
+μ-loop t out₀ from₀ out from = length (report t) - from
 
 large-buffer-requires : tie.Need-large-buffer-requires Inv-loop μ-loop
 large-buffer-requires c κs = search needs
 
-slice-aggregate-report : tie.Need-slice-aggregate-report Inv-loop μ-loop
-slice-aggregate-report c = c .before .large-buffer .ensures
-
-report-requires : tie.Need-report-requires Inv-loop μ-loop
-report-requires c κs = c .before .before .before .pre
-
 loop-holds : tie.Need-loop-holds Inv-loop μ-loop
-loop-holds c = showing-none _ (c .before .report .ensures) (c .before .before .before .large-buffer .ensures)
+loop-holds c = showing-none _ (c .large-buffer .ensures)
 
-sub-loop : tie.Need-sub-loop Inv-loop μ-loop
-sub-loop c = c .loop .inv .within
+slice-aggregate-show : tie.Need-slice-aggregate-show Inv-loop μ-loop
+slice-aggregate-show c =
+    let loop = c .before .loop in
+    loop .inv .buffer
 
-slice-aggregate-write-all : tie.Need-slice-aggregate-write-all Inv-loop μ-loop
-slice-aggregate-write-all c = c .before .before .loop .inv .buffer
+show-requires : tie.Need-show-requires Inv-loop μ-loop
+show-requires c κs =
+    let start = c .before .before .before .before in
+    start .pre
 
-write-all-requires : tie.Need-write-all-requires Inv-loop μ-loop
-write-all-requires c κs = search needs
+array-share-prefix-out : tie.Need-array-share-prefix-out Inv-loop μ-loop
+array-share-prefix-out c =
+    let loop = c .before .before .before .loop in
+    let show = c .before .show in
+    part-room (loop .inv) (show .ensures)
+
+slice-aggregate-print : tie.Need-slice-aggregate-print Inv-loop μ-loop
+slice-aggregate-print c =
+    let loop = c .before .before .before .before .loop in
+    let show = c .before .before .show in
+    sym (length-take-le _ _ (part-room (loop .inv) (show .ensures)))
+
+print-requires : tie.Need-print-requires Inv-loop μ-loop
+print-requires c κs = search needs
 
 add-from : tie.Need-add-from Inv-loop μ-loop
-add-from c = let k = c .before .before .before .loop .inv in let h = c .before .before .loop-test .taken in omega arith
+add-from c =
+    let loop = c .before .before .before .before .before .before .loop in
+    let show = c .before .before .before .before .show in
+    let print = c .before .print in
+    let low = part-low (loop .inv) (show .ensures) (print .ensures) in omega arith
 
-slice-aggregate-report-2 : tie.Need-slice-aggregate-report-2 Inv-loop μ-loop
-slice-aggregate-report-2 c = c .before .before .before .before .loop .inv .buffer
+returns : tie.Need-returns Inv-loop μ-loop
+returns c =
+    let loop = c .before .before .before .before .before .before .before .before .loop in
+    let show = c .before .before .before .before .before .before .show in
+    let print = c .before .before .before .print in
+    (λ e. absurd (clash e refl), part-low (loop .inv) (show .ensures) (print .ensures))
 
-report-requires-2 : tie.Need-report-requires-2 Inv-loop μ-loop
-report-requires-2 c κs = c .before .before .before .before .before .before .before .before .before .before .pre
+returns-2 : tie.Need-returns-2 Inv-loop μ-loop
+returns-2 c =
+    let loop = c .before .before .before .before .before .before .before .before .before .before .loop in
+    let show = c .before .before .before .before .before .before .before .before .show in
+    let print = c .before .before .before .before .before .print in
+    (λ e. showing-all (loop .inv) (show .ensures) (print .ensures) (c .if2 .taken), part-low (loop .inv) (show .ensures) (print .ensures))
 
 loop-less : tie.Need-loop-less Inv-loop μ-loop
 loop-less c =
-    let loop = c .before .before .before .before .before .before .loop in
-    let loop-test = c .before .before .before .before .before .loop-test in
-    let report2 = c .before .report2 in
-    let h = loop-test .taken in
-    let k = showing-more (loop .inv) (loop-test .taken) (report2 .ensures) in let same = showing-same (loop .inv) k in omega arith
+    let loop = c .before .before .before .before .before .before .before .before .before .before .loop in
+    let show = c .before .before .before .before .before .before .before .before .show in
+    let print = c .before .before .before .before .before .print in
+    showing-more (loop .inv) (show .ensures) (print .ensures) (c .if2 .left) .1
 
 loop-again : tie.Need-loop-again Inv-loop μ-loop
 loop-again c =
-    let loop = c .before .before .before .before .before .before .loop in
-    let loop-test = c .before .before .before .before .before .loop-test in
-    let report2 = c .before .report2 in
-    showing-more (loop .inv) (loop-test .taken) (report2 .ensures)
-
-sub-rest : tie.Need-sub-rest Inv-loop μ-loop
-sub-rest c = c .before .loop .inv .within
-
-array-share-prefix-out : tie.Need-array-share-prefix-out Inv-loop μ-loop
-array-share-prefix-out c = let k = c .before .loop .inv in let h = c .loop-test .left in omega arith
-
-slice-aggregate-write-all-2 : tie.Need-slice-aggregate-write-all-2 Inv-loop μ-loop
-slice-aggregate-write-all-2 c = sym (length-take-le _ _ (let k = c .before .before .loop .inv in let h = c .before .loop-test .left in omega arith))
-
-write-all-requires-2 : tie.Need-write-all-requires-2 Inv-loop μ-loop
-write-all-requires-2 c κs = search needs
-
-returns : tie.Need-returns Inv-loop μ-loop
-returns c = search needs
+    let loop = c .before .before .before .before .before .before .before .before .before .before .loop in
+    let show = c .before .before .before .before .before .before .before .before .show in
+    let print = c .before .before .before .before .before .print in
+    showing-more (loop .inv) (show .ensures) (print .ensures) (c .if2 .left) .0
 
 pub print-report-spec : {M : Type 1} → statement M
 print-report-spec =
@@ -81,19 +90,14 @@ print-report-spec =
     Inv-loop
     μ-loop
     large-buffer-requires
-    slice-aggregate-report
-    report-requires
     loop-holds
-    sub-loop
-    slice-aggregate-write-all
-    write-all-requires
-    add-from
-    slice-aggregate-report-2
-    report-requires-2
-    loop-less
-    loop-again
-    sub-rest
+    slice-aggregate-show
+    show-requires
     array-share-prefix-out
-    slice-aggregate-write-all-2
-    write-all-requires-2
-    returns)
+    slice-aggregate-print
+    print-requires
+    add-from
+    returns
+    returns-2
+    loop-less
+    loop-again)

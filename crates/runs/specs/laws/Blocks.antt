@@ -1,64 +1,66 @@
 -- Why the job program may read its input in blocks: what it prints for a block and then for the bytes that are left is what it prints for all.
 use Prim.Native.Nat.{ℕ, _+_, _<_}
 use native.Mathlib.Omega.{arith}
-use native.Mathlib.Nat.{add-assoc}
-use mathlib.Core.Path.{_≡_, sym, _∙_, ap, ap₂}
-use mathlib.Core.Logic.{_≢_}
-use mathlib.Core.List.{List, [], _++_, append-assoc}
-use lib.Dec.{eqb}
-use borrow.Author.Tests.{eqb-true, eqb-false, eq-eqb, ne-eqb}
+use mathlib.Core.Path.{_≡_, sym, _∙_, ap}
+use mathlib.Core.List.{List, [], _++_}
+use mathlib.Core.Bool.{true, false}
 use Rattle.orbits.specs.laws.Truth.{truth, holds, fails}
-use lib.ListN.{length, drop, length-append, length-drop}
-use Rattle.table.specs.Answers.{numberOf}
-use Rattle.table.specs.declared.answer.Refusal.the-variants.{BadMark}
+use lib.ListN.{length, drop, length-drop}
+use lib.Seq.{drop-drop, drop-append-le}
 use Rattle.runs.specs.Run.{run}
 use Rattle.runs.specs.laws.Run.{run-append}
-use Rattle.runs.specs.Reading.{Reading, reading}
+use Rattle.runs.specs.Reading.{reading, readsOn}
 use Rattle.runs.specs.laws.Reading.{joined, reading-blocks, reading-bad, reading-bounds}
-use Rattle.runs.specs.Lines.{stopLine, lines}
+use Rattle.runs.specs.Lines.{lines}
 use Rattle.runs.specs.laws.Lines.{lines-append}
 use Rattle.runs.specs.Blocks.{printedBy, printed, left}
 
-printed-joined : (t : List ℕ) (n : ℕ) (r q : Reading) → printedBy t n (joined r q) ≡ lines t n (r .edits) ++ printedBy (run t (r .edits)) (n + length (r .edits)) q
-printed-joined t n r q =
-    ap₂ _++_ (lines-append t n (r .edits) (q .edits)) (ap (λ k. stopLine k (q .stop)) (ap (λ k. n + k) (length-append (r .edits) (q .edits)) ∙ sym (add-assoc n (length (r .edits)) (length (q .edits)))))
-    ∙ append-assoc (lines t n (r .edits)) (lines (run t (r .edits)) (n + length (r .edits)) (q .edits)) (stopLine (n + length (r .edits) + length (q .edits)) (q .stop))
-
-pub left-none : (s : List ℕ) → reading s .stop ≡ numberOf BadMark → left s ≡ []
+pub left-none : (s : List ℕ) → readsOn (reading s .stop) ≡ false → left s ≡ []
 unfolding left
-left-none s e = rw (eq-eqb (reading s .stop) (numberOf BadMark) e)
+left-none s e = rw e
 
-pub left-some : (s : List ℕ) → reading s .stop ≢ numberOf BadMark → left s ≡ drop (reading s .taken) s
+pub left-some : (s : List ℕ) → readsOn (reading s .stop) ≡ true → left s ≡ drop (reading s .taken) s
 unfolding left
-left-some s e = rw (ne-eqb (reading s .stop) (numberOf BadMark) e)
+left-some s e = rw e
 
 -- fewer bytes than the longest record has
 pub left-few : (s : List ℕ) → length (left s) < 10
-left-few s = elim (truth (eqb (reading s .stop) (numberOf BadMark))) [
-  | holds e ↦ rw (left-none s (eqb-true (reading s .stop) (numberOf BadMark) e)) (omega arith)
-  | fails e ↦
-      let q = eqb-false (reading s .stop) (numberOf BadMark) e in
-      let rest = reading-bounds s .rest q in
-      rw (left-some s q, length-drop (reading s .taken) s) rest
+left-few s = elim (truth (readsOn (reading s .stop))) [
+  | holds e ↦ let rest = reading-bounds s .rest e in rw (left-some s e, length-drop (reading s .taken) s) rest
+  | fails e ↦ rw (left-none s e) (omega arith)
 ]
 
-reading-left : (a b : List ℕ) → reading a .stop ≢ numberOf BadMark → reading (a ++ b) ≡ joined (reading a) (reading (left a ++ b))
+pub reading-left : (a b : List ℕ) → readsOn (reading a .stop) ≡ true → reading (a ++ b) ≡ joined (reading a) (reading (left a ++ b))
 reading-left a b h = reading-blocks a b h ∙ ap (λ l. joined (reading a) (reading (l ++ b))) (sym (left-some a h))
+
+-- what is left of all is what is left of the bytes that were left and those that came
+pub left-again : (a b : List ℕ) → readsOn (reading a .stop) ≡ true → left (a ++ b) ≡ left (left a ++ b)
+left-again a b h =
+    let same : reading (a ++ b) ≡ joined (reading a) (reading (left a ++ b)) = reading-left a b h in
+    let stops : readsOn (reading (a ++ b) .stop) ≡ readsOn (reading (left a ++ b) .stop) = ap (λ r. readsOn (r .stop)) same in
+    elim (truth (readsOn (reading (left a ++ b) .stop))) [
+      | holds e ↦
+          left-some (a ++ b) (stops ∙ e)
+          ∙ ap (λ r. drop (r .taken) (a ++ b)) same
+          ∙ sym (drop-drop (reading (left a ++ b) .taken) (reading a .taken) (a ++ b))
+          ∙ ap (drop (reading (left a ++ b) .taken)) (drop-append-le (reading a .taken) a b (reading-bounds a .within) ∙ ap (λ l. l ++ b) (sym (left-some a h)))
+          ∙ sym (left-some (left a ++ b) e)
+      | fails e ↦ left-none (a ++ b) (stops ∙ e) ∙ sym (left-none (left a ++ b) e)
+    ]
 
 -- a block `a`, and what comes after it
 module _ (t : List ℕ) (n : ℕ) (a b : List ℕ) where
   -- the bytes of the block that are left are read again, before those that come
-  module _ (h : reading a .stop ≢ numberOf BadMark) where
-    pub printed-blocks : printed t n (a ++ b)
-        ≡ lines t n (reading a .edits) ++ printed (run t (reading a .edits)) (n + length (reading a .edits)) (left a ++ b)
-    unfolding printed
-    printed-blocks = ap (printedBy t n) (reading-left a b h) ∙ printed-joined t n (reading a) (reading (left a ++ b))
+  module _ (h : readsOn (reading a .stop) ≡ true) where
+    pub lines-blocks : lines t n (reading (a ++ b) .edits)
+        ≡ lines t n (reading a .edits) ++ lines (run t (reading a .edits)) (n + length (reading a .edits)) (reading (left a ++ b) .edits)
+    lines-blocks = ap (λ r. lines t n (r .edits)) (reading-left a b h) ∙ lines-append t n (reading a .edits) (reading (left a ++ b) .edits)
 
     pub run-blocks : run t (reading (a ++ b) .edits) ≡ run (run t (reading a .edits)) (reading (left a ++ b) .edits)
     run-blocks = ap (λ r. run t (r .edits)) (reading-left a b h) ∙ run-append t (reading a .edits) (reading (left a ++ b) .edits)
 
   -- after a bad mark nothing is read
-  module _ (h : reading a .stop ≡ numberOf BadMark) where
+  module _ (h : readsOn (reading a .stop) ≡ false) where
     pub printed-bad : printed t n (a ++ b) ≡ printed t n a
     unfolding printed
     printed-bad = ap (printedBy t n) (reading-bad a b h)

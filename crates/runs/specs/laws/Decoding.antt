@@ -12,14 +12,14 @@ use mir.Syntax.{w16}
 use mir.Val.{SFits, toZ, ofZ}
 use mir.Facts.{toZ-pos, toZ-ofZ}
 use borrow.Author.Tests.{lt-ltb, le-ltb, eq-eqb, ne-eqb}
-use Rattle.table.specs.declared.answer.Refusal.the-variants.{CutRecord}
 use Rattle.edits.specs.declared.edit.Edit.{Edit}
 use Rattle.edits.specs.declared.edit.Edit.the-variants.{AddVertex, RemoveVertex, InsertEdge, DeleteEdge, TurnEdge}
 use Rattle.runs.specs.declared.records.Mark.{Mark}
 use Rattle.runs.specs.declared.records.Mark.the-variants.{AV, RV, IE, DE, TW}
 use Rattle.runs.specs.declared.records.Marked.{Marked}
 use Rattle.runs.specs.declared.records.Found.{Found}
-use Rattle.runs.specs.declared.records.Found.the-variants.{Record, Refused, Nothing}
+use Rattle.runs.specs.declared.records.Found.the-variants.{Record, Stopped}
+use Rattle.runs.specs.declared.records.Stop.the-variants.{End, CutRecord}
 use Rattle.runs.specs.Records.{word, signedWord, markOf, sizeOf, editOf, knownRecord, markedRecord, firstRecord}
 
 -- the two halves of the words, as the code makes them
@@ -61,7 +61,7 @@ module _ (m : Mark) (s : List ℕ) where
       → InsertEdge v c₁ c₂ (toZ w16 (ofZ w16 k)) ≡ editOf m s
   insert-made e f g i h j k = rw (e, f, g, i, stored h j k)
 
-  pub known-cut : {n : ℕ} → n ≡ sizeOf m → length s < n → Refused CutRecord ≡ knownRecord m s
+  pub known-cut : {n : ℕ} → n ≡ sizeOf m → length s < n → Stopped CutRecord ≡ knownRecord m s
   unfolding knownRecord
   known-cut e h = rw (lt-ltb (length s) (sizeOf m) (rw e at h))
 
@@ -70,11 +70,11 @@ module _ (m : Mark) (s : List ℕ) where
   known-whole e h f = rw (le-ltb (length s) (sizeOf m) (rw e at h), e, f)
 
 module _ (s : List ℕ) where
-  pub first-nothing : length s ≡ 0 → Nothing ≡ firstRecord s
+  pub first-nothing : length s ≡ 0 → Stopped End ≡ firstRecord s
   unfolding firstRecord
   first-nothing e = rw (eq-eqb (length s) 0 e)
 
-  pub first-lone : length s ≢ 0 → length s ≡ 1 → Refused CutRecord ≡ firstRecord s
+  pub first-lone : length s ≢ 0 → length s ≡ 1 → Stopped CutRecord ≡ firstRecord s
   unfolding firstRecord
   first-lone n e = rw (ne-eqb (length s) 0 n, eq-eqb (length s) 1 e)
 

@@ -1,9 +1,8 @@
 -- The lines for records that are declined, document 01, "The job program".
-use Prim.Native.Nat.{ℕ, zero, suc, _+_, _*_, _≤_, _<_, _^_}
+use Prim.Native.Nat.{ℕ, suc, _+_, _*_, _≤_, _<_, _^_}
 use native.Mathlib.Omega.{arith}
 use native.Mathlib.Nat.{add-zero}
-use mathlib.Core.Path.{_≡_, refl, sym, _∙_, ap}
-use mathlib.Core.Logic.{_≢_}
+use mathlib.Core.Path.{_≡_, sym, _∙_, ap}
 use mathlib.Core.List.{List, [], _∷_, _++_, append-assoc, append-nil}
 use lib.ListN.{length, length-append}
 use Rattle.text.specs.Decimal.{decimal}
@@ -12,16 +11,14 @@ use Rattle.table.specs.Answers.{numberOf}
 use Rattle.table.specs.declared.answer.Answer.{Answer}
 use Rattle.table.specs.declared.answer.Answer.the-variants.{Done, Declined}
 use Rattle.table.specs.declared.answer.Refusal.{Refusal}
+use Rattle.table.specs.declared.answer.Refusal.the-variants as refusal
 use Rattle.edits.specs.Edits.{answer, edited}
 use Rattle.edits.specs.declared.edit.Edit.{Edit}
+use Rattle.runs.specs.declared.records.Stop.{Stop}
+use Rattle.runs.specs.declared.records.Stop.the-variants.{End, BadMark, CutRecord}
 use Rattle.runs.specs.Run.{run}
 use Rattle.runs.specs.Lines.{noLine, lineBy, editLine, lines, stopLine}
 use Rattle.table.specs.laws.Answers.{number-low}
-
-pub stop-some : (n r : ℕ) → r ≢ 0 → noLine n r ≡ stopLine n r
-unfolding stopLine
-stop-some n zero h = absurd (h refl)
-stop-some n (suc r) h = refl
 
 -- a run that goes on
 pub lines-append : (t : List ℕ) (n : ℕ) (Es Fs : List Edit) → lines t n (Es ++ Fs) ≡ lines t n Es ++ lines (run t Es) (n + length Es) Fs
@@ -41,9 +38,12 @@ lines-one t n E = append-nil (editLine t n E)
 number-few : (r : Refusal) → length (decimal (numberOf r)) ≤ 2
 number-few r = let low = number-low r in decimal-short 1 (numberOf r) (omega arith)
 
+refused-few : (n : ℕ) (r : Refusal) → n < 2 ^ 64 → length (noLine n (numberOf r)) ≤ 27
+refused-few n r h = let few = decimal-few n h in let two = number-few r in simp length-append (omega arith)
+
 answer-few : (n : ℕ) (a : Answer) → n < 2 ^ 64 → length (lineBy n a) ≤ 27
 answer-few n (Done f) h = omega arith
-answer-few n (Declined r) h = let few = decimal-few n h in let two = number-few r in simp length-append (omega arith)
+answer-few n (Declined r) h = refused-few n r h
 
 line-few : (t : List ℕ) (n : ℕ) (E : Edit) → n < 2 ^ 64 → length (editLine t n E) ≤ 27
 unfolding editLine
@@ -57,8 +57,9 @@ lines-few t n (E ∷ Es) h =
     let rest = lines-few (edited t E) (suc n) Es (omega arith) in
     rw length-append (omega arith)
 
--- the last line, whatever its number
-pub stop-few : (n r : ℕ) → n < 2 ^ 64 → r < 2 ^ 64 → length (stopLine n r) ≤ 45
+-- the last line
+pub stop-few : (n : ℕ) (stop : Stop) → n < 2 ^ 64 → length (stopLine n stop) ≤ 27
 unfolding stopLine
-stop-few n zero h l = omega arith
-stop-few n (suc r) h l = let first = decimal-few n h in let second = decimal-few (suc r) l in simp length-append (omega arith)
+stop-few n End h = omega arith
+stop-few n BadMark h = refused-few n refusal.BadMark h
+stop-few n CutRecord h = refused-few n refusal.CutRecord h

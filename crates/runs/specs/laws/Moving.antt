@@ -4,22 +4,21 @@ use native.Mathlib.Omega.{arith}
 use native.Mathlib.Numerals.{add-one}
 use native.Mathlib.Nat.{sub-zero, zero-sub, suc-sub-suc}
 use mathlib.Core.Path.{_≡_, refl, sym, _∙_, ap}
-use mathlib.Core.Logic.{_≢_}
+use mathlib.Core.Bool.{Bool, true, false}
 use mathlib.Core.List.{List, [], _∷_}
 use lib.ListN.{length, getD, set, take, drop, length-drop}
-use lib.Seq.{sets, getD-set-other, getD-drop, take-suc, take-nil, length-take-le}
-use Rattle.table.specs.Answers.{numberOf}
-use Rattle.table.specs.declared.answer.Refusal.the-variants.{BadMark}
+use lib.Seq.{sets, getD-drop, take-suc, take-nil, length-take-le}
+use Rattle.text.specs.laws.Paste.{sets-ahead}
+use Rattle.listing.specs.laws.Writing.{Front, front-none, front-more}
 use Rattle.runs.specs.declared.run.Ran.{Ran}
 use Rattle.runs.specs.declared.block.Block.{Block}
-use Rattle.runs.specs.Reading.{reading}
+use Rattle.runs.specs.Reading.{reading, readsOn}
 use Rattle.runs.specs.laws.Reading.{reading-bounds}
 use Rattle.runs.specs.Lines.{lines}
 use Rattle.runs.specs.laws.Lines.{lines-few}
 use Rattle.runs.specs.Blocks.{left}
 use Rattle.runs.specs.laws.Blocks.{left-none, left-some, left-few}
 use Rattle.runs.specs.laws.Running.{Ready, ran}
-use Rattle.table.specs.laws.Front.{Front, front-none, front-more}
 
 -- what the code answers
 abbrev pub blockOf : List ℕ → ℕ → List ℕ → Block
@@ -46,10 +45,6 @@ block-fits t {number} {s} h e =
     rw e (record { few = left-few s; next = omega arith; written = omega arith })
 
 -- the loop that moves bytes to the front: the first i stand
-
-sets-ahead : (l : List ℕ) (i : ℕ) (vs : List ℕ) (j : ℕ) → i + length vs ≤ j → getD (sets l i vs) j 0 ≡ getD l j 0
-sets-ahead l i [] j h = refl
-sets-ahead l i (v ∷ vs) j h = sets-ahead (set l i v) (suc i) vs j (omega arith) ∙ getD-set-other l i j v 0 (omega arith)
 
 -- byte i of those that are moved still stands where it stood
 not-moved : {buf₀ : List ℕ} {i : ℕ} {buf : List ℕ} (from : ℕ) → Front (take i (drop from buf₀)) buf₀ 0 i buf → i ≤ length (drop from buf₀)
@@ -101,10 +96,10 @@ drop-take (suc a) (suc n) [] = sym (take-nil (suc n - suc a))
 drop-take (suc a) (suc n) (x ∷ l) = drop-take a n l ∙ ap (λ k. take k (drop a l)) (sym (suc-sub-suc n a))
 
 module _ (t : List ℕ) (number : ℕ) (buf : List ℕ) (n : ℕ) {r : Ran} (e : r ≡ ran t number (take n buf)) where
-  pub block-bad : r .stop ≡ numberOf BadMark
+  pub block-bad : {on : Bool} → on ≡ readsOn (r .stop) → on ≡ false
       → (record { left = 0; next = r .next; written = r .written; stop = r .stop } ≡ blockOf t number (take n buf)) × (buf ≡ sets buf 0 (left (take n buf)))
-  block-bad h =
-      let none : left (take n buf) ≡ [] = left-none (take n buf) (sym (ap (λ x. x .stop) e) ∙ h) in
+  block-bad g h =
+      let none : left (take n buf) ≡ [] = left-none (take n buf) (sym (g ∙ ap (λ x. readsOn (x .stop)) e) ∙ h) in
       rw (e, none) (refl, refl)
 
   module _ (h : n ≤ length buf) where
@@ -115,10 +110,10 @@ module _ (t : List ℕ) (number : ℕ) (buf : List ℕ) (n : ℕ) {r : Ran} (e :
         let same : r .taken ≡ reading (take n buf) .taken = ap (λ x. x .taken) e in
         omega arith
 
-    pub block-more : {buf′ : List ℕ} → r .stop ≢ numberOf BadMark → buf′ ≡ sets buf 0 (take (n - r .taken) (drop (r .taken) buf))
+    pub block-more : {on : Bool} {buf′ : List ℕ} → on ≡ readsOn (r .stop) → on ≡ true → buf′ ≡ sets buf 0 (take (n - r .taken) (drop (r .taken) buf))
         → (record { left = n - r .taken; next = r .next; written = r .written; stop = r .stop } ≡ blockOf t number (take n buf)) × (buf′ ≡ sets buf 0 (left (take n buf)))
-    block-more q f =
-        let some : left (take n buf) ≡ drop (reading (take n buf) .taken) (take n buf) = left-some (take n buf) (λ p. q (ap (λ x. x .stop) e ∙ p)) in
+    block-more g q f =
+        let some : left (take n buf) ≡ drop (reading (take n buf) .taken) (take n buf) = left-some (take n buf) (sym (g ∙ ap (λ x. readsOn (x .stop)) e) ∙ q) in
         let size : length (left (take n buf)) ≡ n - reading (take n buf) .taken =
         ap length some ∙ length-drop (reading (take n buf) .taken) (take n buf) ∙ ap (λ k. k - reading (take n buf) .taken) (length-take-le n buf h) in
         (rw (e, size), f ∙ rw (e, some) (ap (sets buf 0) (sym (drop-take (reading (take n buf) .taken) n buf))))

@@ -1,21 +1,18 @@
 -- All records of some bytes, document 01, "The job program": the edits, the bytes that they took, and why the reading ended.
---     reading-nothing, reading-refused, reading-record    what a reading is, by the first record
+--     reading-stopped, reading-record                     what a reading is, by the first record
 --     reading-blocks, reading-bad                         bytes that come in blocks
 --     reading-bounds                                      how many bytes and edits
 use Prim.Native.Nat.{ℕ, zero, suc, _+_, _-_, _*_, _≤_, _<_}
 use native.Mathlib.Omega.{arith}
 use native.Mathlib.Nat.{zero-add, add-zero, add-assoc}
 use mathlib.Core.Path.{_≡_, refl, sym, _∙_, ap, ap₂}
-use mathlib.Core.Logic.{_≢_}
+use mathlib.Core.Bool.{true, false}
 use mathlib.Core.List.{List, [], _∷_, _++_, append-assoc, append-nil}
 use lib.Dec.{ltb, eqb}
 use lib.ListN.{length, drop, length-append, length-drop, List·getD-append}
 use lib.Seq.{drop-drop, drop-append-le}
 use borrow.Author.Tests.{ltb-true, ltb-false, le-ltb, eqb-true, eqb-false, ne-eqb}
-use Rattle.orbits.specs.laws.Truth.{truth, holds, fails}
-use Rattle.table.specs.Answers.{numberOf}
-use Rattle.table.specs.declared.answer.Refusal.{Refusal}
-use Rattle.table.specs.declared.answer.Refusal.the-variants.{BadMark, CutRecord}
+use Rattle.orbits.specs.laws.Truth.{truth, holds, fails, clash}
 use Rattle.edits.specs.declared.edit.Edit.{Edit}
 use Rattle.edits.specs.declared.edit.Edit.the-variants.{AddVertex, RemoveVertex, DeleteEdge, TurnEdge}
 use Rattle.runs.specs.declared.records.Mark.{Mark}
@@ -23,9 +20,11 @@ use Rattle.runs.specs.declared.records.Mark.the-variants.{AV, RV, IE, DE
 use Rattle.runs.specs.declared.records.Marked.{Marked}
 use Rattle.runs.specs.declared.records.Marked.the-variants.{Known, Unknown}
 use Rattle.runs.specs.declared.records.Found.{Found}
-use Rattle.runs.specs.declared.records.Found.the-variants.{Record, Refused, Nothing}
+use Rattle.runs.specs.declared.records.Found.the-variants.{Record, Stopped}
+use Rattle.runs.specs.declared.records.Stop.{Stop}
+use Rattle.runs.specs.declared.records.Stop.the-variants.{End, BadMark, CutRecord}
 use Rattle.runs.specs.Records.{word, signedWord, markOf, sizeOf, editOf, knownRecord, markedRecord, firstRecord}
-use Rattle.runs.specs.Reading.{Reading, ended, after, readUpTo, reading}
+use Rattle.runs.specs.Reading.{Reading, ended, after, readUpTo, reading, readsOn}
 
 -- a reading that goes on where another left off
 abbrev pub joined : Reading → Reading → Reading
@@ -41,9 +40,9 @@ mark-size DE = (omega arith, omega arith)
 mark-size TW = (omega arith, omega arith)
 
 pub data First (s : List ℕ) (f : Found) : Type 0 where
-  nothing : length s ≡ 0 → f ≡ Nothing → First s f
-  cut : 1 ≤ length s → length s < 10 → f ≡ Refused CutRecord → First s f
-  unknown : 2 ≤ length s → markOf (word s 0) ≡ Unknown → f ≡ Refused BadMark → First s f
+  nothing : length s ≡ 0 → f ≡ Stopped End → First s f
+  cut : 1 ≤ length s → length s < 10 → f ≡ Stopped CutRecord → First s f
+  unknown : 2 ≤ length s → markOf (word s 0) ≡ Unknown → f ≡ Stopped BadMark → First s f
   whole : (m : Mark) → markOf (word s 0) ≡ Known m → sizeOf m ≤ length s → f ≡ Record (editOf m s) (sizeOf m) → First s f
 
 known-first : (s : List ℕ) (m : Mark) → 2 ≤ length s → markOf (word s 0) ≡ Known m → First s (knownRecord m s)
@@ -78,17 +77,14 @@ pub record Sized (s : List ℕ) (k : ℕ) : Type 0 where
 record-parts : {E F : Edit} {k l : ℕ} → Record E k ≡ Record F l → k ≡ l
 record-parts e = cc
 
-refused-other : {E : Edit} {k : ℕ} {r : Refusal} → Refused r ≡ Record E k → ⊥
-refused-other e = let z : _≡_ {A = ℕ} 0 1 = cc in omega arith
-
-nothing-other : {E : Edit} {k : ℕ} → Nothing ≡ Record E k → ⊥
-nothing-other e = let z : _≡_ {A = ℕ} 0 1 = cc in omega arith
+stopped-other : {E : Edit} {k : ℕ} {x : Stop} → Stopped x ≡ Record E k → ⊥
+stopped-other e = let z : _≡_ {A = ℕ} 0 1 = cc in omega arith
 
 pub record-sized : (s : List ℕ) {E : Edit} {k : ℕ} → firstRecord s ≡ Record E k → Sized s k
 record-sized s e = elim (first-view s) [
-  | nothing h f ↦ absurd (nothing-other (sym f ∙ e))
-  | cut h l f ↦ absurd (refused-other (sym f ∙ e))
-  | unknown h g f ↦ absurd (refused-other (sym f ∙ e))
+  | nothing h f ↦ absurd (stopped-other (sym f ∙ e))
+  | cut h l f ↦ absurd (stopped-other (sym f ∙ e))
+  | unknown h g f ↦ absurd (stopped-other (sym f ∙ e))
   | whole m g h f ↦
       let size = record-parts (sym f ∙ e) in
       let low = mark-size m in
@@ -98,24 +94,20 @@ record-sized s e = elim (first-view s) [
 -- a reading, by the first record
 
 module _ (n : ℕ) (s : List ℕ) where
-  upTo-nothing : firstRecord s ≡ Nothing → readUpTo (suc n) s ≡ ended 0
+  upTo-stopped : (x : Stop) → firstRecord s ≡ Stopped x → readUpTo (suc n) s ≡ ended x
   unfolding readUpTo
-  upTo-nothing e = rw e
-
-  upTo-refused : (r : Refusal) → firstRecord s ≡ Refused r → readUpTo (suc n) s ≡ ended (numberOf r)
-  unfolding readUpTo
-  upTo-refused r e = rw e
+  upTo-stopped x e = rw e
 
   upTo-record : (E : Edit) (k : ℕ) → firstRecord s ≡ Record E k → readUpTo (suc n) s ≡ after E k (readUpTo n (drop k s))
   unfolding readUpTo
   upTo-record E k e = rw e
 
 -- more records than bytes allow change nothing
-none-left : (n : ℕ) (s : List ℕ) → length s ≤ 0 → readUpTo n s ≡ ended 0
+none-left : (n : ℕ) (s : List ℕ) → length s ≤ 0 → readUpTo n s ≡ ended End
 unfolding readUpTo
 none-left zero s h = refl
 none-left (suc n) s h = elim (first-view s) [
-  | nothing z f ↦ upTo-nothing n s f
+  | nothing z f ↦ upTo-stopped n s End f
   | cut t c f ↦ absurd (omega arith)
   | unknown t g f ↦ absurd (omega arith)
   | whole m g t f ↦ let low = mark-size m in absurd (omega arith)
@@ -125,9 +117,9 @@ enough : (n m : ℕ) (s : List ℕ) → length s ≤ n → length s ≤ m → re
 enough zero m s h l = none-left zero s h ∙ sym (none-left m s h)
 enough (suc n) zero s h l = none-left (suc n) s l ∙ sym (none-left zero s l)
 enough (suc n) (suc m) s h l = elim (first-view s) [
-  | nothing z f ↦ upTo-nothing n s f ∙ sym (upTo-nothing m s f)
-  | cut t c f ↦ upTo-refused n s CutRecord f ∙ sym (upTo-refused m s CutRecord f)
-  | unknown t g f ↦ upTo-refused n s BadMark f ∙ sym (upTo-refused m s BadMark f)
+  | nothing z f ↦ upTo-stopped n s End f ∙ sym (upTo-stopped m s End f)
+  | cut t c f ↦ upTo-stopped n s CutRecord f ∙ sym (upTo-stopped m s CutRecord f)
+  | unknown t g f ↦ upTo-stopped n s BadMark f ∙ sym (upTo-stopped m s BadMark f)
   | whole k g t f ↦
       let low = mark-size k in
       let left = length-drop (sizeOf k) s in
@@ -141,11 +133,8 @@ unfolding reading
 reading-suc s = enough (length s) (suc (length s)) s (omega arith) (omega arith)
 
 module _ (s : List ℕ) where
-  pub reading-nothing : firstRecord s ≡ Nothing → reading s ≡ ended 0
-  reading-nothing e = reading-suc s ∙ upTo-nothing (length s) s e
-
-  pub reading-refused : (r : Refusal) → firstRecord s ≡ Refused r → reading s ≡ ended (numberOf r)
-  reading-refused r e = reading-suc s ∙ upTo-refused (length s) s r e
+  pub reading-stopped : (x : Stop) → firstRecord s ≡ Stopped x → reading s ≡ ended x
+  reading-stopped x e = reading-suc s ∙ upTo-stopped (length s) s x e
 
   pub reading-record : (E : Edit) (k : ℕ) → firstRecord s ≡ Record E k → reading s ≡ after E k (reading (drop k s))
   unfolding reading
@@ -155,19 +144,19 @@ module _ (s : List ℕ) where
 
 -- bytes that come in blocks
 
-pub joined-none : (n : ℕ) (r : Reading) → joined (ended n) r ≡ r
-joined-none n r = ap (λ t. record { edits = r .edits; taken = t; stop = r .stop }) (zero-add (r .taken))
+pub joined-none : (x : Stop) (r : Reading) → joined (ended x) r ≡ r
+joined-none x r = ap (λ t. record { edits = r .edits; taken = t; stop = r .stop }) (zero-add (r .taken))
 
 after-joined : (E : Edit) (k : ℕ) (r q : Reading) → after E k (joined r q) ≡ joined (after E k r) q
 after-joined E k r q = ap (λ t. record { edits = E ∷ (r .edits ++ q .edits); taken = t; stop = q .stop }) (sym (add-assoc k (r .taken) (q .taken)))
 
 -- one edit more, and the end
-pub joined-after : (r : Reading) (E : Edit) (k : ℕ) (q : Reading) → joined r (after E k q) ≡ joined (record { edits = r .edits ++ (E ∷ []); taken = r .taken + k; stop = 0 }) q
+pub joined-after : (r : Reading) (E : Edit) (k : ℕ) (q : Reading) → joined r (after E k q) ≡ joined (record { edits = r .edits ++ (E ∷ []); taken = r .taken + k; stop = End }) q
 joined-after r E k q =
     ap₂ (λ l t. record { edits = l; taken = t; stop = q .stop }) (sym (append-assoc (r .edits) (E ∷ []) (q .edits))) (sym (add-assoc (r .taken) k (q .taken)))
 
-pub joined-ended : (Es : List Edit) (t n : ℕ) → joined (record { edits = Es; taken = t; stop = 0 }) (ended n) ≡ record { edits = Es; taken = t; stop = n }
-joined-ended Es t n = rw (append-nil Es, add-zero t)
+pub joined-ended : (Es : List Edit) (t : ℕ) (x : Stop) → joined (record { edits = Es; taken = t; stop = End }) (ended x) ≡ record { edits = Es; taken = t; stop = x }
+joined-ended Es t x = rw (append-nil Es, add-zero t)
 
 -- more bytes do not change a whole record
 word-append : (s b : List ℕ) (i : ℕ) → i + 1 < length s → word (s ++ b) i ≡ word s i
@@ -188,19 +177,19 @@ whole-append m s b e h =
     let known : markOf (word (s ++ b) 0) ≡ Known m = ap markOf (word-append s b 0 (omega arith)) ∙ e in
     rw (ne-eqb (length (s ++ b)) 0 (omega arith), ne-eqb (length (s ++ b)) 1 (omega arith), known, le-ltb (length (s ++ b)) (sizeOf m) (omega arith), edit-append m s b h)
 
-blocks : (n : ℕ) (a b : List ℕ) → readUpTo n a .stop ≢ numberOf BadMark → reading (a ++ b) ≡ joined (readUpTo n a) (reading (drop (readUpTo n a .taken) a ++ b))
+blocks : (n : ℕ) (a b : List ℕ) → readsOn (readUpTo n a .stop) ≡ true → reading (a ++ b) ≡ joined (readUpTo n a) (reading (drop (readUpTo n a .taken) a ++ b))
 unfolding readUpTo
-blocks zero a b h = sym (joined-none 0 (reading (a ++ b)))
+blocks zero a b h = sym (joined-none End (reading (a ++ b)))
 blocks (suc n) a b h = elim (first-view a) [
-  | nothing z f ↦ rw (upTo-nothing n a f) (sym (joined-none 0 (reading (a ++ b))))
-  | cut t c f ↦ rw (upTo-refused n a CutRecord f) (sym (joined-none 11 (reading (a ++ b))))
-  | unknown t g f ↦ absurd (h (ap (λ r. r .stop) (upTo-refused n a BadMark f)))
+  | nothing z f ↦ rw (upTo-stopped n a End f) (sym (joined-none End (reading (a ++ b))))
+  | cut t c f ↦ rw (upTo-stopped n a CutRecord f) (sym (joined-none CutRecord (reading (a ++ b))))
+  | unknown t g f ↦ absurd (clash h (ap (λ r. readsOn (r .stop)) (upTo-stopped n a BadMark f)))
   | whole m g t f ↦
       let E = editOf m a in
       let k = sizeOf m in
       let r = readUpTo n (drop k a) in
       let first = upTo-record n a E k f in
-      let next = blocks n (drop k a) b (λ q. h (ap (λ x. x .stop) first ∙ q)) in
+      let next = blocks n (drop k a) b (sym (ap (λ x. readsOn (x .stop)) first) ∙ h) in
       rw first
       (reading-record (a ++ b) E k (whole-append m a b g t)
       ∙ ap (after E k) (ap reading (drop-append-le k a b t) ∙ next)
@@ -209,35 +198,35 @@ blocks (suc n) a b h = elim (first-view a) [
 ]
 
 -- a cut record may be whole with the bytes that follow it
-pub reading-blocks : (a b : List ℕ) → reading a .stop ≢ numberOf BadMark → reading (a ++ b) ≡ joined (reading a) (reading (drop (reading a .taken) a ++ b))
+pub reading-blocks : (a b : List ℕ) → readsOn (reading a .stop) ≡ true → reading (a ++ b) ≡ joined (reading a) (reading (drop (reading a .taken) a ++ b))
 unfolding reading
 reading-blocks a b h = blocks (length a) a b h
 
-unknown-append : (s b : List ℕ) → markOf (word s 0) ≡ Unknown → 2 ≤ length s → firstRecord (s ++ b) ≡ Refused BadMark
+unknown-append : (s b : List ℕ) → markOf (word s 0) ≡ Unknown → 2 ≤ length s → firstRecord (s ++ b) ≡ Stopped BadMark
 unfolding firstRecord
 unknown-append s b e h =
     let size = length-append s b in
     let same : markOf (word (s ++ b) 0) ≡ Unknown = ap markOf (word-append s b 0 (omega arith)) ∙ e in
     rw (ne-eqb (length (s ++ b)) 0 (omega arith), ne-eqb (length (s ++ b)) 1 (omega arith), same)
 
-bad : (n : ℕ) (a b : List ℕ) → readUpTo n a .stop ≡ numberOf BadMark → reading (a ++ b) ≡ readUpTo n a
+bad : (n : ℕ) (a b : List ℕ) → readsOn (readUpTo n a .stop) ≡ false → reading (a ++ b) ≡ readUpTo n a
 unfolding readUpTo
-bad zero a b h = absurd (omega arith)
+bad zero a b h = absurd (clash refl h)
 bad (suc n) a b h = elim (first-view a) [
-  | nothing z f ↦ let s = sym (ap (λ x. x .stop) (upTo-nothing n a f)) ∙ h in absurd (omega arith)
-  | cut t c f ↦ let s = sym (ap (λ x. x .stop) (upTo-refused n a CutRecord f)) ∙ h in absurd (omega arith)
-  | unknown t g f ↦ reading-refused (a ++ b) BadMark (unknown-append a b g t) ∙ sym (upTo-refused n a BadMark f)
+  | nothing z f ↦ absurd (clash (ap (λ x. readsOn (x .stop)) (upTo-stopped n a End f)) h)
+  | cut t c f ↦ absurd (clash (ap (λ x. readsOn (x .stop)) (upTo-stopped n a CutRecord f)) h)
+  | unknown t g f ↦ reading-stopped (a ++ b) BadMark (unknown-append a b g t) ∙ sym (upTo-stopped n a BadMark f)
   | whole m g t f ↦
       let E = editOf m a in
       let k = sizeOf m in
       let first = upTo-record n a E k f in
       reading-record (a ++ b) E k (whole-append m a b g t)
-      ∙ ap (after E k) (ap reading (drop-append-le k a b t) ∙ bad n (drop k a) b (sym (ap (λ x. x .stop) first) ∙ h))
+      ∙ ap (after E k) (ap reading (drop-append-le k a b t) ∙ bad n (drop k a) b (sym (ap (λ x. readsOn (x .stop)) first) ∙ h))
       ∙ sym first
 ]
 
 -- a bad mark is bad whatever follows
-pub reading-bad : (a b : List ℕ) → reading a .stop ≡ numberOf BadMark → reading (a ++ b) ≡ reading a
+pub reading-bad : (a b : List ℕ) → readsOn (reading a .stop) ≡ false → reading (a ++ b) ≡ reading a
 unfolding reading
 reading-bad a b h = bad (length a) a b h
 
@@ -245,15 +234,15 @@ reading-bad a b h = bad (length a) a b h
 pub record Bounds (s : List ℕ) (r : Reading) : Type 0 where
   pub within : r .taken ≤ length s
   pub some : 4 * length (r .edits) ≤ r .taken
-  pub rest : r .stop ≢ numberOf BadMark → length s - r .taken < 10
+  pub rest : readsOn (r .stop) ≡ true → length s - r .taken < 10
 
 bounds : (n : ℕ) (s : List ℕ) → length s ≤ n → Bounds s (readUpTo n s)
 unfolding readUpTo
 bounds zero s h = record { within = omega arith; some = omega arith; rest = λ q. omega arith }
 bounds (suc n) s h = elim (first-view s) [
-  | nothing z f ↦ rw (upTo-nothing n s f) (record { within = omega arith; some = omega arith; rest = λ q. omega arith })
-  | cut t c f ↦ rw (upTo-refused n s CutRecord f) (record { within = omega arith; some = omega arith; rest = λ q. omega arith })
-  | unknown t g f ↦ rw (upTo-refused n s BadMark f) (record { within = omega arith; some = omega arith; rest = λ q. absurd (q refl) })
+  | nothing z f ↦ rw (upTo-stopped n s End f) (record { within = omega arith; some = omega arith; rest = λ q. omega arith })
+  | cut t c f ↦ rw (upTo-stopped n s CutRecord f) (record { within = omega arith; some = omega arith; rest = λ q. omega arith })
+  | unknown t g f ↦ rw (upTo-stopped n s BadMark f) (record { within = omega arith; some = omega arith; rest = λ q. absurd (clash q refl) })
   | whole m g t f ↦
       let low = mark-size m in
       let size = length-drop (sizeOf m) s in

@@ -10,16 +10,19 @@ use Rattle.table.specs.Answers.{numberOf}
 use Rattle.table.specs.declared.answer.Answer.{Answer}
 use Rattle.table.specs.declared.answer.Answer.the-variants.{Done, Declined}
 use Rattle.table.specs.declared.answer.Refusal.{Refusal}
+use Rattle.table.specs.declared.answer.Refusal.the-variants as refusal
 use Rattle.edits.specs.Edits.{answer, edited}
 use Rattle.edits.specs.declared.edit.Edit.{Edit}
 use Rattle.runs.specs.declared.records.Found.{Found}
-use Rattle.runs.specs.declared.records.Found.the-variants.{Record, Refused, Nothing}
+use Rattle.runs.specs.declared.records.Found.the-variants.{Record, Stopped}
+use Rattle.runs.specs.declared.records.Stop.{Stop}
+use Rattle.runs.specs.declared.records.Stop.the-variants.{End, BadMark, CutRecord}
 use Rattle.runs.specs.declared.run.Ran.{Ran}
 use Rattle.runs.specs.Run.{run}
 use Rattle.runs.specs.laws.Run.{run-append, run-one}
 use Rattle.runs.specs.Records.{firstRecord}
 use Rattle.runs.specs.Reading.{reading, ended, after}
-use Rattle.runs.specs.laws.Reading.{joined, joined-none, joined-after, joined-ended, reading-nothing, reading-refused, reading-record, record-sized}
+use Rattle.runs.specs.laws.Reading.{joined, joined-none, joined-after, joined-ended, reading-stopped, reading-record, record-sized}
 use Rattle.runs.specs.Lines.{noLine, stopLine, editLine, lines}
 use Rattle.runs.specs.laws.Lines.{lines-append, lines-one, lines-few}
 
@@ -47,15 +50,24 @@ module _ (t : List ℕ) (n : ℕ) (E : Edit) {a : Answer} (e : a ≡ answer t E)
   line-declined g h p = rw (← e, g, ← h) p
 
 -- the line of a reading that ended
-pub stop-none : (n : ℕ) {stop : ℕ} (out : List ℕ) → stop ≡ 0 → Pasted 0 0 out (stopLine n stop) 0 out
+pub stop-none : (n : ℕ) {stop : Stop} (out : List ℕ) → stop ≡ End → Pasted 0 0 out (stopLine n stop) 0 out
 unfolding stopLine
 stop-none n out e = rw e (record { end = refl; shows = sym (paste-none 0 0 out) })
+
+module _ (n : ℕ) {stop : Stop} {m end : ℕ} {out out′ : List ℕ} where
+  pub stop-bad : stop ≡ BadMark → m ≡ numberOf refusal.BadMark → Pasted 0 0 out (noLine n m) end out′ → Pasted 0 0 out (stopLine n stop) end out′
+  unfolding stopLine
+  stop-bad e h p = rw e (rw h at p)
+
+  pub stop-cut : stop ≡ CutRecord → m ≡ numberOf refusal.CutRecord → Pasted 0 0 out (noLine n m) end out′ → Pasted 0 0 out (stopLine n stop) end out′
+  unfolding stopLine
+  stop-cut e h p = rw e (rw h at p)
 
 -- the edits of the first `at` bytes are done
 pub record Running (t₀ s : List ℕ) (number : ℕ) (out₀ t : List ℕ) (at next end : ℕ) (out : List ℕ) : Type 0 where
   pub so-far : List Edit
   pub ready : Ready number s out₀
-  pub read : reading s ≡ joined (record { edits = so-far; taken = at; stop = 0 }) (reading (drop at s))
+  pub read : reading s ≡ joined (record { edits = so-far; taken = at; stop = End }) (reading (drop at s))
   pub within : at ≤ length s
   pub table : t ≡ run t₀ so-far
   pub size : length t ≡ length t₀
@@ -68,7 +80,7 @@ unfolding run lines
 running-none {s = s} {out = out} h = record {
   so-far = [];
   ready = h;
-  read = sym (joined-none 0 (reading s));
+  read = sym (joined-none End (reading s));
   within = omega arith;
   table = refl;
   size = refl;
@@ -123,8 +135,8 @@ module _ {t₀ s : List ℕ} {number : ℕ} {out₀ t : List ℕ} {at next end :
           ready = k .ready;
           read =
               k .read
-              ∙ ap (joined (record { edits = Es; taken = at; stop = 0 })) (reading-record (drop at s) E size (sym here ∙ q) ∙ ap (λ l. after E size (reading l)) (drop-drop size at s))
-              ∙ joined-after (record { edits = Es; taken = at; stop = 0 }) E size (reading (drop (at + size) s));
+              ∙ ap (joined (record { edits = Es; taken = at; stop = End })) (reading-record (drop at s) E size (sym here ∙ q) ∙ ap (λ l. after E size (reading l)) (drop-drop size at s))
+              ∙ joined-after (record { edits = Es; taken = at; stop = End }) E size (reading (drop (at + size) s));
           within = w .there;
           table = d ∙ ap (λ x. edited x E) (k .table) ∙ sym (run-append t₀ Es (E ∷ []) ∙ run-one (run t₀ Es) E);
           size = z ∙ k .size;
@@ -138,9 +150,9 @@ module _ {t₀ s : List ℕ} {number : ℕ} {out₀ t : List ℕ} {at next end :
             rw (a, b) (sym (lines-append t₀ number Es (E ∷ []) ∙ ap (λ l. lines t₀ number Es ++ l) (lines-one (run t₀ Es) (number + length Es) E)))
 
   -- what the code hands over where no whole record is left
-  module _ {x : ℕ} (e : reading (drop at s) ≡ ended x) where
+  module _ {x : Stop} (e : reading (drop at s) ≡ ended x) where
     all-read : reading s ≡ record { edits = k .so-far; taken = at; stop = x }
-    all-read = k .read ∙ ap (joined (record { edits = k .so-far; taken = at; stop = 0 })) e ∙ joined-ended (k .so-far) at x
+    all-read = k .read ∙ ap (joined (record { edits = k .so-far; taken = at; stop = End })) e ∙ joined-ended (k .so-far) at x
 
     running-all : (record { taken = at; next = next; written = end; stop = x } ≡ ran t₀ number s)
         × (t ≡ run t₀ (reading s .edits))
@@ -150,14 +162,8 @@ module _ {t₀ s : List ℕ} {number : ℕ} {out₀ t : List ℕ} {at next end :
         rw all-read (rw (k .count, written), k .table, k .text .shows ∙ paste-sets 0 out₀ (lines t₀ number (k .so-far)))
 
   module _ {f : Found} (e : f ≡ firstRecord (take (length s - at) (drop at s))) where
-    pub running-refused : {r : Refusal} {n : ℕ} → f ≡ Refused r → n ≡ numberOf r
-        → (record { taken = at; next = next; written = end; stop = n } ≡ ran t₀ number s)
+    pub running-stopped : {x : Stop} → f ≡ Stopped x
+        → (record { taken = at; next = next; written = end; stop = x } ≡ ran t₀ number s)
         × (t ≡ run t₀ (reading s .edits))
         × (out ≡ sets out₀ 0 (lines t₀ number (reading s .edits)))
-    running-refused {r} q g = running-all (reading-refused (drop at s) r (sym (here e) ∙ q) ∙ ap ended (sym g))
-
-    pub running-nothing : f ≡ Nothing
-        → (record { taken = at; next = next; written = end; stop = 0 } ≡ ran t₀ number s)
-        × (t ≡ run t₀ (reading s .edits))
-        × (out ≡ sets out₀ 0 (lines t₀ number (reading s .edits)))
-    running-nothing q = running-all (reading-nothing (drop at s) (sym (here e) ∙ q))
+    running-stopped {x} q = running-all (reading-stopped (drop at s) x (sym (here e) ∙ q))

@@ -1,13 +1,13 @@
 -- A slice as a window on a text: `from` is the place in the text where the slice begins. What is written at a place that the slice does not show changes nothing.
-use Prim.Native.Nat.{ℕ, suc, _+_, _-_, _<_, _≤_}
+use Prim.Native.Nat.{ℕ, suc, _+_, _-_, _<_, _≤_, min}
 use native.Mathlib.Omega.{arith}
 use native.Mathlib.Decide.{decLt, ℕ-discrete}
-use native.Mathlib.Nat.{add-zero, sub-zero}
+use native.Mathlib.Nat.{zero-add, add-zero, sub-zero}
 use mathlib.Core.Path.{_≡_, refl, sym, _∙_, ap}
 use mathlib.Core.List.{List, [], _∷_, _++_}
 use mathlib.Core.Logic.{_≢_}
-use lib.ListN.{length, getD, set, take, drop, length-append, length-set, length-take, length-drop}
-use lib.Seq.{sets, set-out, getD-set-same, getD-set-other, getD-take, getD-drop, ext-getD}
+use lib.ListN.{length, getD, set, take, drop, length-append, length-set, length-take, length-drop, List·getD-append}
+use lib.Seq.{sets, sets-eq, length-sets, set-out, take-append-seam, getD-set-same, getD-set-other, getD-take, getD-drop, ext-getD}
 use borrow.Author.Tests.{le-leb, lt-leb}
 use Rattle.text.specs.Paste.{put, paste}
 
@@ -113,13 +113,34 @@ window-holds from out text i l h = paste-within from 0 out text i l (omega arith
 pub window-keeps : (from : ℕ) (out text : List ℕ) (i : ℕ) → length text ≤ from + i → getD (paste from 0 out text) i 0 ≡ getD out i 0
 window-keeps from out text i h = paste-behind from 0 out text i (omega arith)
 
--- a window inside the text is the part of the text that it shows
-pub window-text : (from : ℕ) (out text : List ℕ) → length out + from ≤ length text → paste from 0 out text ≡ take (length out) (drop from text)
-window-text from out text h =
-    let size : length (paste from 0 out text) ≡ length out = paste-length from 0 out text in
-    ext-getD 0 (paste from 0 out text) (take (length out) (drop from text)) (simp (paste-length, length-take, length-drop) (omega arith)) (λ i l.
-    let low : i < length out = omega arith in
-    window-holds from out text i low (omega arith) ∙ sym (getD-take (length out) (drop from text) i 0 low ∙ getD-drop from text i 0))
+-- a text at the front of a slice
+pub sets-front : (out text : List ℕ) → length text ≤ length out → sets out 0 text ≡ text ++ drop (length text) out
+sets-front out text h = sets-eq text out 0 (rw zero-add h) ∙ ap (λ k. text ++ drop k out) (zero-add (length text))
+
+pub front-text : (out text : List ℕ) → length text ≤ length out → take (length text) (sets out 0 text) ≡ text
+front-text out text h = ap (take (length text)) (sets-front out text h) ∙ take-append-seam text (drop (length text) out)
+
+pub sets-ahead : (l : List ℕ) (i : ℕ) (vs : List ℕ) (j : ℕ) → i + length vs ≤ j → getD (sets l i vs) j 0 ≡ getD l j 0
+sets-ahead l i [] j h = refl
+sets-ahead l i (v ∷ vs) j h = sets-ahead (set l i v) (suc i) vs j (omega arith) ∙ getD-set-other l i j v 0 (omega arith)
+
+-- what a window shows of the text stands at its front, and the rest is kept
+pub window-shows : (from : ℕ) (out text : List ℕ) → paste from 0 out text ≡ sets out 0 (take (length out) (drop from text))
+window-shows from out text =
+    let shown = take (length out) (drop from text) in
+    let size : length shown ≡ min (length out) (length text - from) =
+    length-take (length out) (drop from text) ∙ ap (min (length out)) (length-drop from text) in
+    ext-getD 0 (paste from 0 out text) (sets out 0 shown) (paste-length from 0 out text ∙ sym (length-sets out 0 shown)) (λ i l.
+    let long = paste-length from 0 out text in
+    elim (decLt (from + i) (length text)) [
+      | yes h ↦
+          window-holds from out text i (omega arith) h
+          ∙ sym (ap (λ x. getD x i 0) (sets-front out shown (omega arith))
+          ∙ List·getD-append shown (drop (length shown) out) 0 i (omega arith)
+          ∙ getD-take (length out) (drop from text) i 0 (omega arith)
+          ∙ getD-drop from text i 0)
+      | no h ↦ window-keeps from out text i (omega arith) ∙ sym (sets-ahead out 0 shown i (omega arith))
+    ])
 
 -- one text after another
 module _ {from at : ℕ} {out a : List ℕ} {r : ℕ} {out′ : List ℕ} (p : Pasted from at out a r out′) where

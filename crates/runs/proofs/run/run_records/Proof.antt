@@ -1,9 +1,9 @@
 -- `run::run_records` meets its contract. The invariant: the edits of the bytes taken so far are done, and their lines written.
 use borrow.Author.Needs.{needs}
+use Rattle.runs.specs.laws.Running.{Running, running-none, running-within, running-more, running-size, running-stopped}
+use lib.ListN.{length}
 use native.Mathlib.Omega.{arith}
 use Prim.Native.Nat.{_-_}
-use lib.ListN.{length}
-use Rattle.runs.specs.laws.Running.{Running, running-none, running-within, running-more, running-size, running-refused, running-nothing}
 use Rattle.runs.proofs.run.run_records.Statement.{statement}
 use Rattle.runs.proofs.run.run_records.Tie as tie
 
@@ -14,7 +14,9 @@ abbrev μ-loop : tie.MeasureT-loop
 μ-loop t₀ bytes number out₀ at₀ next₀ end₀ t out at next end = length bytes - at
 
 loop-holds : tie.Need-loop-holds Inv-loop μ-loop
-loop-holds c = running-none (c .before .before .before .pre)
+loop-holds c =
+    let start = c .before .before .before in
+    running-none (start .pre)
 
 sub-first-record : tie.Need-sub-first-record Inv-loop μ-loop
 sub-first-record c = let within = c .loop .inv .within in omega arith
@@ -67,36 +69,25 @@ loop-again c =
     let run-record = c .before .before .before .before .run-record in
     running-more (loop .inv) (first-record .ensures) (edit .given .1) (run-record .ensures .0) (run-record .kept .0) (run-record .ensures .1)
 
-enum-known-r : tie.Need-enum-known-r Inv-loop μ-loop
-enum-known-r c = search needs
-
-number-of-requires : tie.Need-number-of-requires Inv-loop μ-loop
-number-of-requires c κs = search needs
+enum-known-stop : tie.Need-enum-known-stop Inv-loop μ-loop
+enum-known-stop c = search needs
 
 same-length : tie.Need-same-length Inv-loop μ-loop
-same-length c = c .before .before .before .before .before .before .loop .inv .size
+same-length c =
+    let loop = c .before .before .before .before .before .loop in
+    loop .inv .size
 
 same-length-2 : tie.Need-same-length-2 Inv-loop μ-loop
-same-length-2 c = running-size (c .before .before .before .before .before .before .loop .inv)
+same-length-2 c =
+    let loop = c .before .before .before .before .before .loop in
+    running-size (loop .inv)
 
 returns : tie.Need-returns Inv-loop μ-loop
 returns c =
-    let loop = c .before .before .before .before .before .before .loop in
-    let first-record = c .before .before .before .before .first-record in
-    let r = c .before .before .r in
-    running-refused (loop .inv) (first-record .ensures) (r .given .1) (c .number-of .ensures)
-
-enum-told : tie.Need-enum-told Inv-loop μ-loop
-enum-told c = search needs
-
-same-length-3 : tie.Need-same-length-3 Inv-loop μ-loop
-same-length-3 c = c .before .before .before .before .loop .inv .size
-
-same-length-4 : tie.Need-same-length-4 Inv-loop μ-loop
-same-length-4 c = running-size (c .before .before .before .before .loop .inv)
-
-returns-2 : tie.Need-returns-2 Inv-loop μ-loop
-returns-2 c = running-nothing (c .before .before .before .before .loop .inv) (c .before .before .first-record .ensures) (c .enum-told .given .1)
+    let loop = c .before .before .before .before .before .loop in
+    let first-record = c .before .before .before .first-record in
+    let stop = c .before .stop in
+    running-stopped (loop .inv) (first-record .ensures) (stop .given .1)
 
 pub run-records-spec : {M : Type 1} → statement M
 run-records-spec =
@@ -115,12 +106,7 @@ run-records-spec =
     add-next
     loop-less
     loop-again
-    enum-known-r
-    number-of-requires
+    enum-known-stop
     same-length
     same-length-2
-    returns
-    enum-told
-    same-length-3
-    same-length-4
-    returns-2)
+    returns)

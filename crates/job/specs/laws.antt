@@ -1,0 +1,3 @@
+-- What the job program's loops know.
+pub mod Progress
+pub mod Report

@@ -2,4 +2,4 @@ pub mod Counts
 pub mod Forward
 pub mod Reader
 pub mod Walked
-pub mod Words
+pub mod Standing

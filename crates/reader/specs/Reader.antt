@@ -50,7 +50,7 @@ placed t at first =
     (unless (live? t (at .dart) && live? t (first .dart)) (Refused Absent)
     (There (wordAt at))))
 
--- "after a declined step the reader has not goesOn"; "all lent slices and records keep their contents"
+-- "after a declined step the reader has not moved"; "all lent slices and records keep their contents"
 abbrev pub stays : Step → Tally → Refusal → Stepped
 stays at y r = record { answer = Declined r; at = at; tally = y }
 

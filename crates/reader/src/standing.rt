@@ -1,7 +1,7 @@
 // The walk reader as C keeps it: a record that the host lends, without the table, and one step of it by value.
 use crate::place::Step;
+use crate::reader::step_from;
 use crate::tally::Tally;
-use crate::walk::walk_step;
 use table::answer::code;
 ghost use mathlib.Core.Path.{_≡_};
 ghost use Rattle.reader.specs.Standing.{calledOf};
@@ -34,7 +34,7 @@ pub fn step_call(t: &[u16], r: Standing, lengths: &[u32], y: Tally) -> Called
         dart: r.start_dart,
         kind: r.start_kind,
     };
-    let s = walk_step(t, at, first, lengths, y);
+    let s = step_from(t, at, first, lengths, y);
     let answer = s.answer;
     let next = s.at;
     let tally = s.tally;

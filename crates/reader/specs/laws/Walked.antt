@@ -182,7 +182,7 @@ module _ (t : List ℕ) (first : Step) (lengths : List ℕ) (start : Stands t (w
     reads zero h = reads-none
     reads (suc n) h = reads-more n (reads n (omega arith)) (omega arith) (near-at n (omega arith))
 
-    -- the step afterSteps leads back exactly at the walk's end
+    -- the step after leads back exactly at the walk's end
     end-at : (n : ℕ) → n < p .steps → eqb (f (iter f n s)) s ≡ eqb (suc n) (p .steps)
     end-at n h = elim (ℕ-discrete (suc n) (p .steps)) [
       | yes e ↦ eq-eqb (f (iter f n s)) s (sym (iter-suc f n s) ∙ ap (λ j. iter f j s) e ∙ p .back) ∙ sym (eq-eqb (suc n) (p .steps) e)

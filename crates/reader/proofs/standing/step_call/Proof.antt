@@ -4,14 +4,14 @@ use borrow.Author.Needs.{needs}
 use Rattle.reader.proofs.standing.step_call.Statement.{statement}
 use Rattle.reader.proofs.standing.step_call.Tie as tie
 
-walk-step-requires : tie.Need-walk-step-requires
-walk-step-requires c κs = search needs
+step-from-requires : tie.Need-step-from-requires
+step-from-requires c κs = search needs
 
 code-requires : tie.Need-code-requires
 code-requires c κs = search needs
 
 returns : tie.Need-returns
-returns c = called-on _ _ _ _ (c .code .ok) (c .code .ensures) (c .before .before .before .walk-step .ensures)
+returns c = called-on _ _ _ _ (c .code .ok) (c .code .ensures) (c .before .before .before .step-from .ensures)
 
 pub step-call-spec : {M : Type 1} → statement M
-step-call-spec = tie.close (tie.spec walk-step-requires code-requires returns)
+step-call-spec = tie.close (tie.spec step-from-requires code-requires returns)

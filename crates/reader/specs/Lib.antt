@@ -4,3 +4,4 @@ pub mod Held
 pub mod Walked
 pub mod Standing
 pub mod laws
+pub mod Theorems

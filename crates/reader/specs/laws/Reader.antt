@@ -158,7 +158,7 @@ settled : (t : List ℕ) (at first : Step) (lengths : List ℕ) (y : Tally) → 
 settled t at first lengths y = by (placed t at first)
   where
     tallied : (s : ℕ) (m : Tallied) → Settled at y (steppedBy t at first y s m)
-    tallied s (Brought z) = goes (bit (eqb (step (rotation t) s) (wordAt first))) refl
+    tallied s (Brought z) = goes _ refl
     tallied s (Kept r) = rests r refl
 
     by : (n : Named) → Settled at y (stepBy t at first lengths y n)

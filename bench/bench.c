@@ -59,15 +59,17 @@ CALL(float_path,
 
 /* One step of a reader that is made anew, over a tally at zeros. */
 static int64_t our_walk_step(void) {
+    struct planner_reader reader = {0, 0, 0, 0};
     struct planner_tally tally = {0, 0, 0, 0};
-    memset(ours.words, 0, 4 * sizeof ours.words[0]);
-    return 10000 * planner_walk_step(table, WORDS, ours.words, 4, lengths, PLANNER_EDGES, &tally) + tally.overs;
+    int64_t ends = planner_walk_step(table, WORDS, &reader, lengths, PLANNER_EDGES, &tally);
+    return (100 * ends + tally.overs) * 2 * PLANNER_DARTS + 2 * reader.dart + reader.type;
 }
 
 static int64_t their_walk_step(void) {
+    struct planner_reader reader = {0, 0, 0, 0};
     struct planner_tally tally = {0, 0, 0, 0};
-    memset(theirs.words, 0, 4 * sizeof theirs.words[0]);
-    return 10000 * plain_walk_step(table, WORDS, theirs.words, 4, lengths, PLANNER_EDGES, &tally) + tally.overs;
+    int64_t ends = plain_walk_step(table, WORDS, &reader, lengths, PLANNER_EDGES, &tally);
+    return (100 * ends + tally.overs) * 2 * PLANNER_DARTS + 2 * reader.dart + reader.type;
 }
 
 /* Edits come in pairs, the second of which undoes the first. */

@@ -22,8 +22,9 @@ int64_t plain_cut_length(const uint16_t *t, size_t words, uint16_t dart, uint16_
 int64_t plain_float_path(const uint16_t *t, size_t words, uint16_t dart, uint16_t type, const int32_t *points, size_t n_points,
                          const int32_t *lifts, size_t n_lifts, uint16_t *kinds, size_t n_kinds, float *coords, size_t n_coords);
 
+struct planner_reader;
 struct planner_tally;
-int64_t plain_walk_step(const uint16_t *t, size_t words, uint16_t *reader, size_t n_reader, const uint32_t *lengths, size_t n_lengths,
+int64_t plain_walk_step(const uint16_t *t, size_t words, struct planner_reader *reader, const uint32_t *lengths, size_t n_lengths,
                         struct planner_tally *tally);
 
 #endif

@@ -9,7 +9,7 @@ static uint32_t lengths[PLANNER_EDGES]; /* sixteenths of a millimetre */
 int main(void) {
     const size_t words = PLANNER_TABLE_WORDS;
     struct planner_tally tally = {0, 0, 0, 0};
-    uint16_t reader[PLANNER_READER_WORDS] = {0, 0, 0, 0}; /* it stands at dart 0, type 0, and began there */
+    struct planner_reader reader = {0, 0, 0, 0}; /* it stands at dart 0, type 0, and began there */
     int64_t ends = 0;
     uint16_t v;
 
@@ -25,8 +25,8 @@ int main(void) {
     lengths[2] = 16 * 700 + 8;
 
     while (ends == 0) {
-        const unsigned dart = reader[0], type = reader[1]; /* the step that the call hands out */
-        ends = planner_walk_step(table, words, reader, PLANNER_READER_WORDS, lengths, PLANNER_EDGES, &tally);
+        const unsigned dart = reader.dart, type = reader.type; /* the step that the call hands out */
+        ends = planner_walk_step(table, words, &reader, lengths, PLANNER_EDGES, &tally);
         if (ends < 0) {
             printf("declined with %d\n", (int)-ends);
             return 1;

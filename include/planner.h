@@ -1,12 +1,13 @@
 /*
  * planner.h: a mesh as a rotation system with signed twist counts, its edits, its faces and its ribbons.
  *
- * Every function takes numbers and slices. A slice is a pointer and then its number of elements (not bytes);
- * an empty slice may be NULL and 0. Two slices of one call must not overlap, nor a slice and a record. Nothing is kept
- * between calls: the host owns every slice, and no call reads or writes past a slice's length.
+ * Every function takes numbers and slices, one of them records too. A slice is a pointer and then its number of elements
+ * (not bytes); an empty slice may be NULL and 0. Two slices of one call must not overlap, nor two records, nor a slice and
+ * a record. Nothing is kept between calls: the host owns every slice and record, and no call reads or writes past a slice's
+ * length.
  *
  * Every function returns int64_t: the answer, 0 or more, or minus the number of the refusal. A declined call
- * leaves every lent slice as it was.
+ * leaves every lent slice and record as it was.
  *
  * A call needs less than 16 KiB of stack (measured). Its time is linear in the size of the table, which it checks first; for
  * planner_counts and planner_parts, which join parts by pointers that are shortened on the way, with a logarithm more at most.
@@ -165,21 +166,26 @@ int64_t planner_float_path(const uint16_t *table, size_t words, uint16_t dart, u
                            float *coords, size_t n_coords);
 
 /*
- * A walk, one step at a time. The host keeps a reader, four words: dart and type of the step that it hands out next, dart and
- * type of the step that its walk began at; to make one, set both to the step to begin with. A call hands out the step that the
- * reader stands at, which the host reads there before the call, moves the reader on, and brings the tally forward by that step:
- * steps by 1, overs and unders by its letters, length by its edge's length. Answers 1 if the walk ends at that step, else 0; the
- * step after the last is the first again.
- * Declines: PLANNER_TORN; PLANNER_SHORT_SLICE if there are fewer than four words; PLANNER_NO_SUCH_NAME and PLANNER_ABSENT (the
- * step or the start); PLANNER_SHORT_SLICE (fewer than PLANNER_EDGES lengths); PLANNER_FAR (the length of the step's own edge is
- * not from 1 to 65535); PLANNER_OVERTURNED (a field of the tally would pass 32 bits). Then neither the reader nor the tally has
- * changed. A tally begun at zeros fits over one walk. `tally` must not be NULL.
+ * A walk, one step at a time. The host keeps a reader: dart and type of the step that it hands out next, dart and type of
+ * the step that its walk began at. To begin, set both pairs to one step of the walk. A call hands out the step that the
+ * reader stands at, which the host reads there before the call, moves the reader on, and brings the tally forward by the
+ * step handed out: steps by 1, overs and unders by its letters, length by its edge's length. Answers 1 if the walk ends at
+ * that step, that is, if the reader now stands at its start, else 0; the step after the last is the first again. A reader
+ * whose start is not on the walk of its step goes round that walk and never answers 1.
+ * Every call checks the table, so a whole walk costs its number of steps times the check; planner_listing, planner_letters
+ * and planner_cut_length check it once.
+ * Declines, in this order: PLANNER_TORN; PLANNER_NO_SUCH_NAME, then PLANNER_ABSENT (the step or the start);
+ * PLANNER_SHORT_SLICE (fewer than PLANNER_EDGES lengths); PLANNER_FAR (the length of the step's own edge is not from 1 to
+ * 65535); PLANNER_OVERTURNED (a field of the tally would pass 32 bits). Then neither the reader nor the tally has changed.
+ * A tally begun at zeros fits over one walk. Neither `reader` nor `tally` may be NULL.
  */
+struct planner_reader {
+    uint16_t dart, type, start_dart, start_type;
+};
 struct planner_tally {
     uint32_t steps, overs, unders, length;
 };
-#define PLANNER_READER_WORDS 4
-int64_t planner_walk_step(const uint16_t *table, size_t words, uint16_t *reader, size_t n_reader, const uint32_t *lengths,
+int64_t planner_walk_step(const uint16_t *table, size_t words, struct planner_reader *reader, const uint32_t *lengths,
                           size_t n_lengths, struct planner_tally *tally);
 
 #ifdef __cplusplus

@@ -146,24 +146,24 @@ static void try_points_and_lifts(void) {
           "1,536 points are enough, 1,536 lifts are not");
 }
 
-/* The words of a reader: where it stands, and where its walk began. */
-static uint16_t reader[4];
+/* Where the reader stands, and where its walk began. */
+static struct planner_reader reader;
 static struct planner_tally tally;
 static uint32_t lengths[PLANNER_EDGES];
 
 static int64_t step(void) {
-    return planner_walk_step(table, WORDS, reader, 4, lengths, PLANNER_EDGES, &tally);
+    return planner_walk_step(table, WORDS, &reader, lengths, PLANNER_EDGES, &tally);
 }
 
 static void stand(uint16_t dart, uint16_t type, uint16_t start_dart, uint16_t start_type) {
-    reader[0] = dart;
-    reader[1] = type;
-    reader[2] = start_dart;
-    reader[3] = start_type;
+    reader.dart = dart;
+    reader.type = type;
+    reader.start_dart = start_dart;
+    reader.start_type = start_type;
 }
 
 static int stands(uint16_t dart, uint16_t type, uint16_t start_dart, uint16_t start_type) {
-    return reader[0] == dart && reader[1] == type && reader[2] == start_dart && reader[3] == start_type;
+    return reader.dart == dart && reader.type == type && reader.start_dart == start_dart && reader.start_type == start_type;
 }
 
 static void count_from(uint32_t steps, uint32_t overs, uint32_t unders, uint32_t length) {

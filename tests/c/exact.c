@@ -159,18 +159,17 @@ static int64_t float_path(uint16_t dart, uint16_t type, size_t n_kinds, size_t n
     return back(planner_float_path(t, words, dart, type, p, n_points, l, n_lifts, kinds, n_kinds, coords, n_coords), 3);
 }
 
-static uint16_t reader[4];
-static size_t n_reader = 4;
+static struct planner_reader reader;
 static struct planner_tally tally;
 
 static int64_t walk_step(void) {
     uint16_t *t = lend_mesh();
     uint32_t *l = (uint32_t *)lend(lengths, n_lengths * sizeof *l);
-    uint16_t *r = (uint16_t *)lend(reader, n_reader * sizeof *r);
+    struct planner_reader *r = (struct planner_reader *)lend(&reader, sizeof reader);
     struct planner_tally *y = (struct planner_tally *)lend(&tally, sizeof tally);
-    int64_t answer = planner_walk_step(t, words, r, n_reader, l, n_lengths, y);
+    int64_t answer = planner_walk_step(t, words, r, l, n_lengths, y);
     if (answer >= 0) {
-        memcpy(reader, r, sizeof reader);
+        reader = *r;
         tally = *y;
     }
     return back(answer, 2);
@@ -178,8 +177,8 @@ static int64_t walk_step(void) {
 
 /* The reader stands at a step, which is its start too. */
 static int64_t step_at(uint16_t dart, uint16_t type) {
-    reader[0] = reader[2] = dart;
-    reader[1] = reader[3] = type;
+    reader.dart = reader.start_dart = dart;
+    reader.type = reader.start_type = type;
     return walk_step();
 }
 
@@ -296,14 +295,9 @@ static void try_the_reader(void) {
         steps++;
     }
     check(steps == 2 && tally.steps == 4 && tally.overs == 1 && tally.unders == 1 && tally.length == 4, "and three more, to the end");
-    n_reader = 3;
-    check(walk_step() == -7, "a reader of three words: 7");
-    n_reader = 0;
-    check(walk_step() == -7, "a reader of none: 7");
-    n_reader = 4;
-    reader[2] = 2048;
+    reader.start_dart = 2048;
     check(walk_step() == -2, "a start that is no dart: 2");
-    reader[2] = 2045;
+    reader.start_dart = 2045;
     check(walk_step() == -4, "a start that is absent: 4");
     tally.steps = 4294967295u;
     check(step_at(0, 0) == -6, "a tally that is full: 6");

@@ -78,7 +78,8 @@ static void on_small_stack(void (*function)(void)) {
 }
 
 /* What the calls are lent, each slice of the exact size that the call needs. */
-static uint16_t *listing, *kinds, *reader;
+static uint16_t *listing, *kinds;
+static struct planner_reader *reader;
 static struct planner_tally *tally;
 static int32_t *counts, *parts, *points, *lifts;
 static uint32_t *lengths;
@@ -102,7 +103,7 @@ static void calls_that_read(void) {
 static void read_a_walk(void) {
     int64_t ends = 0;
     while (ends == 0) {
-        ends = planner_walk_step(table, WORDS, reader, 4, lengths, EDGES, tally);
+        ends = planner_walk_step(table, WORDS, reader, lengths, EDGES, tally);
     }
     answers[16] = ends;
 }
@@ -132,7 +133,7 @@ static void measure(void) {
     lifts = (int32_t *)lend(3 * EDGES * sizeof *lifts);
     kinds = (uint16_t *)lend((steps + 1) * sizeof *kinds);
     coords = (float *)lend(3 * (steps + 1) * sizeof *coords);
-    reader = (uint16_t *)lend(4 * sizeof *reader);
+    reader = (struct planner_reader *)lend(sizeof *reader);
     tally = (struct planner_tally *)lend(sizeof *tally);
 }
 

@@ -1,7 +1,8 @@
 // The C interface: each function takes numbers and slices, and answers 0 or more, or minus the refusal's number.
 // A slice is a pointer and then its number of elements. `include/planner.h` declares the functions.
+use reader::standing::Standing;
+use reader::standing::step_call;
 use reader::tally::Tally;
-use reader::words::step_code;
 use table::answer::code;
 ghost use mathlib.Core.Path.{_≡_};
 ghost use lib.ListN.{length};
@@ -13,7 +14,7 @@ ghost use Rattle.edits.specs.Edits.{answer, edited};
 ghost use Rattle.surface.specs.Calls.{countsAnswer, countsOut, partsAnswer, partsOut};
 ghost use Rattle.weave.specs.Calls.{alternatesOf, plainOf, lettersOf, lettersOut};
 ghost use Rattle.ribbons.specs.CutLength.{cutLengthOf};
-ghost use Rattle.reader.specs.Words.{wordsCoded, wordsOut};
+ghost use Rattle.reader.specs.Standing.{calledOf};
 ghost use Rattle.ribbons.specs.PathCall.{pathAnswer, kindsOut, coordsOut};
 ghost use Rattle.edits.specs.declared.edit.Edit.the-variants.{AddVertex, RemoveVertex, InsertEdge, DeleteEdge, TurnEdge};
 
@@ -147,19 +148,20 @@ pub extern "C" fn planner_float_path(
     code(ribbons::path::float_path(words, dart, kind, points, lifts, kinds, coords))
 }
 
-// One step of the walk reader in four words: dart and type of the step it stands at, then those of its walk's start. Answers 1 where the walk ends at that step, else 0.
+// One step of the walk reader: dart and type of the step it stands at, then those of its walk's start. Answers 1 where the walk ends at that step, else 0.
 #[no_mangle]
 pub extern "C" fn planner_walk_step(
     words: &[u16],
-    reader: &mut [u16],
+    reader: &mut Standing,
     lengths: &[u32],
     tally: &mut Tally,
 ) -> i64
-    ensures { λ r. ⌜ (r ≡ wordsCoded (now (words .entry)) (now (reader .entry)) (now (lengths .entry)) (now (tally .entry)) .code)
-        × (now (reader .exit) ≡ wordsOut (now (words .entry)) (now (reader .entry)) (now (lengths .entry)) (now (tally .entry)))
-        × (now (tally .exit) ≡ wordsCoded (now (words .entry)) (now (reader .entry)) (now (lengths .entry)) (now (tally .entry)) .tally) ⌝ }
+    ensures { λ r. ⌜ (r ≡ calledOf (now (words .entry)) (now (reader .entry)) (now (lengths .entry)) (now (tally .entry)) .code)
+        × (now (reader .exit) ≡ calledOf (now (words .entry)) (now (reader .entry)) (now (lengths .entry)) (now (tally .entry)) .reader)
+        × (now (tally .exit) ≡ calledOf (now (words .entry)) (now (reader .entry)) (now (lengths .entry)) (now (tally .entry)) .tally) ⌝ }
 {
-    let coded = step_code(words, reader, lengths, *tally);
-    *tally = coded.tally;
-    coded.code
+    let called = step_call(words, *reader, lengths, *tally);
+    *reader = called.reader;
+    *tally = called.tally;
+    called.code
 }

@@ -15,6 +15,6 @@ readerAt t d k = record { table = t; dart = d; kind = k; first = record { dart =
 abbrev pub heldStep : Reader → List ℕ → Tally → Stepped
 heldStep r lengths y = stepOf (now (r .table)) (record { dart = r .dart; kind = r .kind }) (r .first) lengths y
 
--- where it then stands; a declined step leaves it as it was (`settled`)
+-- where it then stands; a declined step leaves it as it was (`EachStep`)
 abbrev pub heldAfter : Reader → List ℕ → Tally → Reader
 heldAfter r lengths y = record { table = r .table; dart = heldStep r lengths y .at .dart; kind = heldStep r lengths y .at .kind; first = r .first }

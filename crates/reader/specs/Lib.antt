@@ -2,5 +2,6 @@ pub mod Forward
 pub mod Reader
 pub mod Held
 pub mod Walked
-pub mod Words
+pub mod Standing
 pub mod laws
+pub mod Theorems

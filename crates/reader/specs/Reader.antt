@@ -1,5 +1,6 @@
 -- The walk reader, document 01, "Corners and walks": where it stands, when it declines, and what a step leaves.
 use Prim.Native.Nat.{ℕ, _+_, _*_, _/_, _%_}
+use mathlib.Core.Path.{_≡_}
 use mathlib.Core.Bool.{Bool, _&&_}
 use mathlib.Core.List.{List}
 use lib.Dec.{ltb, eqb}
@@ -50,7 +51,7 @@ placed t at first =
     (unless (live? t (at .dart) && live? t (first .dart)) (Refused Absent)
     (There (wordAt at))))
 
--- "after a declined step the reader has not goesOn"; "all lent slices and records keep their contents"
+-- "after a declined step the reader has not moved"; "all lent slices and records keep their contents"
 abbrev pub stays : Step → Tally → Refusal → Stepped
 stays at y r = record { answer = Declined r; at = at; tally = y }
 
@@ -75,3 +76,12 @@ stepBy t at first lengths y (Refused r) = stays at y r
 -- one step of a reader that stands at `at` and whose walk began at `first`
 abbrev pub stepOf : List ℕ → Step → Step → List ℕ → Tally → Stepped
 stepOf t at first lengths y = stepBy t at first lengths y (placed t at first)
+
+-- every step, of a reader that stands anywhere and whose walk began anywhere
+pub record EachStep (t lengths : List ℕ) (y : Tally) : Type 0 where
+  -- "Every step declines as the making of the reader would"
+  pub as-made : (s : Step) {r : Refusal} → beginOf t (s .dart) (s .kind) ≡ Declined r → stepOf t s s lengths y ≡ stays s y r
+  -- "after a declined step the reader has not moved"
+  pub not-moved : (at first : Step) {r : Refusal} → stepOf t at first lengths y .answer ≡ Declined r → stepOf t at first lengths y ≡ stays at y r
+  -- "whether the walk ends there": where a step says so the reader is back at its start, dart and type
+  pub back : (at first : Step) → stepOf t at first lengths y .answer ≡ Done 1 → stepOf t at first lengths y .at ≡ first

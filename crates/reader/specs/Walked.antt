@@ -21,10 +21,14 @@ use Rattle.reader.specs.Reader.{wordAt, stepOf}
 abbrev pub zeros : Tally
 zeros = record { steps = 0; overs = 0; unders = 0; length = 0 }
 
--- what a reader made at `first`, with a tally begun at zeros, has come to afterSteps n steps
-unfoldable pub afterSteps : List ℕ → Step → List ℕ → ℕ → Stepped
-afterSteps t first lengths zero = record { answer = Done 0; at = first; tally = zeros }
-afterSteps t first lengths (suc n) = let r = afterSteps t first lengths n in stepOf t (r .at) first lengths (r .tally)
+-- what a reader that stands at `at`, and whose walk began at `first`, has come to after n steps
+unfoldable pub stepsFrom : List ℕ → Step → Step → List ℕ → Tally → ℕ → Stepped
+stepsFrom t at first lengths y zero = record { answer = Done 0; at = at; tally = y }
+stepsFrom t at first lengths y (suc n) = let r = stepsFrom t at first lengths y n in stepOf t (r .at) first lengths (r .tally)
+
+-- one that was made at `first`, with a tally begun at zeros
+abbrev pub afterSteps : List ℕ → Step → List ℕ → ℕ → Stepped
+afterSteps t first lengths n = stepsFrom t first first lengths zeros n
 
 -- the steps that it has handed out, as step words
 unfoldable pub handed : List ℕ → Step → List ℕ → ℕ → List ℕ
@@ -45,8 +49,9 @@ pub record Walked (t : List ℕ) (first : Step) (lengths : List ℕ) : Type 0 wh
   -- it "hands out one step at a time": those of the walk
   pub steps : handed t first lengths (length (walk (rotation t) (wordAt first))) ≡ walk (rotation t) (wordAt first)
   -- "With each step it says whether the walk ends there": at its last step, and not before. No step is declined, so the tally is never past 32 bits
-  pub ends : (n : ℕ) → n < length (walk (rotation t) (wordAt first)) → afterSteps t first lengths (suc n) .answer ≡ Done (bit (eqb (suc n) (length (walk (rotation t) (wordAt first)))))
-  -- "the step afterSteps that begins the walk again"
+  pub ends : (n : ℕ) → n < length (walk (rotation t) (wordAt first))
+      → afterSteps t first lengths (suc n) .answer ≡ Done (bit (eqb (suc n) (length (walk (rotation t) (wordAt first)))))
+  -- "the step after that begins the walk again"
   pub again : afterSteps t first lengths (length (walk (rotation t) (wordAt first))) .at ≡ first
   -- "A tally begun at zeros, and any cut length, fit 32 bits over one walk": where the walk ends it holds the ribbon's numbers
   pub tally : afterSteps t first lengths (length (walk (rotation t) (wordAt first))) .tally ≡ ribbonTally t lengths (wordAt first)

@@ -2,4 +2,5 @@ pub mod Counts
 pub mod Forward
 pub mod Reader
 pub mod Walked
-pub mod Words
+pub mod Elsewhere
+pub mod Standing

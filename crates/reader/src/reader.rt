@@ -2,10 +2,12 @@
 // `walk_step`, which takes the slice and the numbers.
 use crate::place::Step;
 use crate::tally::Tally;
+use crate::walk::Stepped;
 use crate::walk::walk_step;
 use table::answer::Answer;
 ghost use mathlib.Core.Path.{_≡_};
 ghost use Rattle.reader.specs.Held.{readerAt, heldStep, heldAfter};
+ghost use Rattle.reader.specs.Reader.{stepOf};
 
 // The table, the dart and the type of the step that is handed out next, and the step that the walk began at.
 pub struct Reader<'a> {
@@ -29,7 +31,9 @@ pub fn new<'a>(table: &'a [u16], dart: u16, kind: u16) -> Reader<'a>
 
 // Hands out the step that the reader stands at, and brings it and the tally forward: 1 where the walk ends there, else 0.
 pub fn step<'s, 'a>(r: &'s mut Reader<'a>, lengths: &[u32], tally: &mut Tally) -> Answer
-    ensures { λ a. ⌜ (a ≡ heldStep (now (r .entry)) (now (lengths .entry)) (now (tally .entry)) .answer) × (now (r .exit) ≡ heldAfter (now (r .entry)) (now (lengths .entry)) (now (tally .entry))) × (now (tally .exit) ≡ heldStep (now (r .entry)) (now (lengths .entry)) (now (tally .entry)) .tally) ⌝ }
+    ensures { λ a. ⌜ (a ≡ heldStep (now (r .entry)) (now (lengths .entry)) (now (tally .entry)) .answer)
+        × (now (r .exit) ≡ heldAfter (now (r .entry)) (now (lengths .entry)) (now (tally .entry)))
+        × (now (tally .exit) ≡ heldStep (now (r .entry)) (now (lengths .entry)) (now (tally .entry)) .tally) ⌝ }
 {
     let at = Step {
         dart: r.dart,
@@ -40,4 +44,26 @@ pub fn step<'s, 'a>(r: &'s mut Reader<'a>, lengths: &[u32], tally: &mut Tally) -
     r.kind = s.at.kind;
     *tally = s.tally;
     s.answer
+}
+
+// One step of a reader that is made for it: it stands at `at`, and its walk began at `first`. For who keeps these steps and not the table, as C does.
+pub fn step_from<'a>(table: &'a [u16], at: Step, first: Step, lengths: &[u32], y: Tally) -> Stepped
+    ensures { λ q. ⌜ q ≡ stepOf (now (table .entry)) at first (now (lengths .entry)) y ⌝ }
+{
+    let mut r = Reader {
+        table,
+        dart: at.dart,
+        kind: at.kind,
+        first,
+    };
+    let mut tally = y;
+    let answer = step(&mut r, lengths, &mut tally);
+    Stepped {
+        answer,
+        at: Step {
+            dart: r.dart,
+            kind: r.kind,
+        },
+        tally,
+    }
 }

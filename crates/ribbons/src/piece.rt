@@ -10,7 +10,7 @@ ghost use mathlib.Core.Path.{_≡_};
 ghost use mathlib.Core.Bool.{false};
 ghost use Rattle.walks.specs.laws.Stands.{Stands};
 ghost use Rattle.ribbons.specs.Exact.{over32};
-ghost use Rattle.ribbons.specs.Path.{thirtySeconds, pointAt, letterOf, pieceOn, kindOf, pointOf, farStep};
+ghost use Rattle.ribbons.specs.Path.{thirtySeconds, pointAt, letterOf, pieceFor, pieceOn, kindOf, pointOf, farStep};
 ghost use Rattle.ribbons.specs.laws.Places.{Lent};
 ghost use Rattle.ribbons.specs.laws.Coordinate.{NearEnds, Readable};
 
@@ -66,6 +66,19 @@ fn letter_of(t: &[u16], s: u16) -> u8
     letter(w, s % 2, 0)
 }
 
+// The piece at a point, by its letter.
+fn piece_for(letter: u8, q: Point) -> Piece
+    ensures { λ r. ⌜ r ≡ pieceFor letter q ⌝ }
+{
+    if letter == OVER {
+        return Piece::Over(q);
+    }
+    if letter == UNDER {
+        return Piece::Under(q);
+    }
+    Piece::Flat(q)
+}
+
 // The piece of step s.
 pub fn piece_on(t: &[u16], points: &[i32], lifts: &[i32], s: u16) -> Piece
     requires { ⌜ Lent (now t) (now points) (now lifts) s × (farStep (now t) (now points) (now lifts) s ≡ false) ⌝ }
@@ -74,13 +87,7 @@ pub fn piece_on(t: &[u16], points: &[i32], lifts: &[i32], s: u16) -> Piece
     let l = letter_of(t, s);
     let p = places_of(t, s);
     let q = point_at(l, points, lifts, p.first, p.second, p.lift);
-    if l == OVER {
-        return Piece::Over(q);
-    }
-    if l == UNDER {
-        return Piece::Under(q);
-    }
-    Piece::Flat(q)
+    piece_for(l, q)
 }
 
 // The word of a piece.

@@ -51,13 +51,22 @@ mod c {
         pub fn planner_walk_step(
             table: *const u16,
             words: usize,
-            reader: *mut u16,
-            n_reader: usize,
+            reader: *mut super::Reader,
             lengths: *const u32,
             n_lengths: usize,
             tally: *mut super::Tally,
         ) -> i64;
     }
+}
+
+/// struct planner_reader
+#[repr(C)]
+#[derive(Clone, Copy, Debug, PartialEq, Eq)]
+pub struct Reader {
+    pub dart: u16,
+    pub kind: u16,
+    pub start_dart: u16,
+    pub start_kind: u16,
 }
 
 /// struct planner_tally
@@ -156,20 +165,9 @@ pub fn float_path(
     }
 }
 
-/// One step of the reader that the host keeps in four words.
-pub fn walk_step(table: &[u16], reader: &mut [u16], lengths: &[u32], tally: &mut Tally) -> i64 {
-    let (words, n_reader) = (table.len(), reader.len());
-    unsafe {
-        c::planner_walk_step(
-            table.as_ptr(),
-            words,
-            reader.as_mut_ptr(),
-            n_reader,
-            lengths.as_ptr(),
-            lengths.len(),
-            tally,
-        )
-    }
+/// One step of the reader that the host keeps.
+pub fn walk_step(table: &[u16], reader: &mut Reader, lengths: &[u32], tally: &mut Tally) -> i64 {
+    unsafe { c::planner_walk_step(table.as_ptr(), table.len(), reader, lengths.as_ptr(), lengths.len(), tally) }
 }
 
 pub fn edit(table: &mut [u16], edit: Edit) -> i64 {

@@ -2,8 +2,9 @@
 //! their places, so names, order and types have to be the same in both, and so the fields of the records that are lent.
 //!
 //! In C a slice `x` is a pointer `x` and then its size, `n_x`, `x_words` or `x_bytes`. A struct `Name` of the sources is
-//! `struct planner_name`. Two names differ, and keep document 01's words in the header: the table's slice is `words` in the
-//! sources (where `table` is a crate), `table` and its size `words` in C; `kind` of a step is `type` in C.
+//! `struct planner_name`. Three names differ, and keep document 01's words in the header: the table's slice is `words` in the
+//! sources (where `table` is a crate), `table` and its size `words` in C; `kind` of a step is `type` in C; `Standing`, a reader
+//! without the table, is `struct planner_reader` in C, since `Reader` of the sources holds the table too.
 
 use crate::header::{self, Header};
 use crate::rattle::{self, Function};
@@ -151,7 +152,10 @@ fn value(kind: &str, lent: &mut BTreeSet<String>) -> Option<String> {
 }
 
 fn record_name(name: &str) -> String {
-    format!("planner_{}", name.to_lowercase())
+    match name {
+        "Standing" => "planner_reader".to_string(),
+        _ => format!("planner_{}", name.to_lowercase()),
+    }
 }
 
 /// A lent record: its fields in the header against those of the struct, which must be laid out as C does.

@@ -109,6 +109,21 @@ fn a_changed_type() {
     );
 }
 
+/// `Standing` of the sources, a reader without the table, is `struct planner_reader` in C.
+#[test]
+fn a_record_of_another_name() {
+    after(
+        "standing",
+        EXPORTS,
+        "from: &Tally",
+        "from: &Standing",
+        &[
+            "argument 2 is `const struct planner_tally * from`, not `const struct planner_reader * from`",
+            "include/planner.h: struct planner_reader is missing",
+        ],
+    );
+}
+
 #[test]
 fn another_name() {
     after("pointer", HEADER, "*points", "*lifts", &["argument 5 is `const int32_t * lifts`, not"]);

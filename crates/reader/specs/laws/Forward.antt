@@ -36,11 +36,15 @@ module _ (y : Tally) (o u l : ℕ) where
     module _ (overs : y .overs + o ≤ 4294967295) (unders : y .unders + u ≤ 4294967295) where
       pub past-length : 4294967295 - y .length < l → Kept Overturned ≡ forwardOf y o u l
       unfolding forwardOf
-      past-length h = rw (lt-ltb (y .steps + 1) past32 (omega arith), lt-ltb (y .overs + o) past32 (omega arith), lt-ltb (y .unders + u) past32 (omega arith), le-ltb (y .length + l) past32 (omega arith))
+      past-length h =
+          let few = lt-ltb (y .steps + 1) past32 (omega arith) in
+          rw (few, lt-ltb (y .overs + o) past32 (omega arith), lt-ltb (y .unders + u) past32 (omega arith), le-ltb (y .length + l) past32 (omega arith))
 
       pub brought : y .length + l ≤ 4294967295 → Brought (forward y o u l) ≡ forwardOf y o u l
       unfolding forwardOf
-      brought h = rw (lt-ltb (y .steps + 1) past32 (omega arith), lt-ltb (y .overs + o) past32 (omega arith), lt-ltb (y .unders + u) past32 (omega arith), lt-ltb (y .length + l) past32 (omega arith))
+      brought h =
+          let few = lt-ltb (y .steps + 1) past32 (omega arith) in
+          rw (few, lt-ltb (y .overs + o) past32 (omega arith), lt-ltb (y .unders + u) past32 (omega arith), lt-ltb (y .length + l) past32 (omega arith))
 
 -- the ends of a step's tally
 

@@ -1,11 +1,11 @@
 -- The walk reader, document 01, "Corners and walks": where it stands, when it declines, and what a step leaves.
-use Prim.Native.Nat.{ℕ, _+_, _*_, _/_, _<_, _≤_}
+use Prim.Native.Nat.{ℕ, _+_, _*_, _/_, _%_, _<_, _≤_}
 use native.Mathlib.Omega.{arith}
 use mathlib.Core.Path.{_≡_, refl, sym, _∙_, ap}
 use mathlib.Core.Bool.{Bool, true, false, _&&_}
 use mathlib.Core.List.{List}
 use lib.Dec.{ltb, eqb}
-use borrow.Author.Tests.{lt-ltb, le-ltb, ltb-true}
+use borrow.Author.Tests.{lt-ltb, le-ltb, ltb-true, eqb-true}
 use Rattle.orbits.specs.laws.Truth.{truth, holds, fails, both-left, both-right}
 use Rattle.table.specs.Layout.{darts, edgeOf, edgeWord}
 use Rattle.table.specs.Rotation.{rotation, live?}
@@ -28,7 +28,7 @@ use Rattle.reader.specs.declared.tally.Tallied.{Tallied}
 use Rattle.reader.specs.declared.tally.Tallied.the-variants.{Brought, Kept}
 use Rattle.reader.specs.declared.walk.Stepped.{Stepped}
 use Rattle.reader.specs.Forward.{tallyOf}
-use Rattle.reader.specs.Reader.{beginBy, beginOf, wordAt, isStep, placed, stays, goesOn, steppedBy, stepBy, stepOf}
+use Rattle.reader.specs.Reader.{beginBy, beginOf, wordAt, stepAt, isStep, placed, stays, goesOn, steppedBy, stepBy, stepOf, EachStep}
 
 -- "Every step declines as the making of the reader would"
 pub placed-begun : (t : List ℕ) (s : Step) → placed t s s ≡ namedStep t (s .dart) (s .kind)
@@ -40,7 +40,7 @@ placed-begun t s = rw (and-self (isStep (s .dart) (s .kind)), and-self (live? t 
     and-self false = refl
 
 -- and so a reader that could not be made hands out no step
-pub begun-declined : (t : List ℕ) (s : Step) (lengths : List ℕ) (y : Tally) {r : Refusal} → beginOf t (s .dart) (s .kind) ≡ Declined r → stepOf t s s lengths y ≡ stays s y r
+begun-declined : (t : List ℕ) (s : Step) (lengths : List ℕ) (y : Tally) {r : Refusal} → beginOf t (s .dart) (s .kind) ≡ Declined r → stepOf t s s lengths y ≡ stays s y r
 begun-declined t s lengths y {r} e = ap (stepBy t s s lengths y) (placed-begun t s ∙ refused (namedStep t (s .dart) (s .kind)) e)
   where
     refused : (n : Named) → beginBy n ≡ Declined r → n ≡ Refused r
@@ -150,17 +150,53 @@ module _ (t : List ℕ) (at first : Step) (lengths : List ℕ) (y : Tally) {n : 
     step-moved {z} k h i = i ∙ ap (λ x. goesOn x first z) h ∙ sym (ap (steppedBy t at first y s) k) ∙ stepped
 
 -- a step goes on, or it leaves the reader and the tally as they were
-pub data Settled (at : Step) (y : Tally) (q : Stepped) : Type 0 where
+data Settled (at : Step) (y : Tally) (q : Stepped) : Type 0 where
   goes : (n : ℕ) → q .answer ≡ Done n → Settled at y q
   rests : (r : Refusal) → q ≡ stays at y r → Settled at y q
 
-pub settled : (t : List ℕ) (at first : Step) (lengths : List ℕ) (y : Tally) → Settled at y (stepOf t at first lengths y)
+settled : (t : List ℕ) (at first : Step) (lengths : List ℕ) (y : Tally) → Settled at y (stepOf t at first lengths y)
 settled t at first lengths y = by (placed t at first)
   where
     tallied : (s : ℕ) (m : Tallied) → Settled at y (steppedBy t at first y s m)
-    tallied s (Brought z) = goes (bit (eqb (step (rotation t) s) (wordAt first))) refl
+    tallied s (Brought z) = goes _ refl
     tallied s (Kept r) = rests r refl
 
     by : (n : Named) → Settled at y (stepBy t at first lengths y n)
     by (There s) = tallied s (tallyOf t s lengths y)
     by (Refused r) = rests r refl
+
+module _ (t lengths : List ℕ) (y : Tally) where
+  declined-rests : (at first : Step) {r : Refusal} → stepOf t at first lengths y .answer ≡ Declined r → stepOf t at first lengths y ≡ stays at y r
+  declined-rests at first {r} e = elim (settled t at first lengths y) [
+    | goes n f ↦ absurd (done-declined (sym e ∙ f))
+    | rests q f ↦
+        let told : Declined q ≡ Declined r = sym (ap (λ s. s .answer) f) ∙ e in
+        let same : q ≡ r = cc in f ∙ ap (stays at y) same
+  ]
+
+  ends-back : (at first : Step) → stepOf t at first lengths y .answer ≡ Done 1 → stepOf t at first lengths y .at ≡ first
+  ends-back at first = by (placed t at first) refl
+    where
+      moved : (next : ℕ) → first .kind < 2 → Done (bit (eqb next (wordAt first))) ≡ Done 1 → stepAt next ≡ first
+      moved next low e = elim (truth (eqb next (wordAt first))) [
+        | holds g ↦
+            let same = eqb-true next (wordAt first) g in
+            let dart : next / 2 ≡ first .dart = omega arith in
+            let kind : next % 2 ≡ first .kind = omega arith in (λ i. record { dart = dart i; kind = kind i })
+        | fails g ↦ let told : Done 0 ≡ Done 1 = rw g at e in let z : _≡_ {A = ℕ} 0 1 = cc in absurd (let no : ⊥ = omega arith in no)
+      ]
+
+      tallied : (s : ℕ) → first .kind < 2 → (m : Tallied) → steppedBy t at first y s m .answer ≡ Done 1 → steppedBy t at first y s m .at ≡ first
+      tallied s low (Brought z) e = moved (step (rotation t) s) low e
+      tallied s low (Kept r) e = absurd (done-declined e)
+
+      by : (n : Named) → n ≡ placed t at first → stepBy t at first lengths y n .answer ≡ Done 1 → stepBy t at first lengths y n .at ≡ first
+      by (There s) p e = tallied s (there-placed p .first-type) (tallyOf t s lengths y) e
+      by (Refused r) p e = absurd (done-declined e)
+
+pub each-step : (t lengths : List ℕ) (y : Tally) → EachStep t lengths y
+each-step t lengths y = record {
+  as-made = λ s. begun-declined t s lengths y;
+  not-moved = declined-rests t lengths y;
+  back = ends-back t lengths y;
+}

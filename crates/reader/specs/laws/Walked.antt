@@ -43,8 +43,8 @@ use Rattle.tracing.specs.laws.Has.{countIn-append}
 use Rattle.reader.specs.laws.Counts.{unders-left}
 use Rattle.reader.specs.Forward.{past32, fits32, forwardOf, stepTally, tallyOf}
 use Rattle.reader.specs.Reader.{beginBy, beginOf, wordAt, stepAt, goesOn, stepBy, stepOf}
-use Rattle.reader.specs.laws.Reader.{in-range, placed-begun, placed-there, there-placed}
-use Rattle.reader.specs.Walked.{afterSteps, handed, Walked}
+use Rattle.reader.specs.laws.Reader.{in-range, placed-begun, placed-there, Placed, there-placed}
+use Rattle.reader.specs.Walked.{stepsFrom, afterSteps, handed, Walked}
 
 -- a step has at most 99 letters
 letters-few : {t : List ℕ} {s : ℕ} → Stands t s → (times over (stepLetters t s) ≤ 99) × (times under (stepLetters t s) ≤ 99)
@@ -106,7 +106,7 @@ module _ (t : List ℕ) (first : Step) (lengths : List ℕ) (start : Stands t (w
       pair d k = record { dart = d; kind = k }
 
   reads-none : Reads zero
-  unfolding afterSteps handed iterates gather countIn cutLength iter
+  unfolding stepsFrom handed iterates gather countIn cutLength iter
   reads-none = record { at = first-at; tally = refl; steps = refl; overs = omega arith; unders = omega arith; length = omega arith }
 
   module _ (n : ℕ) (k : Reads n) (low : n < 4096) (near : farLength lengths (iter f n s) ≡ false) where
@@ -144,7 +144,7 @@ module _ (t : List ℕ) (first : Step) (lengths : List ℕ) (start : Stands t (w
 
     -- one step more is not declined
     reads-step : afterSteps t first lengths (suc n) ≡ goesOn (f x) first (tallied (suc n))
-    unfolding afterSteps
+    unfolding stepsFrom
     reads-step =
         ap₂ (λ a y. stepOf t a first lengths y) (k .at) (k .tally)
         ∙ one-step x (tallied n) there near tally-fits
@@ -182,7 +182,7 @@ module _ (t : List ℕ) (first : Step) (lengths : List ℕ) (start : Stands t (w
     reads zero h = reads-none
     reads (suc n) h = reads-more n (reads n (omega arith)) (omega arith) (near-at n (omega arith))
 
-    -- the step afterSteps leads back exactly at the walk's end
+    -- the step after leads back exactly at the walk's end
     end-at : (n : ℕ) → n < p .steps → eqb (f (iter f n s)) s ≡ eqb (suc n) (p .steps)
     end-at n h = elim (ℕ-discrete (suc n) (p .steps)) [
       | yes e ↦ eq-eqb (f (iter f n s)) s (sym (iter-suc f n s) ∙ ap (λ j. iter f j s) e ∙ p .back) ∙ sym (eq-eqb (suc n) (p .steps) e)
@@ -204,17 +204,22 @@ module _ (t : List ℕ) (first : Step) (lengths : List ℕ) (start : Stands t (w
           tally = rw (size-is, all) (last .tally);
         }
 
-begun : (n : Named) → beginBy n ≡ Done 0 → (s : ℕ) × (There s ≡ n)
-begun (There s) e = (s, refl)
-begun (Refused r) e = absurd (done-declined e)
+-- a step that a reader can be made at
+pub begun-placed : (t : List ℕ) (s : Step) → beginOf t (s .dart) (s .kind) ≡ Done 0 → Placed t s s (wordAt s)
+begun-placed t s b =
+    let n = begun (namedStep t (s .dart) (s .kind)) b in
+    let h = there-placed (n .1 ∙ sym (placed-begun t s)) in rw (h .word) at h
+  where
+    begun : (n : Named) → beginBy n ≡ Done 0 → (x : ℕ) × (There x ≡ n)
+    begun (There x) e = (x, refl)
+    begun (Refused r) e = absurd (done-declined e)
 
 -- a reader that can be made, lengths that are there, and none of the walk's edges out of range
 pub reader-walks : (t : List ℕ) (first : Step) (lengths : List ℕ) → beginOf t (first .dart) (first .kind) ≡ Done 0 → edges ≤ length lengths
     → some (farLength lengths) (walk (rotation t) (wordAt first)) ≡ false → Walked t first lengths
 reader-walks t first lengths b size near =
-    let n = begun (namedStep t (first .dart) (first .kind)) b in
-    let h = there-placed (n .1 ∙ sym (placed-begun t first)) in
-    let start : Stands t (wordAt first) = rw (h .word) at (h .stands) in
+    let h = begun-placed t first b in
+    let start = h .stands in
     let R = rotation t in
     let L = good-lawful t (start .good) in
     let low = stands-low start in

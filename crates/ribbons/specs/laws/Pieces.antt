@@ -73,6 +73,20 @@ module _ {t : List ℕ} {s w : ℕ} (k : EdgeWord t s w) where
       let type : (s % 2 + 0) % 2 ≡ s % 2 = omega arith in
       f ∙ ap (letter (positive w)) type ∙ sym (rw (← (k .word), some))
 
+-- a piece by its letter
+module _ (l : ℕ) (q : Point) where
+  pub for-over : l ≡ over → Over q ≡ pieceFor l q
+  unfolding pieceFor
+  for-over h = rw (eq-eqb l over h)
+
+  pub for-under : l ≢ over → l ≡ under → Under q ≡ pieceFor l q
+  unfolding pieceFor
+  for-under n h = rw (ne-eqb l over n, eq-eqb l under h)
+
+  pub for-flat : l ≢ over → l ≢ under → Flat q ≡ pieceFor l q
+  unfolding pieceFor
+  for-flat n m = rw (ne-eqb l over n, ne-eqb l under m)
+
 -- the piece of a step
 module _ {t : List ℕ} {points lifts : List ℤ} {s : ℕ} {p : Places} (k : Lent t points lifts s) (e : p ≡ placesOf t s) where
   pub piece-readable : farStep t points lifts s ≡ false → Readable points lifts (p .first) (p .second) (p .lift)
@@ -80,21 +94,9 @@ module _ {t : List ℕ} {points lifts : List ℤ} {s : ℕ} {p : Places} (k : Le
   piece-readable f = let there = lies k in rw e (record { first = there .first; second = there .second; lift = there .lift; near = near-step t points lifts s f })
 
   module _ {l : ℕ} {q : Point} (f : l ≡ letterOf t s) (g : q ≡ pointAt l points lifts (p .first) (p .second) (p .lift)) where
-    point-is : q ≡ pointAt (letterOf t s) points lifts (firstEnd t s) (secondEnd t s) (liftAt s)
-    unfolding placesOf
-    point-is = g ∙ rw (f, e)
-
-    pub piece-over : l ≡ over → Over q ≡ pieceOn t points lifts s
-    unfolding pieceOn pieceFor
-    piece-over h = ap Over point-is ∙ sym (rw (eq-eqb (letterOf t s) over (sym f ∙ h)))
-
-    pub piece-under : l ≢ over → l ≡ under → Under q ≡ pieceOn t points lifts s
-    unfolding pieceOn pieceFor
-    piece-under n h = ap Under point-is ∙ sym (rw (ne-eqb (letterOf t s) over (λ z. n (f ∙ z)), eq-eqb (letterOf t s) under (sym f ∙ h)))
-
-    pub piece-flat : l ≢ over → l ≢ under → Flat q ≡ pieceOn t points lifts s
-    unfolding pieceOn pieceFor
-    piece-flat n m = ap Flat point-is ∙ sym (rw (ne-eqb (letterOf t s) over (λ z. n (f ∙ z)), ne-eqb (letterOf t s) under (λ z. m (f ∙ z))))
+    pub piece-is : {r : Piece} → r ≡ pieceFor l q → r ≡ pieceOn t points lifts s
+    unfolding pieceOn placesOf
+    piece-is h = h ∙ ap (pieceFor l) g ∙ rw (f, e)
 
 -- "zeros for Close"
 pub zeros : {p : Piece} → p ≡ Close → record { x = ofBits binary32 0; y = ofBits binary32 0; z = ofBits binary32 0 } ≡ pointOf p

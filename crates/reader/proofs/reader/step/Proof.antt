@@ -1,5 +1,8 @@
--- `reader::step` meets its contract: a walk of its MIR, by hand. The reader's borrow and the tally's are opened, the struct is taken apart, and `walk_step` is called on the slice, the steps, the lengths and the tally; what it gives is stored in the reader's dart and type and in the tally, and both borrows are closed. All that the proof knows of `walk_step` is that it meets its contract.
--- The lengths go to the callee for good (`stay-dropped`), and of what the reader owns, a copy of what the table owns. The reader's cell stands at the raw form of its type: it is read and written at the type that the MIR derefs, whose lifetimes are erased.
+-- `reader::step` meets its contract: a walk of its MIR, by hand. The reader's borrow and the tally's are opened, the struct is taken apart,
+-- and `walk_step` is called on the slice, the steps, the lengths and the tally; what it gives is stored in the reader's dart and type and
+-- in the tally, and both borrows are closed. All that the proof knows of `walk_step` is that it meets its contract.
+-- The lengths go to the callee for good (`stay-dropped`), and of what the reader owns, a copy of what the table owns. The reader's cell
+-- stands at the raw form of its type: it is read and written at the type that the MIR derefs, whose lifetimes are erased.
 use mathlib.Core.Path.{_≡_, refl, ap}
 use Prim.Native.Nat.{ℕ, _<_, _^_}
 use mathlib.Core.List.{[], _∷_, List}
@@ -17,8 +20,10 @@ use ghost.Atoms.{Atoms, sem}
 use contract.Lifetimes.{AllOutlive}
 use contract.Monad.{Fun, fact}
 use contract.Running.{givenOf, tables, tablesOf}
-use types.Kit.{Given, ‵, raw, given, some, later, _⊛_, ⋆, _$_, _∵_, !, qed, by, move, keep, drop, use1, use2, split, join, pick, learn, rewrite, fsplit, fsplit3, fjoin, fjoin3, feqI, suffices, frame, await, done}
-use types.Run.{look, look-raw, init, store-raw, forget, stop, hop, fld, from, load, of-opd, and-then, no-more, assigns, land, returns, enter, alloc1, alloc0, params1, pass1, pass0, free1, free0}
+use types.Kit.{Given, ‵, raw, given, some, later, _⊛_, ⋆, _$_, _∵_, !, qed, by, move, keep, drop, use1, use2, split, join, pick, learn, rewrite, fsplit}
+use types.Kit.{fsplit3, fjoin, fjoin3, feqI, suffices, frame, await, done}
+use types.Run.{look, look-raw, init, store-raw, forget, stop, hop, fld, from, load, of-opd, and-then, no-more, assigns, land, returns, enter, alloc1, alloc0}
+use types.Run.{params1, pass1, pass0, free1, free0}
 use types.Part.{agg, whole, sub, look-in, store-in}
 use types.SemTy.{Body}
 use sound.WpLaws.{FmC, fmOf, WpFn-mono}
@@ -73,14 +78,22 @@ use Rattle.reader.proofs.reader.step.Code as code
 abbrev ReaderS : Slot 4
 ReaderS = plain (λ κs. T.the-row (namedLft 4 1 tt κs))
 
+abbrev LengthsS : Slot 4
+LengthsS = shrSliceOf (2 ∷ []) tt (plain (λ _. u32))
+
+abbrev TallyS : Slot 4
+TallyS = plain (λ _. Y.the-row)
+
 abbrev stayed : Stays (step.ended .signature .params) (step.ended .kept)
-stayed = (stay-ref (0 ∷ []) tt ReaderS, (stay-dropped (shrSliceOf (2 ∷ []) tt (plain (λ _. u32))) yes, (stay-ref (3 ∷ []) tt (plain (λ _. Y.the-row)), tt)))
+stayed = (stay-ref (0 ∷ []) tt ReaderS, (stay-dropped LengthsS yes, (stay-ref (3 ∷ []) tt TallyS, tt)))
 
 -- the contract that the proof cites
 abbrev WalkStep : {M : Type 1} (𝓤 : URA M) (H : Heap 𝓤) (A : Atoms 𝓤) (mem : Memory → SProp 𝓤) (run : Routine → Fun 𝓤) → Contract 𝓤
 WalkStep 𝓤 H A mem run = tripleOf 𝓤 H A walk-step.signature (walk-step.spec 𝓤 H A mem run)
 
-module _ {M : Type 1} (𝓤 : URA M) (H : Heap 𝓤) (A : Atoms 𝓤) (W : Given 𝓤 H A) (at-mem : Memory → SProp 𝓤) (run : Routine → Fun 𝓤) (κ₀ κ₁ κ₂ κ₃ : Lft) (bounds : AllOutlive 4 (step.signature .outlives) (κ₀, (κ₁, (κ₂, (κ₃, tt))))) (q₀ q₁ q₂ q₃ : Share) (b o : ℕ) (γ : GName) (h : Reader) (ls : RefT (List ℕ)) (b′ o′ : ℕ) (γ′ : GName) (y : Tally) where
+module _ {M : Type 1} (𝓤 : URA M) (H : Heap 𝓤) (A : Atoms 𝓤) (W : Given 𝓤 H A) (at-mem : Memory → SProp 𝓤) (run : Routine → Fun 𝓤)
+    (κ₀ κ₁ κ₂ κ₃ : Lft) (bounds : AllOutlive 4 (step.signature .outlives) (κ₀, (κ₁, (κ₂, (κ₃, tt))))) (q₀ q₁ q₂ q₃ : Share)
+    (b o : ℕ) (γ : GName) (h : Reader) (ls : RefT (List ℕ)) (b′ o′ : ℕ) (γ′ : GName) (y : Tally) where
   abbrev α : NamedLft
   α = record { mir = named 1; lft = κ₁ }
 
@@ -125,8 +138,9 @@ module _ {M : Type 1} (𝓤 : URA M) (H : Heap 𝓤) (A : Atoms 𝓤) (W : Given
   abbrev Post : Val → SProp 𝓤
   Post = walkOf 𝓤 H A step.ended stayed (step.clauses 𝓤 H A at-mem run) .post ((κs, qs, bounds, a, vals), tt)
 
-  abbrev OwnR : Fml
-  OwnR = R .own h (T′.lowered h ∷ [])
+  -- what a reader owns
+  abbrev OwnOf : Reader → Fml
+  OwnOf x = R .own x (T′.lowered x ∷ [])
 
   -- where the reader stands, and what `walk_step` is passed and gives
   abbrev at : Step
@@ -146,10 +160,15 @@ module _ {M : Type 1} (𝓤 : URA M) (H : Heap 𝓤) (A : Atoms 𝓤) (W : Given
 
   asked : ent 𝓤 (onEntry 𝓤 H A walk-step.signature (κ₁, (κ₂, tt)) (q₁, (q₂, tt)) given-args passed) (WalkStep 𝓤 H A at-mem run .pre to)
   asked =
-      qed W ((‵ (flft κ₁ q₁) ⊛ ‵ (flft κ₂ q₂) ⊛ ‵ ftrue) ∷ ‵ (owns (ShrSlice (named 0) κ₁ u16 ∷ S.the-row ∷ S.the-row ∷ ShrSlice (named 1) κ₂ u32 ∷ Y.the-row ∷ []) given-args passed) ∷ []) ∵ join ! $ frame ! $ done !
+      qed W ((‵ (flft κ₁ q₁) ⊛ ‵ (flft κ₂ q₂) ⊛ ‵ ftrue)
+      ∷ ‵ (owns (ShrSlice (named 0) κ₁ u16 ∷ S.the-row ∷ S.the-row ∷ ShrSlice (named 1) κ₂ u32 ∷ Y.the-row ∷ []) given-args passed) ∷ []) ∵
+      join ! $ frame ! $ done !
 
-  -- of the callee's `ensured`, the clause alone: it has no `&mut`
-  said : (r : Stepped) → ent 𝓤 (ensured 𝓤 H A walk-step.ended (walk-step.clauses 𝓤 H A at-mem run) (κ₁, (κ₂, tt)) given-args tt r) (fact 𝓤 (r ≡ found))
+  -- what `walk_step` ensures of its result, and of that the clause alone: it has no `&mut`
+  abbrev Ensured : Stepped → SProp 𝓤
+  Ensured r = ensured 𝓤 H A walk-step.ended (walk-step.clauses 𝓤 H A at-mem run) (κ₁, (κ₂, tt)) given-args tt r
+
+  said : (r : Stepped) → ent 𝓤 (Ensured r) (fact 𝓤 (r ≡ found))
   said r = exE 𝓤 _ (λ ws. snd∗ 𝓤 (sem 𝓤 H A (lasts walk-step.ended (κ₁, (κ₂, tt)) given-args ws)) (fact 𝓤 (r ≡ found)))
 
   -- what whoever holds the reader knows of its fields
@@ -184,89 +203,156 @@ module _ {M : Type 1} (𝓤 : URA M) (H : Heap 𝓤) (A : Atoms 𝓤) (W : Given
     next-kind-fits = LL.owed S.the-type S′.the-laws (r .at) _ next-is .1 .0 .1
 
   -- what the table owns is kept, and the facts of the dart and the type are made anew
-  dart-again : (d : ℕ) → d < 2 ^ 16 → ent 𝓤 (sem 𝓤 H A OwnR) (sem 𝓤 H A (R .own (dart-put d) (T′.lowered (dart-put d) ∷ [])))
-  dart-again d fits = qed W (‵ OwnR ∷ []) ∵ owned ! u16 (Is u16) (uint-makes 𝓤 H A W w16) d _ (refl, fits) $ move ! (1 ∷ 0 ∷ []) $ by ! (own-put 𝓤 H A W N L 1 vh d (T′.lowered h))
+  dart-again : (d : ℕ) → d < 2 ^ 16 → ent 𝓤 (sem 𝓤 H A (OwnOf h)) (sem 𝓤 H A (OwnOf (dart-put d)))
+  dart-again d fits =
+      qed W (‵ (OwnOf h) ∷ []) ∵ owned ! u16 (Is u16) (uint-makes 𝓤 H A W w16) d _ (refl, fits) $ move ! (1 ∷ 0 ∷ []) $
+      by ! (own-put 𝓤 H A W N L 1 vh d (T′.lowered h))
 
-  kind-again : (p : Step) → p .kind < 2 ^ 16 → ent 𝓤 (sem 𝓤 H A (R .own (dart-put (p .dart)) (T′.lowered (dart-put (p .dart)) ∷ []))) (sem 𝓤 H A (R .own (put p) (T′.lowered (put p) ∷ [])))
+  kind-again : (p : Step) → p .kind < 2 ^ 16 → ent 𝓤 (sem 𝓤 H A (OwnOf (dart-put (p .dart)))) (sem 𝓤 H A (OwnOf (put p)))
   kind-again p fits =
-      qed W (‵ (R .own (dart-put (p .dart)) (T′.lowered (dart-put (p .dart)) ∷ [])) ∷ []) ∵ owned ! u16 (Is u16) (uint-makes 𝓤 H A W w16) (p .kind) _ (refl, fits) $ move ! (1 ∷ 0 ∷ []) $
+      qed W (‵ (OwnOf (dart-put (p .dart))) ∷ []) ∵ owned ! u16 (Is u16) (uint-makes 𝓤 H A W w16) (p .kind) _ (refl, fits) $ move ! (1 ∷ 0 ∷ []) $
       by ! (own-put 𝓤 H A W N L 2 (h .table, (p .dart, (h .kind, (h .first, tt)))) (p .kind) (T′.lowered (dart-put (p .dart))))
 
+  -- a reference that was closed: what is known of its last value, and its borrow
+  abbrev ReaderBack : Stepped → Fml
+  ReaderBack r = fobs γ (R .coded .code (put (r .at)))
+
+  abbrev TallyBack : Stepped → Fml
+  TallyBack r = fobs γ′ (Y.the-row .coded .code (r .tally))
+
+  abbrev ReaderBorrow : Fml
+  ReaderBorrow = fbor κ₀ (Body (mem R) b o γ)
+
+  abbrev TallyBorrow : Fml
+  TallyBorrow = fbor κ₃ (Body (mem Y.the-row) b′ o′ γ′)
+
   exits : (r : Stepped) (u : Val) → r ≡ found → Is E.the-row (r .answer) (u ∷ [])
-      → ent 𝓤 (⋆ 𝓤 H A (‵ (fobs γ (R .coded .code (put (r .at)))) ∷ ‵ (fbor κ₀ (Body (mem R) b o γ)) ∷ ‵ (flft κ₀ q₀) ∷ ‵ (fobs γ′ (Y.the-row .coded .code (r .tally))) ∷ ‵ (fbor κ₃ (Body (mem Y.the-row) b′ o′ γ′)) ∷ ‵ (flft κ₃ q₃) ∷ (‵ (flft κ₁ q₁) ⊛ ‵ (flft κ₂ q₂) ⊛ ‵ ftrue) ∷ [])) (Post u)
+      → ent 𝓤 (⋆ 𝓤 H A (‵ (ReaderBack r) ∷ ‵ ReaderBorrow ∷ ‵ (flft κ₀ q₀) ∷ ‵ (TallyBack r) ∷ ‵ TallyBorrow ∷ ‵ (flft κ₃ q₃)
+      ∷ (‵ (flft κ₁ q₁) ⊛ ‵ (flft κ₂ q₂) ⊛ ‵ ftrue) ∷ [])) (Post u)
   exits r u e is =
-      qed W (‵ (fobs γ (R .coded .code (put (r .at)))) ∷ ‵ (fbor κ₀ (Body (mem R) b o γ)) ∷ ‵ (flft κ₀ q₀) ∷ ‵ (fobs γ′ (Y.the-row .coded .code (r .tally))) ∷ ‵ (fbor κ₃ (Body (mem Y.the-row) b′ o′ γ′)) ∷ ‵ (flft κ₃ q₃) ∷ (‵ (flft κ₁ q₁) ⊛ ‵ (flft κ₂ q₂) ⊛ ‵ ftrue) ∷ []) ∵
-      suffices ! _ (ends-at 𝓤 H A step.ended stayed (step.clauses 𝓤 H A at-mem run) W ((κs, qs, bounds, a, vals), tt) u (r .answer) (put (r .at), (tt, (r .tally, tt))) (tt, (tt, (tt, tt)))) $
+      qed W (‵ (ReaderBack r) ∷ ‵ ReaderBorrow ∷ ‵ (flft κ₀ q₀) ∷ ‵ (TallyBack r) ∷ ‵ TallyBorrow ∷ ‵ (flft κ₃ q₃)
+      ∷ (‵ (flft κ₁ q₁) ⊛ ‵ (flft κ₂ q₂) ⊛ ‵ ftrue) ∷ []) ∵
+      suffices ! _ (ends-at 𝓤 H A step.ended stayed (step.clauses 𝓤 H A at-mem run) W ((κs, qs, bounds, a, vals), tt) u (r .answer)
+      (put (r .at), (tt, (r .tally, tt))) (tt, (tt, (tt, tt)))) $
       says ! (ap (λ (d : Stepped). d .answer) e, ap (λ (d : Stepped). put (d .at)) e, ap (λ (d : Stepped). d .tally) e) $
       -- the tokens
-      move ! (6 ∷ []) $ split ! $ move ! (1 ∷ []) $ split ! $ move ! (8 ∷ 1 ∷ []) $ join ! $ move ! (1 ∷ 0 ∷ []) $ join ! $ move ! (1 ∷ 0 ∷ []) $ join ! $ move ! (3 ∷ 0 ∷ []) $ join ! $ frame ! $
+      move ! (6 ∷ []) $ split ! $ move ! (1 ∷ []) $ split ! $ move ! (8 ∷ 1 ∷ []) $ join ! $ move ! (1 ∷ 0 ∷ []) $ join ! $ move ! (1 ∷ 0 ∷ []) $ join ! $
+      move ! (3 ∷ 0 ∷ []) $ join ! $ frame ! $
       -- [obs; the reader's borrow; obs; the tally's borrow]
-      move ! (2 ∷ 3 ∷ []) $ feqI ! (List Val) (vptr b′ o′ ∷ []) (vptr b′ o′ ∷ []) refl $ fjoin3 ! $ nothing ! $ move ! (1 ∷ 0 ∷ []) $ fjoin ! $ nothing ! $ fjoin ! $
+      move ! (2 ∷ 3 ∷ []) $ feqI ! (List Val) (vptr b′ o′ ∷ []) (vptr b′ o′ ∷ []) refl $ fjoin3 ! $ nothing ! $ move ! (1 ∷ 0 ∷ []) $ fjoin ! $ nothing ! $
+      fjoin ! $
       move ! (1 ∷ 2 ∷ []) $ feqI ! (List Val) (vptr b o ∷ []) (vptr b o ∷ []) refl $ fjoin3 ! $ fjoin ! $
       owned ! E.the-row (Is E.the-row) (EL.makes E.the-type E′.the-plain 𝓤 H A) (r .answer) _ is $ move ! (1 ∷ 0 ∷ []) $ done !
 
   module _ (C : Calls 𝓤 H) (Λ : Loops 𝓤 H) (fm : FmC 𝓤 H (W .laws) C) (known : Triple 𝓤 (C #reader·walk-step) (WalkStep 𝓤 H A at-mem run)) where
-    walk : Is (ShrSlice (named 2) κ₂ u32) ls (v ls ∷ []) → ent 𝓤 (onEntry 𝓤 H A step.signature κs qs a vals) (WpFn 𝓤 H C Λ code.function (vptr b o ∷ v ls ∷ vptr b′ o′ ∷ []) Post)
+    walk : Is (ShrSlice (named 2) κ₂ u32) ls (v ls ∷ [])
+        → ent 𝓤 (onEntry 𝓤 H A step.signature κs qs a vals) (WpFn 𝓤 H C Λ code.function (vptr b o ∷ v ls ∷ vptr b′ o′ ∷ []) Post)
     walk pl =
-        qed W ((‵ (flft κ₀ q₀) ⊛ ‵ (flft κ₁ q₁) ⊛ ‵ (flft κ₂ q₂) ⊛ ‵ (flft κ₃ q₃) ⊛ ‵ ftrue) ∷ ‵ (owns (MutRef (named 0) κ₀ R ∷ ShrSlice (named 2) κ₂ u32 ∷ MutRef (named 3) κ₃ Y.the-row ∷ []) a vals) ∷ []) ∵
+        qed W ((‵ (flft κ₀ q₀) ⊛ ‵ (flft κ₁ q₁) ⊛ ‵ (flft κ₂ q₂) ⊛ ‵ (flft κ₃ q₃) ⊛ ‵ ftrue)
+        ∷ ‵ (owns (MutRef (named 0) κ₀ R ∷ ShrSlice (named 2) κ₂ u32 ∷ MutRef (named 3) κ₃ Y.the-row ∷ []) a vals) ∷ []) ∵
         -- the tokens and what the parameters own, apart
         split ! $ move ! (1 ∷ []) $ split ! $ move ! (1 ∷ []) $ split ! $ move ! (1 ∷ []) $ split ! $
-        move ! (5 ∷ []) $ fsplit ! $ fsplit3 ! $ drop ! $ move ! (2 ∷ []) $ fsplit ! $ move ! (1 ∷ []) $ fsplit ! $ fsplit3 ! $ drop ! $ keep ! (4 ∷ 5 ∷ 10 ∷ 0 ∷ 1 ∷ 6 ∷ 3 ∷ 9 ∷ 8 ∷ []) $
+        move ! (5 ∷ []) $ fsplit ! $ fsplit3 ! $ drop ! $ move ! (2 ∷ []) $ fsplit ! $ move ! (1 ∷ []) $ fsplit ! $ fsplit3 ! $ drop ! $
+        keep ! (4 ∷ 5 ∷ 10 ∷ 0 ∷ 1 ∷ 6 ∷ 3 ∷ 9 ∷ 8 ∷ []) $
         enter ! C Λ code.function (vptr b o ∷ v ls ∷ vptr b′ o′ ∷ []) _ $
-        alloc1 ! (λ l₀. alloc1 ! (λ l₁. alloc1 ! (λ l₂. alloc1 ! (λ l₃. alloc1 ! (λ l₄. alloc1 ! (λ l₅. alloc1 ! (λ l₆. alloc1 ! (λ l₇. alloc1 ! (λ l₈. alloc1 ! (λ l₉. alloc1 ! (λ l₁₀. alloc0 ! $ params1 ! $
-        pass1 ! (init ! 18 refl (tt, tt)) $ pass1 ! (init ! 16 refl (shr-slice-lawful 𝓤 H A W (named 2) κ₂ u32 .typed ls (v ls ∷ []) pl .0)) $ pass1 ! (init ! 14 refl (tt, tt)) $ pass0 ! $
-        -- [_10; …; _9; …; _8; …; _7; …; _6; …; _5; …; _4; …; _3; …; _2; …; _1; …; room for _0; …; obs; the reader's borrow; its token; obs; the tally's borrow; its token; what the lengths own; the two tokens]
+        alloc1 ! (λ l₀. alloc1 ! (λ l₁. alloc1 ! (λ l₂. alloc1 ! (λ l₃. alloc1 ! (λ l₄. alloc1 ! (λ l₅. alloc1 ! (λ l₆. alloc1 ! (λ l₇. alloc1 ! (λ l₈.
+        alloc1 ! (λ l₉. alloc1 ! (λ l₁₀. alloc0 ! $ params1 ! $
+        pass1 ! (init ! 18 refl (tt, tt)) $ pass1 ! (init ! 16 refl (shr-slice-lawful 𝓤 H A W (named 2) κ₂ u32 .typed ls (v ls ∷ []) pl .0)) $
+        pass1 ! (init ! 14 refl (tt, tt)) $ pass0 ! $
+        -- [_10; …; _9; …; _8; …; _7; …; _6; …; _5; …; _4; …; _3; …; _2; …; _1; …; room for _0; …; obs; the reader's borrow; its token; obs;
+        -- the tally's borrow; its token; what the lengths own; the two tokens]
         move ! (22 ∷ 23 ∷ 24 ∷ []) $ opens ! tt R {h = h} b o (λ vs. spelt ! R (Is R) (shows 𝓤 H A R) (LL.vals N L) (LL.tells N L) fullShare h vs b o $
         use1 W (‵ (fat fullShare (T′.mir erased) b o (T′.lowered h))) (W .laws .raw-at fullShare (T′.mir erased) b o (T′.lowered h)) $
         move ! (1 ∷ []) $ peeks ! R (Is R) (shows 𝓤 H A R) h (T′.lowered h ∷ []) (λ g. move ! (1 ∷ 0 ∷ []) $
-        -- [the reader's cell; what it owns; the open borrow; obs; auth; _10; …; room for _0; …; obs; the tally's borrow; its token; what the lengths own; the two tokens]
-        assigns ! (of-opd ! (load ! (from ! (hop ! (look ! 23 refl) (fld ! refl (stop !)))) (look-in ! 0 (sub ! 1 refl (whole !))))) (from ! (stop !)) (init ! 13 refl (tt, record { fits = dart-fits g })) $
-        assigns ! (of-opd ! (load ! (from ! (hop ! (look ! 23 refl) (fld ! refl (stop !)))) (look-in ! 0 (sub ! 2 refl (whole !))))) (from ! (stop !)) (init ! 11 refl (tt, record { fits = kind-fits g })) $
-        assigns ! (agg ! (and-then ! (load ! (from ! (stop !)) (look ! 13 refl)) (and-then ! (load ! (from ! (stop !)) (look ! 11 refl)) (no-more !)))) (from ! (stop !)) (init ! 17 refl (tt, (record { fits = dart-fits g }, (record { fits = kind-fits g }, tt)))) $
-        assigns ! (of-opd ! (load ! (from ! (hop ! (look ! 23 refl) (fld ! refl (stop !)))) (look-in ! 0 (sub ! 0 refl (whole !))))) (from ! (stop !)) (init ! 9 refl (shr-slice-lawful 𝓤 H A W erased κ₁ u16 .typed (h .table) _ (LL.owed N L h _ g .0) .0)) $
-        assigns ! (of-opd ! (load ! (from ! (hop ! (look ! 23 refl) (fld ! refl (stop !)))) (look-in ! 0 (sub ! 3 refl (whole !))))) (from ! (stop !)) (init ! 7 refl (LL.lawful S.the-type S′.the-laws 𝓤 H A W .typed (h .first) _ (first-is g) .0)) $
+        -- [the reader's cell; what it owns; the open borrow; obs; auth; _10; …; room for _0; …; obs; the tally's borrow; its token; what
+        -- the lengths own; the two tokens]
+        assigns ! (of-opd ! (load ! (from ! (hop ! (look ! 23 refl) (fld ! refl (stop !)))) (look-in ! 0 (sub ! 1 refl (whole !))))) (from ! (stop !))
+        (init ! 13 refl (tt, record { fits = dart-fits g })) $
+        assigns ! (of-opd ! (load ! (from ! (hop ! (look ! 23 refl) (fld ! refl (stop !)))) (look-in ! 0 (sub ! 2 refl (whole !))))) (from ! (stop !))
+        (init ! 11 refl (tt, record { fits = kind-fits g })) $
+        assigns ! (agg ! (and-then ! (load ! (from ! (stop !)) (look ! 13 refl)) (and-then ! (load ! (from ! (stop !)) (look ! 11 refl)) (no-more !))))
+        (from ! (stop !)) (init ! 17 refl (tt, (record { fits = dart-fits g }, (record { fits = kind-fits g }, tt)))) $
+        assigns ! (of-opd ! (load ! (from ! (hop ! (look ! 23 refl) (fld ! refl (stop !)))) (look-in ! 0 (sub ! 0 refl (whole !))))) (from ! (stop !))
+        (init ! 9 refl (shr-slice-lawful 𝓤 H A W erased κ₁ u16 .typed (h .table) _ (LL.owed N L h _ g .0) .0)) $
+        assigns ! (of-opd ! (load ! (from ! (hop ! (look ! 23 refl) (fld ! refl (stop !)))) (look-in ! 0 (sub ! 3 refl (whole !))))) (from ! (stop !))
+        (init ! 7 refl (LL.lawful S.the-type S′.the-laws 𝓤 H A W .typed (h .first) _ (first-is g) .0)) $
         -- the tally's borrow is opened, and the tally is read
-        move ! (27 ∷ 28 ∷ 29 ∷ []) $ opens ! tt Y.the-row {h = y} b′ o′ (λ vs′. spelt ! Y.the-row (Is Y.the-row) (shows 𝓤 H A Y.the-row) (LL.vals Y.the-type Y′.the-laws) (LL.tells Y.the-type Y′.the-laws) fullShare y vs′ b′ o′ $
+        move ! (27 ∷ 28 ∷ 29 ∷ []) $ opens ! tt Y.the-row {h = y} b′ o′ (λ vs′.
+        spelt ! Y.the-row (Is Y.the-row) (shows 𝓤 H A Y.the-row) (LL.vals Y.the-type Y′.the-laws) (LL.tells Y.the-type Y′.the-laws) fullShare y vs′ b′ o′ $
         move ! (1 ∷ []) $ peeks ! Y.the-row (Is Y.the-row) (shows 𝓤 H A Y.the-row) y (Y′.lowered y ∷ []) (λ g′. move ! (1 ∷ 0 ∷ []) $
-        -- [the tally's cell; what it owns; the open borrow; obs; auth; the reader's cell; what it owns; the open borrow; obs; auth; _10; …; room for _0; …; what the lengths own; the two tokens]
-        assigns ! (of-opd ! (load ! (from ! (hop ! (look ! 24 refl) (stop !))) (look-raw ! 0 refl))) (from ! (stop !)) (init ! 10 refl (LL.lawful Y.the-type Y′.the-laws 𝓤 H A W .typed y _ g′ .0)) $
+        -- [the tally's cell; what it owns; the open borrow; obs; auth; the reader's cell; what it owns; the open borrow; obs; auth; _10; …;
+        -- room for _0; …; what the lengths own; the two tokens]
+        assigns ! (of-opd ! (load ! (from ! (hop ! (look ! 24 refl) (stop !))) (look-raw ! 0 refl))) (from ! (stop !))
+        (init ! 10 refl (LL.lawful Y.the-type Y′.the-laws 𝓤 H A W .typed y _ g′ .0)) $
         -- what the reader owns is had twice, and of one copy what the table owns goes to the callee
-        move ! (6 ∷ []) $ use1 W (‵ OwnR ⊛ ‵ OwnR) (LL.copy N (T′.the-copy α) 𝓤 H A W .twice h (T′.lowered h ∷ [])) $ split ! $
-        use1 W (given (T′.lowered h ∷ [] ≡ T′.lowered h ∷ []) (‵ (all-own (N .parts) L vh))) (own-open 𝓤 H A W N L vh (T′.lowered h)) $ learn ! (λ _. use1 W (‵ (ownAt (N .parts) L 0 (h .table)) ⊛ ‵ (rest (N .parts) L 0 vh)) (own-out 𝓤 H A W (N .parts) L 0 vh) $ split ! $ move ! (1 ∷ []) $ drop ! $
+        move ! (6 ∷ []) $ use1 W (‵ (OwnOf h) ⊛ ‵ (OwnOf h)) (LL.copy N (T′.the-copy α) 𝓤 H A W .twice h (T′.lowered h ∷ [])) $ split ! $
+        use1 W (given (T′.lowered h ∷ [] ≡ T′.lowered h ∷ []) (‵ (all-own (N .parts) L vh))) (own-open 𝓤 H A W N L vh (T′.lowered h)) $ learn ! (λ _.
+        use1 W (‵ (ownAt (N .parts) L 0 (h .table)) ⊛ ‵ (rest (N .parts) L 0 vh)) (own-out 𝓤 H A W (N .parts) L 0 vh) $ split ! $ move ! (1 ∷ []) $ drop ! $
         -- [what the table owns; what the reader owns; the tally's cell; what it owns; …; the reader's cell; …]
-        nothing ! $ move ! (4 ∷ 0 ∷ []) $ fjoin ! $ move ! (33 ∷ 0 ∷ []) $ fjoin ! $ owned ! S.the-row (Is S.the-row) (LL.makes S.the-type S′.the-plain 𝓤 H A) (h .first) _ (first-is g) $ fjoin ! $
+        nothing ! $ move ! (4 ∷ 0 ∷ []) $ fjoin ! $ move ! (33 ∷ 0 ∷ []) $ fjoin ! $
+        owned ! S.the-row (Is S.the-row) (LL.makes S.the-type S′.the-plain 𝓤 H A) (h .first) _ (first-is g) $ fjoin ! $
         owned ! S.the-row (Is S.the-row) (LL.makes S.the-type S′.the-plain 𝓤 H A) at _ (at-is g) $ fjoin ! $ move ! (1 ∷ 0 ∷ []) $ fjoin ! $
         nothing ! $ move ! (34 ∷ 0 ∷ []) $ join ! $ move ! (33 ∷ 0 ∷ []) $ join ! $ use2 W (raw (WalkStep 𝓤 H A at-mem run .pre to)) asked $
-        calls-at ! fm (WalkStep 𝓤 H A at-mem run) known to (and-then ! (load ! (from ! (stop !)) (look ! 14 refl)) (and-then ! (load ! (from ! (stop !)) (look ! 22 refl)) (and-then ! (load ! (from ! (stop !)) (look ! 12 refl)) (and-then ! (load ! (from ! (stop !)) (look ! 26 refl)) (and-then ! (load ! (from ! (stop !)) (look ! 10 refl)) (no-more !)))))) (λ u.
-        use1 W (later (some (λ (r : Stepped). ((‵ (flft κ₁ q₁) ⊛ ‵ (flft κ₂ q₂) ⊛ ‵ ftrue) ⊛ ‵ (D.the-row .own r (u ∷ []))) ⊛ raw (ensured 𝓤 H A walk-step.ended (walk-step.clauses 𝓤 H A at-mem run) (κ₁, (κ₂, tt)) given-args tt r)))) (id⊢ 𝓤 _) $ await ! tt $ pick ! (λ r.
-        split ! $ move ! (1 ∷ []) $ use1 W (raw (fact 𝓤 (r ≡ found))) (said r) $ heard ! (r ≡ found) (λ e. split ! $ move ! (1 ∷ []) $ peeks ! D.the-row (Is D.the-row) (shows 𝓤 H A D.the-row) r (u ∷ []) (λ is.
-        -- [the result; the two tokens; what the reader owns; the tally's cell; its open borrow; obs; auth; the reader's cell; its open borrow; obs; auth; _10; …; room for _0; …]
-        land ! (from ! (stop !)) (init ! 21 refl (LL.lawful D.the-type D′.the-laws 𝓤 H A W .typed r _ is .0)) $ rewrite ! 21 (λ (x : Val). ‵ (fat fullShare D′.mir l₅ 0 x)) (ap only (LL.tells D.the-type D′.the-laws r _ is)) refl $
-        assigns ! (of-opd ! (load ! (from ! (fld ! refl (fld ! refl (stop !)))) (look-in ! 21 (sub ! 0 refl (sub ! 1 refl (whole !)))))) (from ! (hop ! (look ! 29 refl) (fld ! refl (stop !)))) (store-in ! 7 (sub ! 1 refl (whole !)) (tt, record { fits = next-dart-fits r u is })) $
-        assigns ! (of-opd ! (load ! (from ! (fld ! refl (fld ! refl (stop !)))) (look-in ! 21 (sub ! 1 refl (sub ! 1 refl (whole !)))))) (from ! (hop ! (look ! 29 refl) (fld ! refl (stop !)))) (store-in ! 7 (sub ! 2 refl (whole !)) (tt, record { fits = next-kind-fits r u is })) $
-        assigns ! (of-opd ! (load ! (from ! (fld ! refl (stop !))) (look-in ! 21 (sub ! 2 refl (whole !))))) (from ! (hop ! (look ! 25 refl) (stop !))) (store-raw ! 3 refl (LL.lawful Y.the-type Y′.the-laws 𝓤 H A W .typed (r .tally) _ (tally-is r u is) .0)) $
-        assigns ! (of-opd ! (load ! (from ! (fld ! refl (stop !))) (look-in ! 21 (sub ! 0 refl (whole !))))) (from ! (stop !)) (init ! 31 refl (EL.lawful E.the-type E′.the-laws 𝓤 H A W tt .typed (r .answer) _ (answer-is r u is) .0)) $
+        calls-at ! fm (WalkStep 𝓤 H A at-mem run) known to (and-then ! (load ! (from ! (stop !)) (look ! 14 refl))
+        (and-then ! (load ! (from ! (stop !)) (look ! 22 refl)) (and-then ! (load ! (from ! (stop !)) (look ! 12 refl))
+        (and-then ! (load ! (from ! (stop !)) (look ! 26 refl)) (and-then ! (load ! (from ! (stop !)) (look ! 10 refl)) (no-more !)))))) (λ u.
+        use1 W (later (some (λ (r : Stepped). ((‵ (flft κ₁ q₁) ⊛ ‵ (flft κ₂ q₂) ⊛ ‵ ftrue) ⊛ ‵ (D.the-row .own r (u ∷ []))) ⊛ raw (Ensured r)))) (id⊢ 𝓤 _) $
+        await ! tt $ pick ! (λ r.
+        split ! $ move ! (1 ∷ []) $ use1 W (raw (fact 𝓤 (r ≡ found))) (said r) $ heard ! (r ≡ found) (λ e. split ! $ move ! (1 ∷ []) $
+        peeks ! D.the-row (Is D.the-row) (shows 𝓤 H A D.the-row) r (u ∷ []) (λ is.
+        -- [the result; the two tokens; what the reader owns; the tally's cell; its open borrow; obs; auth; the reader's cell; its open
+        -- borrow; obs; auth; _10; …; room for _0; …]
+        land ! (from ! (stop !)) (init ! 21 refl (LL.lawful D.the-type D′.the-laws 𝓤 H A W .typed r _ is .0)) $
+        rewrite ! 21 (λ (x : Val). ‵ (fat fullShare D′.mir l₅ 0 x)) (ap only (LL.tells D.the-type D′.the-laws r _ is)) refl $
+        assigns ! (of-opd ! (load ! (from ! (fld ! refl (fld ! refl (stop !)))) (look-in ! 21 (sub ! 0 refl (sub ! 1 refl (whole !))))))
+        (from ! (hop ! (look ! 29 refl) (fld ! refl (stop !)))) (store-in ! 7 (sub ! 1 refl (whole !)) (tt, record { fits = next-dart-fits r u is })) $
+        assigns ! (of-opd ! (load ! (from ! (fld ! refl (fld ! refl (stop !)))) (look-in ! 21 (sub ! 1 refl (sub ! 1 refl (whole !))))))
+        (from ! (hop ! (look ! 29 refl) (fld ! refl (stop !)))) (store-in ! 7 (sub ! 2 refl (whole !)) (tt, record { fits = next-kind-fits r u is })) $
+        assigns ! (of-opd ! (load ! (from ! (fld ! refl (stop !))) (look-in ! 21 (sub ! 2 refl (whole !))))) (from ! (hop ! (look ! 25 refl) (stop !)))
+        (store-raw ! 3 refl (LL.lawful Y.the-type Y′.the-laws 𝓤 H A W .typed (r .tally) _ (tally-is r u is) .0)) $
+        assigns ! (of-opd ! (load ! (from ! (fld ! refl (stop !))) (look-in ! 21 (sub ! 0 refl (whole !))))) (from ! (stop !))
+        (init ! 31 refl (EL.lawful E.the-type E′.the-laws 𝓤 H A W tt .typed (r .answer) _ (answer-is r u is) .0)) $
         -- the tally's borrow is closed at the tally that came back, and the reader's at the reader that stands at the next step
-        drop ! $ owned ! Y.the-row (Is Y.the-row) (LL.makes Y.the-type Y′.the-plain 𝓤 H A) (r .tally) _ (tally-is r u is) $ move ! (3 ∷ 0 ∷ 4 ∷ 5 ∷ 6 ∷ []) $ closes ! tt Y.the-row (r .tally) (Y′.lowered (r .tally) ∷ []) b′ o′ $
-        move ! (4 ∷ []) $ use1 W (‵ (R .own (dart-put (r .at .dart)) (T′.lowered (dart-put (r .at .dart)) ∷ []))) (dart-again (r .at .dart) (next-dart-fits r u is)) $
-        use1 W (‵ (R .own (put (r .at)) (T′.lowered (put (r .at)) ∷ []))) (kind-again (r .at) (next-kind-fits r u is)) $
-        move ! (5 ∷ []) $ use1 W (‵ (cellAt fullShare (R .mir) (T′.lowered (put (r .at)) ∷ []) b o)) (W .laws .at-raw fullShare (T′.mir erased) b o (T′.lowered (put (r .at)))) $
+        drop ! $ owned ! Y.the-row (Is Y.the-row) (LL.makes Y.the-type Y′.the-plain 𝓤 H A) (r .tally) _ (tally-is r u is) $ move ! (3 ∷ 0 ∷ 4 ∷ 5 ∷ 6 ∷ []) $
+        closes ! tt Y.the-row (r .tally) (Y′.lowered (r .tally) ∷ []) b′ o′ $
+        move ! (4 ∷ []) $
+        use1 W (‵ (OwnOf (dart-put (r .at .dart)))) (dart-again (r .at .dart) (next-dart-fits r u is)) $
+        use1 W (‵ (OwnOf (put (r .at)))) (kind-again (r .at) (next-kind-fits r u is)) $
+        move ! (5 ∷ []) $
+        use1 W (‵ (cellAt fullShare (R .mir) (T′.lowered (put (r .at)) ∷ []) b o)) (W .laws .at-raw fullShare (T′.mir erased) b o (T′.lowered (put (r .at)))) $
         move ! (0 ∷ 1 ∷ 6 ∷ 7 ∷ 8 ∷ []) $ closes ! tt R (put (r .at)) (T′.lowered (put (r .at)) ∷ []) b o $
-        returns ! (look ! 27 refl) $ forget ! 7 refl $ forget ! 9 refl $ forget ! 11 refl $ forget ! 13 refl $ forget ! 15 refl $ forget ! 17 refl $ forget ! 19 refl $ forget ! 21 refl $ forget ! 23 refl $ forget ! 25 refl $ forget ! 27 refl $
-        move ! (27 ∷ 28 ∷ []) $ free1 ! $ move ! (25 ∷ 26 ∷ []) $ free1 ! $ move ! (23 ∷ 24 ∷ []) $ free1 ! $ move ! (21 ∷ 22 ∷ []) $ free1 ! $ move ! (19 ∷ 20 ∷ []) $ free1 ! $ move ! (17 ∷ 18 ∷ []) $ free1 ! $ move ! (15 ∷ 16 ∷ []) $ free1 ! $ move ! (13 ∷ 14 ∷ []) $ free1 ! $ move ! (11 ∷ 12 ∷ []) $ free1 ! $ move ! (9 ∷ 10 ∷ []) $ free1 ! $ move ! (7 ∷ 8 ∷ []) $ free1 ! $ free0 ! $
+        returns ! (look ! 27 refl) $ forget ! 7 refl $ forget ! 9 refl $ forget ! 11 refl $ forget ! 13 refl $ forget ! 15 refl $ forget ! 17 refl $
+        forget ! 19 refl $ forget ! 21 refl $ forget ! 23 refl $ forget ! 25 refl $ forget ! 27 refl $
+        move ! (27 ∷ 28 ∷ []) $ free1 ! $ move ! (25 ∷ 26 ∷ []) $ free1 ! $ move ! (23 ∷ 24 ∷ []) $ free1 ! $ move ! (21 ∷ 22 ∷ []) $ free1 ! $
+        move ! (19 ∷ 20 ∷ []) $ free1 ! $ move ! (17 ∷ 18 ∷ []) $ free1 ! $ move ! (15 ∷ 16 ∷ []) $ free1 ! $ move ! (13 ∷ 14 ∷ []) $ free1 ! $
+        move ! (11 ∷ 12 ∷ []) $ free1 ! $ move ! (9 ∷ 10 ∷ []) $ free1 ! $ move ! (7 ∷ 8 ∷ []) $ free1 ! $ free0 ! $
         by ! (exits r _ e (answer-is r u is))))))))))))))))))))))
 
 module _ {M : Type 1} (𝓤 : URA M) (H : Heap 𝓤) (A : Atoms 𝓤) (W : Given 𝓤 H A) (mem : Memory → SProp 𝓤) (run : Routine → Fun 𝓤) where
-  step-walks : (C : Calls 𝓤 H) (Λ : Loops 𝓤 H) → FmC 𝓤 H (W .laws) C → Triple 𝓤 (C #reader·walk-step) (WalkStep 𝓤 H A mem run) → Walks 𝓤 H A step.ended stayed (WpFn 𝓤 H C Λ code.function) (step.clauses 𝓤 H A mem run)
-  step-walks C Λ fm known = walked 𝓤 H A step.ended stayed (step.clauses 𝓤 H A mem run) (WpFn 𝓤 H C Λ code.function) (λ κs. (ptr-vals, (slice-vals, (ptr-vals, tt))))
-      (λ κs. (mut-tells (named 0) (κs .0) (T.the-row (namedLft 4 1 tt κs)), (shr-slice-tells (named 2) (κs .1 .1 .0) u32, (mut-tells (named 3) (κs .1 .1 .1 .0) Y.the-row, tt))))
-      (λ κs qs bounds a g are. via 𝓤 _ (fst∗ 𝓤 _ (emp 𝓤)) (walk 𝓤 H A W mem run (κs .0) (κs .1 .0) (κs .1 .1 .0) (κs .1 .1 .1 .0) bounds (qs .0) (qs .1 .0) (qs .1 .1 .0) (qs .1 .1 .1 .0) (a .0 .ptr .0) (a .0 .ptr .1) (a .0 .name) (a .0 .now) (a .1 .0) (a .1 .1 .0 .ptr .0) (a .1 .1 .0 .ptr .1) (a .1 .1 .0 .name) (a .1 .1 .0 .now) C Λ fm known (are .1 .0)))
+  step-walks : (C : Calls 𝓤 H) (Λ : Loops 𝓤 H) → FmC 𝓤 H (W .laws) C → Triple 𝓤 (C #reader·walk-step) (WalkStep 𝓤 H A mem run)
+      → Walks 𝓤 H A step.ended stayed (WpFn 𝓤 H C Λ code.function) (step.clauses 𝓤 H A mem run)
+  step-walks C Λ fm known =
+      walked 𝓤 H A step.ended stayed (step.clauses 𝓤 H A mem run) (WpFn 𝓤 H C Λ code.function)
+      (λ κs. (ptr-vals, (slice-vals, (ptr-vals, tt))))
+      (λ κs. (
+        mut-tells (named 0) (κs .0) (T.the-row (namedLft 4 1 tt κs)),
+        (shr-slice-tells (named 2) (κs .1 .1 .0) u32, (mut-tells (named 3) (κs .1 .1 .1 .0) Y.the-row, tt)),
+      ))
+      (λ κs qs bounds a g are.
+      let reader = a .0 in
+      let tally = a .1 .1 .0 in
+      via 𝓤 _ (fst∗ 𝓤 _ (emp 𝓤)) (walk 𝓤 H A W mem run (κs .0) (κs .1 .0) (κs .1 .1 .0) (κs .1 .1 .1 .0) bounds (qs .0) (qs .1 .0) (qs .1 .1 .0) (qs .1 .1 .1 .0)
+      (reader .ptr .0) (reader .ptr .1) (reader .name) (reader .now) (a .1 .0) (tally .ptr .0) (tally .ptr .1) (tally .name) (tally .now)
+      C Λ fm known (are .1 .0)))
 
-step-meets : {M : Type 1} (𝓤 : URA M) (H : Heap 𝓤) (A : Atoms 𝓤) → Given 𝓤 H A → (mem : Memory → SProp 𝓤) (run : Routine → Fun 𝓤) (𝓣 : Tables 𝓤 H) → Triple 𝓤 (𝓣 .C #reader·walk-step) (WalkStep 𝓤 H A mem run)
+step-meets : {M : Type 1} (𝓤 : URA M) (H : Heap 𝓤) (A : Atoms 𝓤) → Given 𝓤 H A → (mem : Memory → SProp 𝓤) (run : Routine → Fun 𝓤) (𝓣 : Tables 𝓤 H)
+    → Triple 𝓤 (𝓣 .C #reader·walk-step) (WalkStep 𝓤 H A mem run)
     → Meets 𝓤 H A step.signature (WpFn 𝓤 H (𝓣 .C) (𝓣 .Λ) code.function) (step.spec 𝓤 H A mem run)
 step-meets 𝓤 H A W mem run 𝓣 known =
-    walk-meets 𝓤 H A step.ended stayed W (goes-ref 𝓤 H A W 4 0 tt ReaderS, (goes-dropped 𝓤 H A W 4 (shrSliceOf (2 ∷ []) tt (plain (λ _. u32))) yes (λ κs x f. refl), (goes-ref 𝓤 H A W 4 3 tt (plain (λ _. Y.the-row)), tt))) (step.clauses 𝓤 H A mem run)
-    (WpFn 𝓤 H (𝓣 .C) (𝓣 .Λ) code.function) (WpFn-mono 𝓤 H (W .laws) 𝓣 code.function) (step-walks 𝓤 H A W mem run (𝓣 .C) (𝓣 .Λ) (fmOf 𝓤 H (W .laws) 𝓣) known)
+    walk-meets 𝓤 H A step.ended stayed W
+    (goes-ref 𝓤 H A W 4 0 tt ReaderS, (goes-dropped 𝓤 H A W 4 LengthsS yes (λ κs x f. refl), (goes-ref 𝓤 H A W 4 3 tt TallyS, tt)))
+    (step.clauses 𝓤 H A mem run) (WpFn 𝓤 H (𝓣 .C) (𝓣 .Λ) code.function) (WpFn-mono 𝓤 H (W .laws) 𝓣 code.function)
+    (step-walks 𝓤 H A W mem run (𝓣 .C) (𝓣 .Λ) (fmOf 𝓤 H (W .laws) 𝓣) known)
 
 pub step-spec : {M : Type 1} → stated.statement M
 unfolding code.routine tablesOf
@@ -274,4 +360,5 @@ step-spec 𝓤 H 𝓜 𝓖 𝓡 =
     entered 𝓤 H (tripleOf 𝓤 H (𝓖 .A) step.signature (step.spec 𝓤 H (𝓖 .A) (𝓜 .mem) (𝓡 .run)))
     (tables 𝓤 H 𝓜 𝓡 code.env .C) (tables 𝓤 H 𝓜 𝓡 code.env .Λ) #reader·step code.function (code.unfolded 𝓤 H 𝓜 𝓡)
     (step-meets 𝓤 H (𝓖 .A) (givenOf 𝓤 H 𝓜 𝓖) (𝓜 .mem) (𝓡 .run) (tablesOf 𝓤 H 𝓜 (tables 𝓤 H 𝓜 𝓡 code.env))
-    (cited 𝓤 H (WalkStep 𝓤 H (𝓖 .A) (𝓜 .mem) (𝓡 .run)) 𝓜 𝓡 code.env #reader·walk-step walk-step-def.routine code.calls-reader·walk·walk-step (walk-step-thm.met 𝓤 H 𝓜 𝓖 𝓡)))
+    (cited 𝓤 H (WalkStep 𝓤 H (𝓖 .A) (𝓜 .mem) (𝓡 .run)) 𝓜 𝓡 code.env #reader·walk-step walk-step-def.routine
+    code.calls-reader·walk·walk-step (walk-step-thm.met 𝓤 H 𝓜 𝓖 𝓡)))

@@ -1,0 +1,35 @@
+-- The theorems of this crate, document 01, "Corners and walks". Each is proved by the law of its name.
+use Prim.Native.Nat.{ℕ, _≤_}
+use mathlib.Core.Path.{_≡_}
+use mathlib.Core.Bool.{false}
+use mathlib.Core.List.{List}
+use mathlib.Core.Logic.{_≢_}
+use lib.ListN.{length}
+use Rattle.table.specs.Layout.{edges}
+use Rattle.table.specs.Rotation.{rotation}
+use Rattle.table.specs.declared.answer.Answer.the-variants.{Done}
+use Rattle.tracing.specs.Walk.{walk}
+use Rattle.tracing.specs.Listing.{has}
+use Rattle.weave.specs.Ribbon.{some}
+use Rattle.ribbons.specs.CutLength.{farLength}
+use Rattle.reader.specs.declared.place.Step.{Step}
+use Rattle.reader.specs.declared.tally.Tally.{Tally}
+use Rattle.reader.specs.Reader.{wordAt, beginOf, EachStep}
+use Rattle.reader.specs.Walked.{stepsFrom, Walked}
+use Rattle.reader.specs.laws.Reader as reader
+use Rattle.reader.specs.laws.Walked as walked
+use Rattle.reader.specs.laws.Elsewhere as elsewhere
+
+-- of every step: it declines as the making would, a declined one changes nothing, and one that ends the walk is back at the start
+pub each-step : (t lengths : List ℕ) (y : Tally) → EachStep t lengths y
+each-step = reader.each-step
+
+-- over a whole walk, of a reader that can be made, with lengths that are there and none of the walk's edges out of range
+pub reader-walks : (t : List ℕ) (first : Step) (lengths : List ℕ) → beginOf t (first .dart) (first .kind) ≡ Done 0 → edges ≤ length lengths
+    → some (farLength lengths) (walk (rotation t) (wordAt first)) ≡ false → Walked t first lengths
+reader-walks = walked.reader-walks
+
+-- a reader whose step is there and whose start is not on that step's walk never says that the walk ends
+pub never-ends : (t : List ℕ) (at first : Step) (lengths : List ℕ) (y : Tally) → beginOf t (at .dart) (at .kind) ≡ Done 0
+    → has (wordAt first) (walk (rotation t) (wordAt at)) ≡ false → (n : ℕ) → stepsFrom t at first lengths y n .answer ≢ Done 1
+never-ends = elsewhere.never-ends

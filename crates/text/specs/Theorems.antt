@@ -6,6 +6,7 @@ use mathlib.Core.Logic.{_≢_}
 use lib.ListN.{getD, length, take, drop}
 use mathlib.Core.List.{List}
 use Rattle.text.specs.Paste.{paste}
+use lib.Seq.{sets}
 use Rattle.text.specs.laws.Decimal as decimal
 use Rattle.text.specs.laws.Paste as paste
 
@@ -25,6 +26,6 @@ window-holds = paste.window-holds
 pub window-keeps : (from : ℕ) (out text : List ℕ) (i : ℕ) → length text ≤ from + i → getD (paste from 0 out text) i 0 ≡ getD out i 0
 window-keeps = paste.window-keeps
 
--- a window inside the text is the part of the text that it shows
-pub window-text : (from : ℕ) (out text : List ℕ) → length out + from ≤ length text → paste from 0 out text ≡ take (length out) (drop from text)
-window-text = paste.window-text
+-- what a window shows of the text stands at its front, and the rest is kept
+pub window-shows : (from : ℕ) (out text : List ℕ) → paste from 0 out text ≡ sets out 0 (take (length out) (drop from text))
+window-shows = paste.window-shows

@@ -18,8 +18,8 @@ pub struct Root {
 }
 
 // Points v to its parent's parent.
-fn lift(up: &mut [u16; 512], turn: &mut [u8; 512], v: usize)
-    requires { ⌜ Shape (now up) (now turn) × (v < 512) ⌝ }
+fn lift(up: &mut [u16; VERTICES], turn: &mut [u8; VERTICES], v: usize)
+    requires { ⌜ Shape (now up) (now turn) × (v < vertices) ⌝ }
     ensures { λ _. ⌜ (now (up .exit) ≡ lifted (now (up .entry)) v) × (now (turn .exit) ≡ liftTurn (now (up .entry)) (now (turn .entry)) v) ⌝ }
 {
     let p = up[v] as usize;
@@ -30,8 +30,8 @@ fn lift(up: &mut [u16; 512], turn: &mut [u8; 512], v: usize)
 }
 
 // The root of v. The pointers on the way are shortened.
-fn find(up: &mut [u16; 512], turn: &mut [u8; 512], v: usize) -> Root
-    requires { ⌜ Shape (now up) (now turn) × (v < 512) ⌝ }
+fn find(up: &mut [u16; VERTICES], turn: &mut [u8; VERTICES], v: usize) -> Root
+    requires { ⌜ Shape (now up) (now turn) × (v < vertices) ⌝ }
     ensures { λ r. ⌜ RootFound (now (up .entry)) (now (turn .entry)) v (r .label) (r .mark) (now (up .exit)) (now (turn .exit)) ⌝ }
 {
     let mut at = v;
@@ -50,7 +50,7 @@ fn find(up: &mut [u16; 512], turn: &mut [u8; 512], v: usize) -> Root
 }
 
 // Links the roots of the ends of edge e, if it is live.
-fn take_edge(t: &[u16], up: &mut [u16; 512], turn: &mut [u8; 512], e: usize)
+fn take_edge(t: &[u16], up: &mut [u16; VERTICES], turn: &mut [u8; VERTICES], e: usize)
     requires { ⌜ Taking (now t) (now up) (now turn) e ⌝ }
     ensures { λ _. ⌜ Taken (now (t .entry)) e (now (up .entry)) (now (turn .entry)) (now (up .exit)) (now (turn .exit)) ⌝ }
 {
@@ -76,7 +76,7 @@ fn take_edge(t: &[u16], up: &mut [u16; 512], turn: &mut [u8; 512], e: usize)
 }
 
 // Points each vertex to itself.
-fn begin(up: &mut [u16; 512])
+fn begin(up: &mut [u16; VERTICES])
     requires { ⌜ length (now up) ≡ vertices ⌝ }
     ensures { λ _. ⌜ Fresh vertices (now (up .exit)) ⌝ }
 {
@@ -88,7 +88,7 @@ fn begin(up: &mut [u16; 512])
 }
 
 // Points each vertex to its root.
-fn flatten(up: &mut [u16; 512], turn: &mut [u8; 512])
+fn flatten(up: &mut [u16; VERTICES], turn: &mut [u8; VERTICES])
     requires { ⌜ Shape (now up) (now turn) ⌝ }
     ensures { λ _. ⌜ Flattening (now (up .entry)) (now (turn .entry)) vertices (now (up .exit)) (now (turn .exit)) ⌝ }
 {
@@ -100,7 +100,7 @@ fn flatten(up: &mut [u16; 512], turn: &mut [u8; 512])
 }
 
 // The label of each vertex, the smallest of its part, and the parity of its mark.
-pub fn label_parts(t: &[u16], up: &mut [u16; 512], turn: &mut [u8; 512])
+pub fn label_parts(t: &[u16], up: &mut [u16; VERTICES], turn: &mut [u8; VERTICES])
     requires { ⌜ Good (now t) × (length (now up) ≡ vertices) × (now turn ≡ replicate vertices 0) ⌝ }
     ensures { λ _. ⌜ Labelled (now (t .entry)) (now (up .exit)) (now (turn .exit)) ⌝ }
 {

@@ -5,6 +5,7 @@ use crate::rows::labelled_rows;
 use labels::forest::label_parts;
 use table::answer::Answer;
 use table::answer::Refusal;
+use table::layout::VERTICES;
 use table::whole::is_good;
 ghost use Prim.Native.Nat.{_≤_};
 ghost use mathlib.Core.Path.{_≡_};
@@ -47,8 +48,8 @@ pub fn parts(t: &[u16], out: &mut [i32]) -> Answer
     if !is_good(t) {
         return Answer::Declined(Refusal::Torn);
     }
-    let mut up = [0u16; 512];
-    let mut turn = [0u8; 512];
+    let mut up = [0u16; VERTICES];
+    let mut turn = [0u8; VERTICES];
     label_parts(t, &mut up, &mut turn);
     let n = 6 * roots(t, &up) as usize;
     if out.len() < n {

@@ -48,7 +48,7 @@ fn one_edge(t: &[u16], e: usize) -> u16
 }
 
 // 1 if vertex v is live and the smallest of its part, else 0.
-fn one_root(t: &[u16], up: &[u16; 512], v: usize) -> u16
+fn one_root(t: &[u16], up: &[u16; VERTICES], v: usize) -> u16
     requires { ⌜ Keyed (now t) (now up) × (v < vertices) ⌝ }
     ensures { λ n. ⌜ n ≡ bit (root? (rotation (now (t .entry))) v) ⌝ }
 {
@@ -92,7 +92,7 @@ fn live_edges(t: &[u16]) -> u16
 }
 
 // The number of parts.
-pub fn roots(t: &[u16], up: &[u16; 512]) -> u16
+pub fn roots(t: &[u16], up: &[u16; VERTICES]) -> u16
     requires { ⌜ Keyed (now t) (now up) ⌝ }
     ensures { λ n. ⌜ AddedUp (root? (rotation (now (t .entry)))) vertices n ⌝ }
 {
@@ -111,8 +111,8 @@ pub fn measure_mesh(t: &[u16]) -> Mesh
     requires { ⌜ Good (now t) ⌝ }
     ensures { λ m. ⌜ MeshCounts (rotation (now (t .entry))) (m .vertices) (m .edges) (m .walks) (m .parts) (m .euler) ⌝ }
 {
-    let mut up = [0u16; 512];
-    let mut turn = [0u8; 512];
+    let mut up = [0u16; VERTICES];
+    let mut turn = [0u8; VERTICES];
     label_parts(t, &mut up, &mut turn);
     let p = roots(t, &up);
     let v = live_vertices(t);

@@ -43,11 +43,11 @@ fn row(out: &mut [i32], at: usize, r: u16, v: u16, e: u16, f: u16, twisted: u16)
 // The row of vertex r, if it is the smallest of its part. Answers where the next row goes.
 fn write_root(
     t: &[u16],
-    up: &[u16; 512],
-    vs: &[u16; 512],
-    es: &[u16; 512],
-    fs: &[u16; 512],
-    odd: &[u16; 512],
+    up: &[u16; VERTICES],
+    vs: &[u16; VERTICES],
+    es: &[u16; VERTICES],
+    fs: &[u16; VERTICES],
+    odd: &[u16; VERTICES],
     out: &mut [i32],
     at: usize,
     r: usize,
@@ -68,11 +68,11 @@ fn write_root(
 // The rows of all parts, upward. Answers how many words they are.
 fn write_rows(
     t: &[u16],
-    up: &[u16; 512],
-    vs: &[u16; 512],
-    es: &[u16; 512],
-    fs: &[u16; 512],
-    odd: &[u16; 512],
+    up: &[u16; VERTICES],
+    vs: &[u16; VERTICES],
+    es: &[u16; VERTICES],
+    fs: &[u16; VERTICES],
+    odd: &[u16; VERTICES],
     out: &mut [i32],
 ) -> usize
     requires { ⌜ Rowing (now t) (now up) (now vs) (now es) (now fs) (now odd) 0 0 (now out) (now out) ⌝ }
@@ -88,14 +88,19 @@ fn write_rows(
 }
 
 // The rows of the parts that are labelled, upward. Answers how many words they are.
-pub fn labelled_rows(t: &[u16], up: &[u16; 512], turn: &[u8; 512], out: &mut [i32]) -> usize
+pub fn labelled_rows(
+    t: &[u16],
+    up: &[u16; VERTICES],
+    turn: &[u8; VERTICES],
+    out: &mut [i32],
+) -> usize
     requires { ⌜ Good (now t) × Labelled (now t) (now up) (now turn) × (length (rows (rotation (now t)) vertices) ≤ length (now out)) ⌝ }
     ensures { λ n. ⌜ Written (rotation (now (t .entry))) vertices n (now (out .entry)) (now (out .exit)) ⌝ }
 {
-    let mut vs = [0u16; 512];
-    let mut es = [0u16; 512];
-    let mut fs = [0u16; 512];
-    let mut odd = [0u16; 512];
+    let mut vs = [0u16; VERTICES];
+    let mut es = [0u16; VERTICES];
+    let mut fs = [0u16; VERTICES];
+    let mut odd = [0u16; VERTICES];
     tally_parts(t, up, turn, &mut vs, &mut es, &mut fs, &mut odd);
     write_rows(t, up, &vs, &es, &fs, &odd, out)
 }

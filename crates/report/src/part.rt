@@ -58,11 +58,11 @@ fn write_part(
 // The line of the part of vertex r, if it is the smallest of its part.
 fn root_line(
     t: &[u16],
-    up: &[u16; 512],
-    vs: &[u16; 512],
-    es: &[u16; 512],
-    fs: &[u16; 512],
-    odd: &[u16; 512],
+    up: &[u16; VERTICES],
+    vs: &[u16; VERTICES],
+    es: &[u16; VERTICES],
+    fs: &[u16; VERTICES],
+    odd: &[u16; VERTICES],
     out: &mut [u8],
     from: usize,
     at: usize,
@@ -83,11 +83,11 @@ fn root_line(
 // The lines of all parts, from their labels and counts.
 fn root_lines(
     t: &[u16],
-    up: &[u16; 512],
-    vs: &[u16; 512],
-    es: &[u16; 512],
-    fs: &[u16; 512],
-    odd: &[u16; 512],
+    up: &[u16; VERTICES],
+    vs: &[u16; VERTICES],
+    es: &[u16; VERTICES],
+    fs: &[u16; VERTICES],
+    odd: &[u16; VERTICES],
     out: &mut [u8],
     from: usize,
     at: usize,
@@ -109,13 +109,13 @@ pub fn part_lines(t: &[u16], out: &mut [u8], from: usize, at: usize) -> usize
     requires { ⌜ Good (now t) × (at < 2 ^ 44) ⌝ }
     ensures { λ n. ⌜ Wrote parts-most from at (now (out .entry)) (gather (partLine (rotation (now (t .entry)))) (parts (rotation (now (t .entry))))) n (now (out .exit)) ⌝ }
 {
-    let mut up = [0u16; 512];
-    let mut turn = [0u8; 512];
+    let mut up = [0u16; VERTICES];
+    let mut turn = [0u8; VERTICES];
     label_parts(t, &mut up, &mut turn);
-    let mut vs = [0u16; 512];
-    let mut es = [0u16; 512];
-    let mut fs = [0u16; 512];
-    let mut odd = [0u16; 512];
+    let mut vs = [0u16; VERTICES];
+    let mut es = [0u16; VERTICES];
+    let mut fs = [0u16; VERTICES];
+    let mut odd = [0u16; VERTICES];
     tally_parts(t, &up, &turn, &mut vs, &mut es, &mut fs, &mut odd);
     root_lines(t, &up, &vs, &es, &fs, &odd, out, from, at)
 }

@@ -14,6 +14,7 @@ ghost use Rattle.table.specs.Good.{Good};
 ghost use Rattle.report.specs.Lines.{walkLine};
 ghost use Rattle.report.specs.laws.Wrote.{Wrote, lones-most, walk-most};
 ghost use Rattle.report.specs.laws.Walks.{WalkAt, DartAt, LinePlaced, PlacedAll, LoneAt, PlacedLone, loneText, loneLines};
+ghost use Rattle.table.specs.Layout.{vertices, darts};
 
 // Where the text stands, and the index of the next walk.
 pub struct Place {
@@ -36,7 +37,7 @@ fn write_walk(t: &[u16], out: &mut [u8], from: usize, at: usize, i: u32, d: u16,
 // The line of the walk that starts at dart d, if one does. Marks its corners.
 fn walk_line(
     t: &[u16],
-    met: &mut [u8; 2048],
+    met: &mut [u8; DARTS],
     out: &mut [u8],
     from: usize,
     at: usize,
@@ -63,7 +64,7 @@ pub fn walk_lines(t: &[u16], out: &mut [u8], from: usize, at: usize) -> Place
     requires { ⌜ Good (now t) × (at < 2 ^ 42) ⌝ }
     ensures { λ r. ⌜ PlacedAll (now (t .entry)) from at (now (out .entry)) r (now (out .exit)) ⌝ }
 {
-    let mut met = [0u8; 2048];
+    let mut met = [0u8; DARTS];
     let mut end = at;
     let mut i: u32 = 0;
     let mut d: usize = 0;
@@ -105,8 +106,8 @@ fn lone_line(t: &[u16], out: &mut [u8], from: usize, at: usize, i: u32, v: usize
 
 // The lines of the empty walks, upward, with indices from `first` on.
 pub fn lone_lines(t: &[u16], out: &mut [u8], from: usize, at: usize, first: u32) -> usize
-    requires { ⌜ Good (now t) × (first ≤ 2048) × (at < 2 ^ 43) ⌝ }
-    ensures { λ r. ⌜ Wrote lones-most from at (now (out .entry)) (loneLines (now (t .entry)) first 512) r (now (out .exit)) ⌝ }
+    requires { ⌜ Good (now t) × (first ≤ darts) × (at < 2 ^ 43) ⌝ }
+    ensures { λ r. ⌜ Wrote lones-most from at (now (out .entry)) (loneLines (now (t .entry)) first vertices) r (now (out .exit)) ⌝ }
 {
     let mut end = at;
     let mut i = first;

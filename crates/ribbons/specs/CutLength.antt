@@ -20,9 +20,13 @@ use Rattle.table.specs.Answers.{unless}
 abbrev pub lengthOf : List ℕ → ℕ → ℕ
 lengthOf lengths s = getD lengths (edgeOf (s / 2)) 0
 
--- "each from 1 to 65,535 sixteenths of a millimetre": is the length of this step's edge out of the range
+-- "each from 1 to 65,535 sixteenths of a millimetre"
+abbrev pub longest : ℕ
+longest = 65535
+
+-- is the length of this step's edge out of the range
 abbrev pub farLength : List ℕ → ℕ → Bool
-farLength lengths s = ltb (lengthOf lengths s) 1 || ltb 65535 (lengthOf lengths s)
+farLength lengths s = ltb (lengthOf lengths s) 1 || ltb longest (lengthOf lengths s)
 
 -- "the sum over its steps of edge lengths"
 unfoldable pub cutLength : List ℕ → List ℕ → ℕ

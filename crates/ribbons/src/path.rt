@@ -83,7 +83,9 @@ pub fn float_path(
     kinds: &mut [u16],
     coords: &mut [f32],
 ) -> Answer
-    ensures { λ r. ⌜ (r ≡ pathAnswer (now (t .entry)) dart kind (now (points .entry)) (now (lifts .entry)) (length (now (kinds .entry))) (length (now (coords .entry)))) × (now (kinds .exit) ≡ kindsOut (now (t .entry)) dart kind (now (points .entry)) (now (lifts .entry)) (now (kinds .entry)) (now (coords .entry))) × (now (coords .exit) ≡ coordsOut (now (t .entry)) dart kind (now (points .entry)) (now (lifts .entry)) (now (kinds .entry)) (now (coords .entry))) ⌝ }
+    ensures { λ r. ⌜ (r ≡ pathAnswer (now (t .entry)) dart kind (now (points .entry)) (now (lifts .entry)) (length (now (kinds .entry))) (length (now (coords .entry))))
+        × (now (kinds .exit) ≡ kindsOut (now (t .entry)) dart kind (now (points .entry)) (now (lifts .entry)) (now (kinds .entry)) (now (coords .entry)))
+        × (now (coords .exit) ≡ coordsOut (now (t .entry)) dart kind (now (points .entry)) (now (lifts .entry)) (now (kinds .entry)) (now (coords .entry))) ⌝ }
 {
     let n = named_step(t, dart, kind);
     match n {

@@ -58,7 +58,8 @@ pub fn write_path(
     s: u16,
 )
     requires { ⌜ PathRoom (now t) (now points) (now lifts) s (length (now kinds)) (length (now coords)) ⌝ }
-    ensures { λ _. ⌜ (now (kinds .exit) ≡ front (text kindsOf (pathFrom (now (t .entry)) (now (points .entry)) (now (lifts .entry)) s)) (now (kinds .entry))) × (now (coords .exit) ≡ front (text floatsOf (pathFrom (now (t .entry)) (now (points .entry)) (now (lifts .entry)) s)) (now (coords .entry))) ⌝ }
+    ensures { λ _. ⌜ (now (kinds .exit) ≡ front (text kindsOf (pathFrom (now (t .entry)) (now (points .entry)) (now (lifts .entry)) s)) (now (kinds .entry)))
+        × (now (coords .exit) ≡ front (text floatsOf (pathFrom (now (t .entry)) (now (points .entry)) (now (lifts .entry)) s)) (now (coords .entry))) ⌝ }
 {
     let n = write_pieces(t, points, lifts, kinds, coords, s);
     write_piece(kinds, coords, n, Piece::Close);

@@ -17,7 +17,13 @@ ghost use Rattle.tallies.specs.laws.Tallying.{Vertexing, Edging, Dartwis
 ghost use Rattle.surface.specs.Signed.{eulerOf};
 
 // Vertex v, if it is live, and its empty walk, if it is isolated.
-fn count_vertex(t: &[u16], up: &[u16; 512], vs: &mut [u16; 512], fs: &mut [u16; 512], v: usize)
+fn count_vertex(
+    t: &[u16],
+    up: &[u16; VERTICES],
+    vs: &mut [u16; VERTICES],
+    fs: &mut [u16; VERTICES],
+    v: usize,
+)
     requires { ⌜ Vertexing (now t) (now up) v (now vs) (now fs) × (v < vertices) ⌝ }
     ensures { λ _. ⌜ Vertexing (now (t .entry)) (now (up .entry)) (v + 1) (now (vs .exit)) (now (fs .exit)) ⌝ }
 {
@@ -33,7 +39,12 @@ fn count_vertex(t: &[u16], up: &[u16; 512], vs: &mut [u16; 512], fs: &mut [u16; 
     fs[k] = fs[k] + 1;
 }
 
-fn count_vertices(t: &[u16], up: &[u16; 512], vs: &mut [u16; 512], fs: &mut [u16; 512])
+fn count_vertices(
+    t: &[u16],
+    up: &[u16; VERTICES],
+    vs: &mut [u16; VERTICES],
+    fs: &mut [u16; VERTICES],
+)
     requires { ⌜ Vertexing (now t) (now up) 0 (now vs) (now fs) ⌝ }
     ensures { λ _. ⌜ Vertexing (now (t .entry)) (now (up .entry)) vertices (now (vs .exit)) (now (fs .exit)) ⌝ }
 {
@@ -47,10 +58,10 @@ fn count_vertices(t: &[u16], up: &[u16; 512], vs: &mut [u16; 512], fs: &mut [u16
 // Edge e, if it is live, and again if it is twisted.
 fn count_edge(
     t: &[u16],
-    up: &[u16; 512],
-    turn: &[u8; 512],
-    es: &mut [u16; 512],
-    odd: &mut [u16; 512],
+    up: &[u16; VERTICES],
+    turn: &[u8; VERTICES],
+    es: &mut [u16; VERTICES],
+    odd: &mut [u16; VERTICES],
     e: usize,
 )
     requires { ⌜ Edging (now t) (now up) (now turn) e (now es) (now odd) × (e < edges) ⌝ }
@@ -72,10 +83,10 @@ fn count_edge(
 
 fn count_edges(
     t: &[u16],
-    up: &[u16; 512],
-    turn: &[u8; 512],
-    es: &mut [u16; 512],
-    odd: &mut [u16; 512],
+    up: &[u16; VERTICES],
+    turn: &[u8; VERTICES],
+    es: &mut [u16; VERTICES],
+    odd: &mut [u16; VERTICES],
 )
     requires { ⌜ Edging (now t) (now up) (now turn) 0 (now es) (now odd) ⌝ }
     ensures { λ _. ⌜ Edging (now (t .entry)) (now (up .entry)) (now (turn .entry)) edges (now (es .exit)) (now (odd .exit)) ⌝ }
@@ -88,7 +99,13 @@ fn count_edges(
 }
 
 // The walk that starts at dart d, if one does.
-fn count_walk(t: &[u16], up: &[u16; 512], met: &mut [u8; 2048], fs: &mut [u16; 512], d: usize)
+fn count_walk(
+    t: &[u16],
+    up: &[u16; VERTICES],
+    met: &mut [u8; DARTS],
+    fs: &mut [u16; VERTICES],
+    d: usize,
+)
     requires { ⌜ Dartwise (now t) (now up) d (now met) (now fs) × (d < darts) ⌝ }
     ensures { λ _. ⌜ Dartwise (now (t .entry)) (now (up .entry)) (d + 1) (now (met .exit)) (now (fs .exit)) ⌝ }
 {
@@ -100,11 +117,11 @@ fn count_walk(t: &[u16], up: &[u16; 512], met: &mut [u8; 2048], fs: &mut [u16; 5
     fs[k] = fs[k] + 1;
 }
 
-fn count_walks(t: &[u16], up: &[u16; 512], fs: &mut [u16; 512])
+fn count_walks(t: &[u16], up: &[u16; VERTICES], fs: &mut [u16; VERTICES])
     requires { ⌜ Keyed (now t) (now up) × (now fs ≡ replicate vertices 0) ⌝ }
     ensures { λ _. ⌜ WalkTally (now (t .entry)) darts (now (fs .exit)) ⌝ }
 {
-    let mut met = [0u8; 2048];
+    let mut met = [0u8; DARTS];
     let mut d: usize = 0;
     while d < DARTS {
         count_walk(t, up, &mut met, fs, d);
@@ -122,12 +139,12 @@ pub fn euler(v: u16, e: u16, f: u16) -> i32
 // V, E, F and the twisted edges of each part, by its label.
 pub fn tally_parts(
     t: &[u16],
-    up: &[u16; 512],
-    turn: &[u8; 512],
-    vs: &mut [u16; 512],
-    es: &mut [u16; 512],
-    fs: &mut [u16; 512],
-    odd: &mut [u16; 512],
+    up: &[u16; VERTICES],
+    turn: &[u8; VERTICES],
+    vs: &mut [u16; VERTICES],
+    es: &mut [u16; VERTICES],
+    fs: &mut [u16; VERTICES],
+    odd: &mut [u16; VERTICES],
 )
     requires { ⌜ Tallies (now t) (now up) (now turn) (now vs) (now es) (now fs) (now odd) ⌝ }
     ensures { λ _. ⌜ PartTally (now (t .entry)) (now (vs .exit)) (now (es .exit)) (now (fs .exit)) (now (odd .exit)) ⌝ }

@@ -97,3 +97,14 @@ fn random_right_corner(random: &mut Random, table: &[u16]) -> Option<u16> {
     let corners: Vec<u16> = live_darts(table).chain(around).collect();
     (!corners.is_empty()).then(|| random.pick(&corners))
 }
+
+/// The kind of an edit, for counting how often each came up.
+pub fn kind(change: Edit) -> &'static str {
+    match change {
+        Edit::AddVertex { .. } => "add",
+        Edit::RemoveVertex { .. } => "remove",
+        Edit::InsertEdge { .. } => "insert",
+        Edit::DeleteEdge { .. } => "delete",
+        Edit::TurnEdge { .. } => "turn",
+    }
+}

@@ -9,7 +9,7 @@ use reference::faces::{face_count, Walk};
 use reference::run::run;
 use reference::table::*;
 use reference::trace::corner_met;
-use reference::trial::edits::{random_edit, Window, WINDOWS};
+use reference::trial::edits::{kind, random_edit, Window, WINDOWS};
 use reference::trial::random::Random;
 use reference::trial::tables::{random_mesh, random_table};
 use reference::weave::{alternate, letters_along, plain};
@@ -151,16 +151,6 @@ fn the_change_at_each_edit_is_the_rules_and_every_rule_comes_up() {
     let changes = ["insert", "delete", "turn"].iter().flat_map(|&k| [-1, 0, 1].map(|c| (k, c)));
     for case in kinds.into_iter().chain(changes) {
         assert!(seen.get(&case).is_some_and(|&times| times > 20), "{case:?} in {seen:?}");
-    }
-}
-
-fn kind(change: Edit) -> &'static str {
-    match change {
-        Edit::AddVertex { .. } => "add",
-        Edit::RemoveVertex { .. } => "remove",
-        Edit::InsertEdge { .. } => "insert",
-        Edit::DeleteEdge { .. } => "delete",
-        Edit::TurnEdge { .. } => "turn",
     }
 }
 

@@ -4,6 +4,7 @@ use crate::guarded::Guarded;
 use crate::planner;
 use reference::edit::{edit, Edit};
 use reference::table::VERTICES;
+pub use reference::trial::edits::kind;
 use std::collections::BTreeMap;
 
 const GUARD: u16 = 0xa5c3;
@@ -61,16 +62,6 @@ impl Seen {
                 assert!(seen >= times, "{kind} with {number}: {seen} times in {self:?}");
             }
         }
-    }
-}
-
-pub fn kind(change: Edit) -> &'static str {
-    match change {
-        Edit::AddVertex { .. } => "add",
-        Edit::RemoveVertex { .. } => "remove",
-        Edit::InsertEdge { .. } => "insert",
-        Edit::DeleteEdge { .. } => "delete",
-        Edit::TurnEdge { .. } => "turn",
     }
 }
 

@@ -72,11 +72,20 @@ module _ (t : List ℕ) (L : ℕ → Bool) (H : Held t L) (x : ℕ) where
         ])
   ]
 
-  taken-reads : L x ≡ true → Reads (taken t x) (upd (upd (nextWord t) (prevWord t x) (nextWord t x)) x nothing) (upd (upd (prevWord t) (nextWord t x) (prevWord t x)) x nothing) (upd (leaves t) x nothing) (edgeWord t) (vertexWord t)
+  -- the next and the previous words, once x is out
+  abbrev nextOut : ℕ → ℕ
+  nextOut = upd (upd (nextWord t) (prevWord t x) (nextWord t x)) x nothing
+
+  abbrev prevOut : ℕ → ℕ
+  prevOut = upd (upd (prevWord t) (nextWord t x) (prevWord t x)) x nothing
+
+  taken-reads : L x ≡ true → Reads (taken t x) nextOut prevOut (upd (leaves t) x nothing) (edgeWord t) (vertexWord t)
   taken-reads on = reads-cut t (H .size) x (nextWord t x) (prevWord t x) (H .low x on) (H .low _ (H .next-live x on)) (H .low _ (H .prev-live x on))
 
   -- the words after a dart is taken out
-  pub unlink-reads : L x ≡ true → Reads (unlink t x) (upd (upd (nextWord t) (prevWord t x) (nextWord t x)) x nothing) (upd (upd (prevWord t) (nextWord t x) (prevWord t x)) x nothing) (upd (leaves t) x nothing) (edgeWord t)
+  pub unlink-reads : L x ≡ true → Reads (unlink t x)
+      (upd (upd (nextWord t) (prevWord t x) (nextWord t x)) x nothing) (upd (upd (prevWord t) (nextWord t x) (prevWord t x)) x nothing)
+      (upd (leaves t) x nothing) (edgeWord t)
       (upd (vertexWord t) (leaves t x) (successor (taken t x) (leaves t x) x (vertexWord t (leaves t x))))
   unlink-reads on = reads-vertex (taken-reads on) (leaves t x) _ (H .leaves-low x on)
 

@@ -5,7 +5,9 @@ use mathlib.Core.List.{List}
 use lib.ListN.{length, length-set}
 use Rattle.table.specs.Layout.{vertices, edges, darts, words, nothing, nextWord, prevWord, leaves, edgeWord, vertexWord}
 use Rattle.table.specs.Writes.{setNext, setPrev, setLeaves, setVertex}
-use Rattle.table.specs.laws.Writes.{upd, upd-same, next-next, prev-prev, leaves-leaves, vertex-vertex, next-prev, next-leaves, next-vertex, prev-next, prev-leaves, prev-vertex, leaves-next, leaves-prev, leaves-vertex, edge-next, edge-prev, edge-leaves, edge-vertex, vertex-next, vertex-prev, vertex-leaves}
+use Rattle.table.specs.laws.Writes.{upd, upd-same, next-next, prev-prev, leaves-leaves, vertex-vertex, next-prev, next-leaves, next-vertex, prev-next, prev-leaves}
+use Rattle.table.specs.laws.Writes.{prev-vertex, leaves-next, leaves-prev, leaves-vertex, edge-next, edge-prev, edge-leaves, edge-vertex, vertex-next, vertex-prev}
+use Rattle.table.specs.laws.Writes.{vertex-leaves}
 use Rattle.edits.specs.Edge.{tie, splice, cut}
 
 -- what the words of a table are after writes, as functions

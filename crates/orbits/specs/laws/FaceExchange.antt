@@ -21,7 +21,8 @@ use Rattle.orbits.specs.Mirror.{Mirror}
 use Rattle.orbits.specs.laws.Mirror.{mirror-world, opposite-low, opposite-reach, no-self}
 use Rattle.orbits.specs.Faces.{Face, along, mirrored, faced, faceClasses}
 use Rattle.orbits.specs.laws.Faces.{face-flip, face-partition, orbits-pair}
-use Rattle.orbits.specs.laws.MirrorExchange.{exch2-at, exch2-world, exch2-mirror, exch2-back, exch2-left, exch2-right, exch2-undo, tr2-low, exch2-less, exch2-more, exch2-same, less-joins, more-parts, same-parts, mirror-apart}
+use Rattle.orbits.specs.laws.MirrorExchange.{exch2-at, exch2-world, exch2-mirror, exch2-back, exch2-left, exch2-right, exch2-undo, tr2-low, exch2-less, exch2-more}
+use Rattle.orbits.specs.laws.MirrorExchange.{exch2-same, less-joins, more-parts, same-parts, mirror-apart}
 
 module _ {N : ℕ} {f m : ℕ → ℕ} {live : ℕ → Bool} (E : Mirror N f m live) {x y : ℕ} (a : On N live x) (b : On N live y) where
   -- The faceClasses after it. In all cases a step of the new map stays inside the old faceClasses with those of x and y joined,

@@ -5,6 +5,7 @@ use mathlib.Core.Path.{_≡_, refl}
 use mathlib.Core.Bool.{Bool, true, false}
 use borrow.Author.Tests.{lt-ltb, le-ltb}
 use Rattle.tracing.specs.Met.{times, countIn}
+use Rattle.tracing.specs.laws.Step.{type-of, is-zero, is-one}
 use Rattle.weave.specs.Letters.{over, under, unturned, positive, crossings, letter, crossed, lettersOn}
 
 -- "the strand goes over (O) .., else under (U)": each crossing has one of the two letters
@@ -37,38 +38,28 @@ pub crossings-most : {w n : ℕ} → w < 65536 → n ≡ crossings w → n ≤ 6
 unfolding crossings
 crossings-most h e = omega arith
 
--- a type is 0 or 1
-data Type? : ℕ → Type 0 where
-  zero-type : Type? 0
-  one-type : Type? 1
-
-type? : (k : ℕ) → k < 2 → Type? k
-type? zero h = zero-type
-type? (suc zero) h = one-type
-type? (suc (suc k)) h = absurd (omega arith)
-
 module _ {w n kind : ℕ} (e : n ≡ crossings w) (h : kind < 2) where
   pub overs-positive : unturned < w → (n + 1 - kind) / 2 ≡ times over (lettersOn w kind)
   unfolding lettersOn
-  overs-positive l = rw (lt-ltb unturned w l, ← e) (by (type? kind h))
-    where
-      by : {k : ℕ} → Type? k → (n + 1 - k) / 2 ≡ times over (crossed true k n)
-      by zero-type = let r = halves n .positive-zero in omega arith
-      by one-type = let r = halves n .positive-one in omega arith
+  overs-positive l = rw (lt-ltb unturned w l, ← e) (elim (type-of kind h) [
+    | is-zero z ↦ rw z (let r = halves n .positive-zero in omega arith)
+    | is-one z ↦ rw z (let r = halves n .positive-one in omega arith)
+  ])
 
   pub overs-negative : w ≤ unturned → (n + kind) / 2 ≡ times over (lettersOn w kind)
   unfolding lettersOn
-  overs-negative l = rw (le-ltb unturned w l, ← e) (by (type? kind h))
-    where
-      by : {k : ℕ} → Type? k → (n + k) / 2 ≡ times over (crossed false k n)
-      by zero-type = let r = halves n .negative-zero in omega arith
-      by one-type = let r = halves n .negative-one in omega arith
+  overs-negative l = rw (le-ltb unturned w l, ← e) (elim (type-of kind h) [
+    | is-zero z ↦ rw z (let r = halves n .negative-zero in omega arith)
+    | is-one z ↦ rw z (let r = halves n .negative-one in omega arith)
+  ])
 
 -- the letters that are not O are U
 pub unders-left : (w kind : ℕ) {n o : ℕ} → n ≡ crossings w → o ≡ times over (lettersOn w kind) → kind < 2 → (o ≤ n) × (n - o ≡ times under (lettersOn w kind))
 unfolding lettersOn
-unders-left w kind e f h = let both = by (type? kind h) in (omega arith, omega arith)
+unders-left w kind e f h = let both = by in (omega arith, omega arith)
   where
-    by : {k : ℕ} → Type? k → times over (crossed (positive w) k (crossings w)) + times under (crossed (positive w) k (crossings w)) ≡ crossings w
-    by zero-type = times-both (positive w) (crossings w) .0
-    by one-type = times-both (positive w) (crossings w) .1
+    by : times over (crossed (positive w) kind (crossings w)) + times under (crossed (positive w) kind (crossings w)) ≡ crossings w
+    by = elim (type-of kind h) [
+      | is-zero z ↦ rw z (times-both (positive w) (crossings w) .0)
+      | is-one z ↦ rw z (times-both (positive w) (crossings w) .1)
+    ]

@@ -10,7 +10,7 @@ use Rattle.table.specs.declared.answer.Refusal.the-variants.{Overturned, ShortS
 use Rattle.tracing.specs.Met.{times}
 use Rattle.weave.specs.Letters.{over, crossings, lettersOn, stepLetters}
 use Rattle.weave.specs.laws.Crossing.{EdgeWord}
-use Rattle.ribbons.specs.CutLength.{lengthOf}
+use Rattle.ribbons.specs.CutLength.{lengthOf, longest}
 use Rattle.reader.specs.declared.tally.Tally.{Tally}
 use Rattle.reader.specs.declared.tally.Tallied.{Tallied}
 use Rattle.reader.specs.declared.tally.Tallied.the-variants.{Brought, Kept}
@@ -58,13 +58,13 @@ module _ (t : List ℕ) (s : ℕ) (lengths : List ℕ) (y : Tally) where
     unfolding tallyOf
     tally-low h = rw (le-leb edges (length lengths) size, lt-ltb (lengthOf lengths s) 1 h)
 
-    pub tally-high : 1 ≤ lengthOf lengths s → 65535 < lengthOf lengths s → Kept Far ≡ tallyOf t s lengths y
+    pub tally-high : 1 ≤ lengthOf lengths s → longest < lengthOf lengths s → Kept Far ≡ tallyOf t s lengths y
     unfolding tallyOf
-    tally-high l h = rw (le-leb edges (length lengths) size, le-ltb (lengthOf lengths s) 1 l, lt-ltb 65535 (lengthOf lengths s) h)
+    tally-high l h = rw (le-leb edges (length lengths) size, le-ltb (lengthOf lengths s) 1 l, lt-ltb longest (lengthOf lengths s) h)
 
-    pub tally-forward : {w n o : ℕ} {r : Tallied} → 1 ≤ lengthOf lengths s → lengthOf lengths s ≤ 65535 → EdgeWord t s w → n ≡ crossings w
+    pub tally-forward : {w n o : ℕ} {r : Tallied} → 1 ≤ lengthOf lengths s → lengthOf lengths s ≤ longest → EdgeWord t s w → n ≡ crossings w
         → o ≡ times over (lettersOn w (s % 2)) → r ≡ forwardOf y o (n - o) (lengthOf lengths s) → r ≡ tallyOf t s lengths y
     unfolding tallyOf forwardOf stepLetters
     tally-forward {w} {n} {o} l h e c f g =
         let u = unders-left w (s % 2) c f (omega arith) .1 in
-        g ∙ rw (le-leb edges (length lengths) size, le-ltb (lengthOf lengths s) 1 l, le-ltb 65535 (lengthOf lengths s) h, u, f, e .word)
+        g ∙ rw (le-leb edges (length lengths) size, le-ltb (lengthOf lengths s) 1 l, le-ltb longest (lengthOf lengths s) h, u, f, e .word)

@@ -20,7 +20,7 @@ use Rattle.table.specs.laws.Lawful.{good-lawful}
 use Rattle.table.specs.laws.Check.{good-yes}
 use Rattle.table.specs.laws.Output.{done-declined}
 use Rattle.table.specs.declared.answer.Answer.the-variants.{Done}
-use Rattle.tracing.specs.Step.{step}
+use Rattle.tracing.specs.Step.{step, steps}
 use Rattle.tracing.specs.Walk.{walk}
 use Rattle.tracing.specs.laws.Walk.{iterates, run-suc, run-length, walk-run, walk-period, walk-period-le}
 use Rattle.tracing.specs.Listing.{gather, bit}
@@ -34,7 +34,7 @@ use Rattle.weave.specs.laws.Passing.{lettersBefore, before-suc}
 use Rattle.weave.specs.Ribbon.{some}
 use Rattle.weave.specs.laws.Ribbon.{passes-some}
 use Rattle.weave.specs.Calls.{namedStep}
-use Rattle.ribbons.specs.CutLength.{lengthOf, farLength, cutLength}
+use Rattle.ribbons.specs.CutLength.{lengthOf, farLength, cutLength, longest}
 use Rattle.ribbons.specs.laws.Summing.{cut-append}
 use Rattle.reader.specs.declared.place.Step.{Step}
 use Rattle.reader.specs.declared.tally.Tally.{Tally}
@@ -58,8 +58,8 @@ letters-few {t} {s} h =
     (omega arith, omega arith)
 
 -- a length that is not too long
-length-most : (lengths : List ℕ) (x : ℕ) → farLength lengths x ≡ false → lengthOf lengths x ≤ 65535
-length-most lengths x e = ltb-false 65535 (lengthOf lengths x) (false-unless (ltb 65535 (lengthOf lengths x)) (λ h.
+length-most : (lengths : List ℕ) (x : ℕ) → farLength lengths x ≡ false → lengthOf lengths x ≤ longest
+length-most lengths x e = ltb-false longest (lengthOf lengths x) (false-unless (ltb longest (lengthOf lengths x)) (λ h.
     clash (ap (λ b. ltb (lengthOf lengths x) 1 || b) h ∙ or-true (ltb (lengthOf lengths x) 1)) e))
 
 module _ (t : List ℕ) (first : Step) (lengths : List ℕ) (start : Stands t (wordAt first)) (type : first .kind < 2) (size : edges ≤ length lengths) where
@@ -97,7 +97,7 @@ module _ (t : List ℕ) (first : Step) (lengths : List ℕ) (start : Stands t (w
     steps : handed t first lengths n ≡ iterates f s n
     overs : times over (lettersBefore t s n) ≤ 99 * n
     unders : times under (lettersBefore t s n) ≤ 99 * n
-    length : cutLength lengths (iterates f s n) ≤ 65535 * n
+    length : cutLength lengths (iterates f s n) ≤ longest * n
 
   first-at : first ≡ stepAt s
   first-at = ap₂ pair (omega arith) (omega arith)
@@ -109,7 +109,7 @@ module _ (t : List ℕ) (first : Step) (lengths : List ℕ) (start : Stands t (w
   unfolding stepsFrom handed iterates gather countIn cutLength iter
   reads-none = record { at = first-at; tally = refl; steps = refl; overs = omega arith; unders = omega arith; length = omega arith }
 
-  module _ (n : ℕ) (k : Reads n) (low : n < 4096) (near : farLength lengths (iter f n s) ≡ false) where
+  module _ (n : ℕ) (k : Reads n) (low : n < steps) (near : farLength lengths (iter f n s) ≡ false) where
     abbrev x : ℕ
     x = iter f n s
 
@@ -173,7 +173,7 @@ module _ (t : List ℕ) (first : Step) (lengths : List ℕ) (start : Stands t (w
           length = omega arith;
         }
 
-  module _ (near : some (farLength lengths) (walk (rotation t) s) ≡ false) (p : Period f s) (few : p .steps ≤ 4096) (all : walk (rotation t) s ≡ iterates f s (p .steps)) where
+  module _ (near : some (farLength lengths) (walk (rotation t) s) ≡ false) (p : Period f s) (few : p .steps ≤ steps) (all : walk (rotation t) s ≡ iterates f s (p .steps)) where
     near-at : (n : ℕ) → n < p .steps → farLength lengths (iter f n s) ≡ false
     near-at n h = false-unless (farLength lengths (iter f n s)) (λ e.
         clash (passes-some (farLength lengths) (walk (rotation t) s) (iter f n s) (rw all (run-has f s (iter f n s) (p .steps) (record { steps = n; few = h; lands = refl }))) e) near)

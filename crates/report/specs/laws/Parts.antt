@@ -69,7 +69,14 @@ module _ {t up vs es fs odd : List ℕ} {r at : ℕ} (k : TalliedAt t up vs es f
   part-root e q w =
       let h = k .low in
       let tally = k .tallied .tally in
-      rw (only-one (root? (rotation t) r) r (root-yes t (k .tallied .keyed) r h e q), gather-one (partLine (rotation t)) r, ← tally .vertices-at r h, ← tally .edges-at r h, ← tally .walks-at r h, ← tally .orientable-at r h) w
+      rw (
+        only-one (root? (rotation t) r) r (root-yes t (k .tallied .keyed) r h e q),
+        gather-one (partLine (rotation t)) r,
+        ← tally .vertices-at r h,
+        ← tally .edges-at r h,
+        ← tally .walks-at r h,
+        ← tally .orientable-at r h,
+      ) w
 
 -- the loop over the vertices: the lines of the parts below r are written
 pub record Parting (t : List ℕ) (from at r end : ℕ) (out₀ out : List ℕ) : Type 0 where

@@ -70,7 +70,7 @@ walk-wrote i {t} {d} k a b c s e =
 -- dart d, with the walks listed before it marked
 pub record DartAt (t m : List ℕ) (d i at : ℕ) : Type 0 where
   pub range : LookReady t m d
-  pub few : i ≤ 2048
+  pub few : i ≤ darts
   pub near : at < 2 ^ 43
 
 -- the line of the walk that starts at d, if one does
@@ -143,7 +143,12 @@ numbering-more {t} {d = d} {i = i} {r = r} k h p =
     let few = k .few in
     let one = p .few in
     let text : numbered (walkLine t) 0 (starts R d) ++ numbered (walkLine t) i (fresh R (starts R d) d) ≡ numbered (walkLine t) 0 (starts R (d + 1)) =
-    rw (add-one, starts-suc R d, numbered-append (walkLine t) 0 (starts R d) (fresh R (starts R d) d), ← k .index) (ap (λ n. numbered (walkLine t) 0 (starts R d) ++ numbered (walkLine t) n (fresh R (starts R d) d)) (omega arith)) in
+    rw (
+      add-one,
+      starts-suc R d,
+      numbered-append (walkLine t) 0 (starts R d) (fresh R (starts R d) d),
+      ← k .index,
+    ) (ap (λ n. numbered (walkLine t) 0 (starts R d) ++ numbered (walkLine t) n (fresh R (starts R d) d)) (omega arith)) in
     record {
       seen = seen-more (k .seen) h (p .marks);
       index = rw (add-one, starts-suc R d, length-append) (p .index ∙ ap₂ _+_ (k .index) (ap length u));
@@ -154,7 +159,7 @@ numbering-more {t} {d = d} {i = i} {r = r} k h p =
 -- the lines of all walks that start at a dart
 pub record PlacedAll (t : List ℕ) (from at : ℕ) (out : List ℕ) (r : Place) (out′ : List ℕ) : Type 0 where
   pub index : r .index ≡ length (starts (rotation t) darts)
-  pub few : r .index ≤ 2048
+  pub few : r .index ≤ darts
   pub wrote : Wrote walks-most from at out (numbered (walkLine t) 0 (starts (rotation t) darts)) (r .at) out′
 
 pub numbering-all : {t : List ℕ} {from at d i end : ℕ} {m out₀ out : List ℕ} → Numbering t from at d i end m out₀ out → darts ≤ d
@@ -190,7 +195,7 @@ lone-wrote i v h a b c d e = wrote-then (wrote-then (wrote-then (wrote-then (sho
 pub record LoneAt (t : List ℕ) (v i at : ℕ) : Type 0 where
   pub good : Good t
   pub low : v < vertices
-  pub few : i ≤ 2560
+  pub few : i ≤ darts + vertices
   pub near : at < 2 ^ 44
 
 pub record PlacedLone (t : List ℕ) (v i from at : ℕ) (out : List ℕ) (r : Place) (out′ : List ℕ) : Type 0 where
@@ -233,7 +238,7 @@ pub ending-none : (t : List ℕ) (from at first : ℕ) (out : List ℕ) → Lone
 unfolding alones numbered
 ending-none t from at first out = record { low = omega arith; index = omega arith; few = omega arith; wrote = wrote-none from at out }
 
-pub ending-at : {t : List ℕ} {from at first v i end : ℕ} {out₀ out : List ℕ} → Good t → first ≤ 2048 → at < 2 ^ 43 → LonesWriting t from at first v i end out₀ out → v < vertices
+pub ending-at : {t : List ℕ} {from at first v i end : ℕ} {out₀ out : List ℕ} → Good t → first ≤ darts → at < 2 ^ 43 → LonesWriting t from at first v i end out₀ out → v < vertices
     → LoneAt t v i end
 ending-at g a b k h = record {
   good = g;
@@ -259,7 +264,7 @@ ending-more {t} {first = first} {v = v} {i = i} k h p =
     }
 
 pub ending-all : {t : List ℕ} {from at first v i end : ℕ} {out₀ out : List ℕ} → LonesWriting t from at first v i end out₀ out → vertices ≤ v
-    → Wrote lones-most from at out₀ (loneLines t first 512) end out
+    → Wrote lones-most from at out₀ (loneLines t first vertices) end out
 ending-all {t} {first = first} {v = v} k h =
     let low = k .low in
     let all : v ≡ vertices = omega arith in

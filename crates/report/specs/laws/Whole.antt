@@ -24,7 +24,8 @@ faces-numbered t =
 
 pub report-wrote : {t : List ℕ} {from mesh part lone r : ℕ} {walk : Place} {out o-mesh o-part o-walk o-lone out′ : List ℕ} → Wrote 101 from 0 out (meshLine (rotation t)) mesh o-mesh
     → Wrote parts-most from mesh o-mesh (gather (partLine (rotation t)) (parts (rotation t))) part o-part → PlacedAll t from part o-part walk o-walk
-    → Wrote lones-most from (walk .at) o-walk (loneLines t (walk .index) vertices) lone o-lone → Wrote 12 from lone o-lone (weaveLine t) r out′ → (r ≡ length (report t)) × (out′ ≡ paste from 0 out (report t)) × (r < 2 ^ 31)
+    → Wrote lones-most from (walk .at) o-walk (loneLines t (walk .index) vertices) lone o-lone → Wrote 12 from lone o-lone (weaveLine t) r out′
+    → (r ≡ length (report t)) × (out′ ≡ paste from 0 out (report t)) × (r < 2 ^ 31)
 unfolding report
 report-wrote {t} m p w l e =
     let all = wrote-then (wrote-then (wrote-then m p) (wrote-as (wrote-then (w .wrote) (rw (w .index) at l)) (faces-numbered t))) e in

@@ -10,7 +10,7 @@ use mir.Syntax.{w32}
 use mir.Val.{SFits, toZ, ofZ}
 use mir.Facts.{toZ-ofZ}
 use Rattle.orbits.specs.laws.Count.{count-le}
-use Rattle.table.specs.Layout.{vertices, edges}
+use Rattle.table.specs.Layout.{vertices, edges, darts}
 use Rattle.table.specs.Good.{Good}
 use Rattle.table.specs.Rotation.{Rotation, Lawful, rotation}
 use Rattle.table.specs.laws.Lawful.{good-lawful}
@@ -26,6 +26,7 @@ use Rattle.text.specs.laws.Decimal.{decimal-few}
 use Rattle.text.specs.laws.Sign.{integer-few}
 use Rattle.report.specs.Lines.{space, newline, meshText, meshLine, kind-word, weave-word, weaveLine}
 use Rattle.tracing.specs.Met.{edgeCount}
+use Rattle.tracing.specs.Step.{steps}
 
 -- the text stands from place `at` on; it has at most so many bytes
 pub record Wrote (most from at : ℕ) (out text : List ℕ) (r : ℕ) (out′ : List ℕ) : Type 0 where
@@ -34,19 +35,19 @@ pub record Wrote (most from at : ℕ) (out text : List ℕ) (r : ℕ) (out′ : 
 
 -- bounds: 512 parts, 4,096 steps, 2,048 walks that start at a dart, 512 empty ones
 abbrev pub parts-most : ℕ
-parts-most = 512 * 40
+parts-most = vertices * 40
 
 abbrev pub steps-most : ℕ
-steps-most = 4096 * 142
+steps-most = steps * 142
 
 abbrev pub walk-most : ℕ
 walk-most = steps-most + 47
 
 abbrev pub walks-most : ℕ
-walks-most = 2048 * walk-most
+walks-most = darts * walk-most
 
 abbrev pub lones-most : ℕ
-lones-most = 512 * 50
+lones-most = vertices * 50
 
 -- one piece after another
 module _ {most from at : ℕ} {out a : List ℕ} {r : ℕ} {out′ : List ℕ} (p : Wrote most from at out a r out′) where

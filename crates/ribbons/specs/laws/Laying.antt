@@ -126,7 +126,8 @@ laying-none k = record { walking = walking-none (k .lent .stands); room = k; kin
 before-length : (t : List ℕ) (points lifts : List ℤ) (s n : ℕ) → length (piecesBefore t points lifts s n) ≡ n
 before-length t points lifts s n = length-map (iterates (step (rotation t)) s n) (pieceOn t points lifts) ∙ run-length (step (rotation t)) s n
 
-module _ {t : List ℕ} {points lifts : List ℤ} {s at n : ℕ} {kinds₀ : List ℕ} {coords₀ : List Float} {kinds : List ℕ} {coords : List Float} (k : Laying t points lifts s at n kinds₀ coords₀ kinds coords) where
+module _ {t : List ℕ} {points lifts : List ℤ} {s at n : ℕ} {kinds₀ : List ℕ} {coords₀ : List Float} {kinds : List ℕ} {coords : List Float}
+    (k : Laying t points lifts s at n kinds₀ coords₀ kinds coords) where
   pub laying-lent : Lent t points lifts at
   laying-lent = record { stands = k .walking .there; points-size = k .room .lent .points-size; lifts-size = k .room .lent .lifts-size }
 
@@ -185,7 +186,8 @@ module _ {t : List ℕ} {points lifts : List ℤ} {s at n : ℕ} {kinds₀ : Lis
     laying-coords = ap length coords-more ∙ length-sets coords₀ 0 (text floatsOf (piecesBefore t points lifts s (n + 1)))
 
 -- "then Close"
-module _ {t : List ℕ} {points lifts : List ℤ} {s : ℕ} {kinds₀ : List ℕ} {coords₀ : List Float} {r : ℕ} {kinds : List ℕ} {coords : List Float} (h : PathRoom t points lifts s (length kinds₀) (length coords₀))
+module _ {t : List ℕ} {points lifts : List ℤ} {s : ℕ} {kinds₀ : List ℕ} {coords₀ : List Float} {r : ℕ} {kinds : List ℕ} {coords : List Float}
+    (h : PathRoom t points lifts s (length kinds₀) (length coords₀))
     (k : Laid t points lifts s kinds₀ coords₀ r kinds coords) where
   pub closing-room : (r < length kinds) × (3 * r + 2 < length coords)
   closing-room =

@@ -17,7 +17,7 @@ use Rattle.table.specs.declared.answer.Answer.{Answer}
 use Rattle.table.specs.declared.answer.Answer.the-variants.{Done, Declined}
 use Rattle.table.specs.declared.answer.Refusal.{Refusal}
 use Rattle.table.specs.declared.answer.Refusal.the-variants.{ShortSlice, ManyTurns, Far}
-use Rattle.tracing.specs.Step.{step}
+use Rattle.tracing.specs.Step.{step, steps}
 use Rattle.tracing.specs.Walk.{walk}
 use Rattle.tracing.specs.laws.Walk.{run-length, walk-run, walk-period, walk-period-le}
 use Rattle.walks.specs.laws.Stands.{Stands, stands-low}
@@ -83,7 +83,19 @@ module _ (t : List ℕ) (points lifts : List ℤ) (m c s : ℕ) where
           module _ (x : v .many ≡ false) where
             pub far-away : v .far ≡ true → Declined Far ≡ pathAlong t points lifts m c s
             unfolding pathAlong
-            far-away h = rw (le-leb pointWords (length points) p, le-leb liftWords (length lifts) l, kinds-are, le-leb (v .steps + 1) m a, floats-are, le-leb (3 * (v .steps + 1)) c b, many-is, x, far-is, h)
+            far-away h =
+                rw (
+                  le-leb pointWords (length points) p,
+                  le-leb liftWords (length lifts) l,
+                  kinds-are,
+                  le-leb (v .steps + 1) m a,
+                  floats-are,
+                  le-leb (3 * (v .steps + 1)) c b,
+                  many-is,
+                  x,
+                  far-is,
+                  h,
+                )
 
             pub path-sized : v .far ≡ false → Done (v .steps + 1) ≡ pathAlong t points lifts m c s
             unfolding pathAlong
@@ -92,7 +104,7 @@ module _ (t : List ℕ) (points lifts : List ℤ) (m c s : ℕ) where
                 (ap Done pieces-are)
 
 -- a walk has at most as many steps as there are step words
-pub survey-few : {t : List ℕ} {points lifts : List ℤ} {s : ℕ} {v : Survey} → Lent t points lifts s → v ≡ surveyOf t points lifts (walk (rotation t) s) → v .steps ≤ 4096
+pub survey-few : {t : List ℕ} {points lifts : List ℤ} {s : ℕ} {v : Survey} → Lent t points lifts s → v ≡ surveyOf t points lifts (walk (rotation t) s) → v .steps ≤ steps
 unfolding surveyOf
 survey-few {t} {s = s} h e =
     let R = rotation t in

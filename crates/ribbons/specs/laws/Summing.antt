@@ -13,7 +13,7 @@ use Rattle.table.specs.Rotation.{rotation}
 use Rattle.table.specs.laws.Lawful.{good-lawful}
 use Rattle.table.specs.declared.answer.Answer.the-variants.{Done, Declined}
 use Rattle.table.specs.declared.answer.Refusal.the-variants.{Far}
-use Rattle.tracing.specs.Step.{step}
+use Rattle.tracing.specs.Step.{step, steps}
 use Rattle.tracing.specs.Walk.{walk}
 use Rattle.tracing.specs.laws.Walk.{iterates, run-suc, walk-run, walk-period, walk-period-le}
 use Rattle.tracing.specs.laws.Meets.{run-has}
@@ -21,7 +21,7 @@ use Rattle.walks.specs.laws.Stands.{Stands, near, stands-dart, stands-low}
 use Rattle.walks.specs.laws.Along.{Walking, walking-none, walking-more, walking-all, walking-few, along-few}
 use Rattle.weave.specs.Ribbon.{some}
 use Rattle.weave.specs.laws.Ribbon.{some-append, passes-some}
-use Rattle.ribbons.specs.CutLength.{lengthOf, farLength, cutLength, lengthAlong}
+use Rattle.ribbons.specs.CutLength.{lengthOf, farLength, cutLength, lengthAlong, longest}
 
 -- a step that passes a test, met on the way, is one of the walk's
 pub walk-some : {t : List ℕ} {s n at : ℕ} → Walking t s n at → (q : ℕ → Bool) → q at ≡ true → some q (walk (rotation t) s) ≡ true
@@ -45,7 +45,7 @@ pub record Summing (t lengths : List ℕ) (s at sum : ℕ) : Type 0 where
   pub size : edges ≤ length lengths
   pub near : some (farLength lengths) (iterates (step (rotation t)) s so-far) ≡ false
   pub total : sum ≡ cutLength lengths (iterates (step (rotation t)) s so-far)
-  pub most : sum ≤ 65535 * so-far
+  pub most : sum ≤ longest * so-far
 
 pub summing-none : {t lengths : List ℕ} {s : ℕ} → Stands t s → edges ≤ length lengths → Summing t lengths s s 0
 unfolding iterates some cutLength
@@ -60,19 +60,27 @@ module _ {t lengths : List ℕ} {s at sum : ℕ} (k : Summing t lengths s at sum
   unfolding lengthAlong
   summing-low h = rw (walk-some (k .walking) (farLength lengths) (rw (lt-ltb (lengthOf lengths at) 1 h)))
 
-  pub summing-high : 65535 < lengthOf lengths at → Declined Far ≡ lengthAlong lengths (walk (rotation t) s)
+  pub summing-high : longest < lengthOf lengths at → Declined Far ≡ lengthAlong lengths (walk (rotation t) s)
   unfolding lengthAlong
-  summing-high h = rw (walk-some (k .walking) (farLength lengths) (rw (le-ltb (lengthOf lengths at) 1 (omega arith), lt-ltb 65535 (lengthOf lengths at) h)))
+  summing-high h = rw (walk-some (k .walking) (farLength lengths) (rw (le-ltb (lengthOf lengths at) 1 (omega arith), lt-ltb longest (lengthOf lengths at) h)))
 
-  module _ (low : 1 ≤ lengthOf lengths at) (high : lengthOf lengths at ≤ 65535) where
-    pub summing-fits : (sum + lengthOf lengths at ≤ 65535 * (k .so-far + 1)) × (k .so-far < 4096)
+  module _ (low : 1 ≤ lengthOf lengths at) (high : lengthOf lengths at ≤ longest) where
+    pub summing-fits : (sum + lengthOf lengths at ≤ longest * (k .so-far + 1)) × (k .so-far < steps)
     summing-fits = let most = k .most in let few = walking-few (k .walking) in (omega arith, omega arith)
 
     near-more : some (farLength lengths) (iterates (step (rotation t)) s (k .so-far + 1)) ≡ false
     unfolding some
     near-more =
         let f = step (rotation t) in
-        rw (add-one, run-suc, k .walking .along .here, some-append (farLength lengths) (iterates f s (k .so-far)) (at ∷ []), k .near, le-ltb (lengthOf lengths at) 1 low, le-ltb 65535 (lengthOf lengths at) high)
+        rw (
+          add-one,
+          run-suc,
+          k .walking .along .here,
+          some-append (farLength lengths) (iterates f s (k .so-far)) (at ∷ []),
+          k .near,
+          le-ltb (lengthOf lengths at) 1 low,
+          le-ltb longest (lengthOf lengths at) high,
+        )
 
     total-more : sum + lengthOf lengths at ≡ cutLength lengths (iterates (step (rotation t)) s (k .so-far + 1))
     unfolding cutLength

@@ -9,7 +9,7 @@ use lib.Dec.{ltb}
 use lib.IntN.{ℤ}
 use lib.ListN.{length, length-append}
 use Rattle.table.specs.Rotation.{rotation}
-use Rattle.tracing.specs.Step.{step}
+use Rattle.tracing.specs.Step.{step, steps}
 use Rattle.tracing.specs.Walk.{walk}
 use Rattle.tracing.specs.laws.Walk.{iterates, run-suc, run-length}
 use Rattle.walks.specs.laws.Along.{Walking, walking-none, walking-more, walking-all, walking-few}
@@ -58,7 +58,7 @@ module _ {t : List ℕ} {points lifts : List ℤ} {s at : ℕ} {v : Survey} (k :
   pub surveying-lent : Lent t points lifts at
   surveying-lent = record { stands = k .walking .there; points-size = k .points-size; lifts-size = k .lifts-size }
 
-  pub surveying-few : v .steps < 4096
+  pub surveying-few : v .steps < steps
   unfolding surveyOf
   surveying-few = rw (k .seen, run-length) (walking-few (k .walking))
 

@@ -106,7 +106,8 @@ module _ {R : Rotation} {m n : ℕ} (W : Few R m n) where
   parts-few =
       parts-own vertices
       ∙ ap (λ s. ownLabels (R .there) s vertices) spots-few
-      ∙ steady (ownLabels (R .there) (spotsFew R m)) n (λ v h. nothing-more (ownLabels (R .there) (spotsFew R m) v) (R .there v && eqb (spotsFew R m v .label) v) v (rw (W .no-vertex v h))) vertices (W .vertices-room)
+      ∙ steady (ownLabels (R .there) (spotsFew R m)) n
+      (λ v h. nothing-more (ownLabels (R .there) (spotsFew R m) v) (R .there v && eqb (spotsFew R m v .label) v) v (rw (W .no-vertex v h))) vertices (W .vertices-room)
 
   orientable-few : (r : ℕ) → orientable R r ≡ eqb (count (twisted R (spotsFew R m) r) m) 0
   unfolding orientable untwisted twisted

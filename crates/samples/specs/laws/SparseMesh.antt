@@ -83,7 +83,12 @@ module _ (ws : Writes) where
 
   no-dart : (d : ℕ) → 2 * edgeSpan ws ≤ d → liveBy (read ws) d ≡ false
   no-dart d h = elim (decLt d darts) [
-    | yes l ↦ rw (lt-ltb d darts l, span-past edgeAt vertexAt ws (edgeOf d) (omega arith) (omega arith) (omega arith), le-ltb (edgeAt + edgeOf d) edgeAt (omega arith), lt-ltb (edgeAt + edgeOf d) vertexAt (omega arith))
+    | yes l ↦ rw (
+      lt-ltb d darts l,
+      span-past edgeAt vertexAt ws (edgeOf d) (omega arith) (omega arith) (omega arith),
+      le-ltb (edgeAt + edgeOf d) edgeAt (omega arith),
+      lt-ltb (edgeAt + edgeOf d) vertexAt (omega arith),
+    )
     | no l ↦ rw (le-ltb d darts (omega arith))
   ]
 

@@ -202,7 +202,11 @@ module _ (t : List ℕ) (size : length t ≡ words) (r : Ruled t darts) where
 
   pub good-counted : Good t → ((v : ℕ) → v < vertices → VertexRule t v) × (count (λ d. live? t d && led? t d) darts ≡ count (live? t) darts)
   unfolding led?
-  good-counted g = (rules, count-same (λ d. live? t d && led? t d) (live? t) darts (λ d h. same-truth (live? t d && led? t d) (live? t d) (both-left (live? t d) (led? t d)) (λ e. both e (led d (live-yes t d e)))))
+  good-counted g = (
+    rules,
+    count-same (λ d. live? t d && led? t d) (live? t) darts (λ d h. same-truth (live? t d && led? t d) (live? t d) (both-left (live? t d) (led? t d))
+        (λ e. both e (led d (live-yes t d e)))),
+  )
     where
       rules : (v : ℕ) → v < vertices → VertexRule t v
       rules v h n i =

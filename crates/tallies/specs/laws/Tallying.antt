@@ -31,7 +31,8 @@ use Rattle.surface.specs.Counts.{cornerVertex, verticesIn, edgesIn, walksIn}
 use Rattle.surface.specs.laws.Counts.{vertex-dart, vertex-lone}
 use Rattle.labels.specs.laws.Forest.{Shape}
 use Rattle.labels.specs.laws.Linking.{Labelled, Taking, first-low, second-low, edge-on}
-use Rattle.tallies.specs.laws.Tally.{tally-none, tally-begin, tally-more, tally-skip, tally-low, Keyed, labelled-keyed, VertexTally, EdgeTally, TwistTally, WalkTally, startsIn, LoneTally, twistSum}
+use Rattle.tallies.specs.laws.Tally.{tally-none, tally-begin, tally-more, tally-skip, tally-low, Keyed, labelled-keyed, VertexTally, EdgeTally, TwistTally}
+use Rattle.tallies.specs.laws.Tally.{WalkTally, startsIn, LoneTally, twistSum}
 
 -- one more at k
 abbrev pub bump : List ℕ → ℕ → List ℕ
@@ -44,10 +45,10 @@ pub record Vertexing (t up : List ℕ) (n : ℕ) (vs fs : List ℕ) : Type 0 whe
   pub lone : LoneTally t n fs
 
 module _ {t up : List ℕ} {n : ℕ} {vs fs : List ℕ} (K : Vertexing t up n vs fs) (h : n < vertices) where
-  pub vertex-low : getD vs (getD up n 0) 0 ≤ 512
+  pub vertex-low : getD vs (getD up n 0) 0 ≤ vertices
   vertex-low = let l = tally-low (K .vertex) (getD up n 0) (K .keyed .low n h) in omega arith
 
-  pub lone-low : getD fs (getD up n 0) 0 ≤ 2560
+  pub lone-low : getD fs (getD up n 0) 0 ≤ darts + vertices
   lone-low =
       let l = tally-low (K .lone) (getD up n 0) (K .keyed .low n h) in
       let s = count-le (λ d. start? (rotation t) d && eqb (label (rotation t) (leaves t d)) (getD up n 0)) darts in
@@ -93,8 +94,8 @@ module _ {t up turn : List ℕ} {n : ℕ} {es odd : List ℕ} (K : Edging t up t
       pub key : getD up (leaves t (2 * n)) 0 < vertices
       pub first-bit : getD turn (leaves t (2 * n)) 0 < 2
       pub second-bit : getD turn (leaves t (2 * n + 1)) 0 < 2
-      pub edge-word : getD es (getD up (leaves t (2 * n)) 0) 0 ≤ 1024
-      pub odd-word : getD odd (getD up (leaves t (2 * n)) 0) 0 ≤ 1024
+      pub edge-word : getD es (getD up (leaves t (2 * n)) 0) 0 ≤ edges
+      pub odd-word : getD odd (getD up (leaves t (2 * n)) 0) 0 ≤ edges
 
     pub edge-near : EdgeWords
     edge-near =
@@ -179,7 +180,7 @@ module _ {t up : List ℕ} {n : ℕ} {met fs : List ℕ} (K : Dartwise t up n me
     pub walk-key : getD up (leaves t n) 0 < vertices
     walk-key = K .keyed .low (leaves t n) start-low
 
-    pub walk-low : getD fs (getD up (leaves t n) 0) 0 ≤ 2048
+    pub walk-low : getD fs (getD up (leaves t n) 0) 0 ≤ darts
     walk-low = let l = tally-low (K .walk) _ walk-key in omega arith
 
     pub walk-more : Dartwise t up (n + 1) met′ (bump fs (getD up (leaves t n) 0))

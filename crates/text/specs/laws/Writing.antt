@@ -91,7 +91,12 @@ spelling-more {n} {i} {rest} {d} {digits} k h e =
       low = omega arith;
       size = rw length-set (k .size);
       room = omega arith;
-      text = rw (here, last-digit digits i d within, e) (k .text ∙ ap (λ l. l ++ drop (suc i) digits) (decimal-high rest h) ∙ append-assoc (decimal (rest / 10)) (digit (rest % 10) ∷ []) (drop (suc i) digits));
+      text =
+          rw (
+            here,
+            last-digit digits i d within,
+            e,
+          ) (k .text ∙ ap (λ l. l ++ drop (suc i) digits) (decimal-high rest h) ∙ append-assoc (decimal (rest / 10)) (digit (rest % 10) ∷ []) (drop (suc i) digits));
     }
 
 pub spelling-all : {n i rest d : ℕ} {digits : List ℕ} → Spelling n i rest digits → rest < 10 → d ≡ digit rest → Spelled n i (set digits i d)

@@ -42,11 +42,46 @@ of-edge e y = elim (ℕ-discrete (y / 4) e) [
 
 edge-more : (e y : ℕ) → OfEdge e y → (k a b c d : ℕ) → k ≡ a + b + c + d
     → more (onEdge e y) k ≡ more (eqb (4 * e) y) a + more (eqb (4 * e + 1) y) b + more (eqb (4 * e + 2) y) c + more (eqb (4 * e + 3) y) d
-edge-more e y (first q) k a b c d r = rw (eq-eqb (y / 4) e (omega arith), eq-eqb (4 * e) y (omega arith), ne-eqb (4 * e + 1) y (λ z. omega arith), ne-eqb (4 * e + 2) y (λ z. omega arith), ne-eqb (4 * e + 3) y (λ z. omega arith)) (omega arith)
-edge-more e y (second q) k a b c d r = rw (eq-eqb (y / 4) e (omega arith), ne-eqb (4 * e) y (λ z. omega arith), eq-eqb (4 * e + 1) y (omega arith), ne-eqb (4 * e + 2) y (λ z. omega arith), ne-eqb (4 * e + 3) y (λ z. omega arith)) (omega arith)
-edge-more e y (third q) k a b c d r = rw (eq-eqb (y / 4) e (omega arith), ne-eqb (4 * e) y (λ z. omega arith), ne-eqb (4 * e + 1) y (λ z. omega arith), eq-eqb (4 * e + 2) y (omega arith), ne-eqb (4 * e + 3) y (λ z. omega arith)) (omega arith)
-edge-more e y (fourth q) k a b c d r = rw (eq-eqb (y / 4) e (omega arith), ne-eqb (4 * e) y (λ z. omega arith), ne-eqb (4 * e + 1) y (λ z. omega arith), ne-eqb (4 * e + 2) y (λ z. omega arith), eq-eqb (4 * e + 3) y (omega arith)) (omega arith)
-edge-more e y (none q) k a b c d r = rw (ne-eqb (y / 4) e q, ne-eqb (4 * e) y (λ z. q (omega arith)), ne-eqb (4 * e + 1) y (λ z. q (omega arith)), ne-eqb (4 * e + 2) y (λ z. q (omega arith)), ne-eqb (4 * e + 3) y (λ z. q (omega arith))) (omega arith)
+edge-more e y (first q) k a b c d r =
+    rw (
+      eq-eqb (y / 4) e (omega arith),
+      eq-eqb (4 * e) y (omega arith),
+      ne-eqb (4 * e + 1) y (λ z. omega arith),
+      ne-eqb (4 * e + 2) y (λ z. omega arith),
+      ne-eqb (4 * e + 3) y (λ z. omega arith),
+    ) (omega arith)
+edge-more e y (second q) k a b c d r =
+    rw (
+      eq-eqb (y / 4) e (omega arith),
+      ne-eqb (4 * e) y (λ z. omega arith),
+      eq-eqb (4 * e + 1) y (omega arith),
+      ne-eqb (4 * e + 2) y (λ z. omega arith),
+      ne-eqb (4 * e + 3) y (λ z. omega arith),
+    ) (omega arith)
+edge-more e y (third q) k a b c d r =
+    rw (
+      eq-eqb (y / 4) e (omega arith),
+      ne-eqb (4 * e) y (λ z. omega arith),
+      ne-eqb (4 * e + 1) y (λ z. omega arith),
+      eq-eqb (4 * e + 2) y (omega arith),
+      ne-eqb (4 * e + 3) y (λ z. omega arith),
+    ) (omega arith)
+edge-more e y (fourth q) k a b c d r =
+    rw (
+      eq-eqb (y / 4) e (omega arith),
+      ne-eqb (4 * e) y (λ z. omega arith),
+      ne-eqb (4 * e + 1) y (λ z. omega arith),
+      ne-eqb (4 * e + 2) y (λ z. omega arith),
+      eq-eqb (4 * e + 3) y (omega arith),
+    ) (omega arith)
+edge-more e y (none q) k a b c d r =
+    rw (
+      ne-eqb (y / 4) e q,
+      ne-eqb (4 * e) y (λ z. q (omega arith)),
+      ne-eqb (4 * e + 1) y (λ z. q (omega arith)),
+      ne-eqb (4 * e + 2) y (λ z. q (omega arith)),
+      ne-eqb (4 * e + 3) y (λ z. q (omega arith)),
+    ) (omega arith)
 
 edge-times : (e : ℕ) (l : List ℕ) → countIn (onEdge e) l ≡ times (4 * e) l + times (4 * e + 1) l + times (4 * e + 2) l + times (4 * e + 3) l
 unfolding countIn

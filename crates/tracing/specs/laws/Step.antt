@@ -16,13 +16,13 @@ pub data Type? (t : ℕ) : Type 0 where
   is-zero : t ≡ 0 → Type? t
   is-one : t ≡ 1 → Type? t
 
+pub type-of : (t : ℕ) → t < 2 → Type? t
+type-of zero h = is-zero refl
+type-of (suc zero) h = is-one refl
+type-of (suc (suc t)) h = absurd (omega arith)
+
 pub type? : (n : ℕ) → Type? (n % 2)
-type? n = by-bound (n % 2) (omega arith)
-  where
-    by-bound : (t : ℕ) → t < 2 → Type? t
-    by-bound zero h = is-zero refl
-    by-bound (suc zero) h = is-one refl
-    by-bound (suc (suc t)) h = absurd (omega arith)
+type? n = type-of (n % 2) (omega arith)
 
 module _ (R : Rotation) where
   pub around-next : (t d : ℕ) → t ≡ 0 → around R t d ≡ 2 * R .next d

@@ -40,16 +40,19 @@ same-length c = search needs
 returns : tie.Need-returns
 unfolding meshText
 returns c =
-    let start = c .before .before .before .before .before .before .before .before .before .before .before .before .before .before .before .before .before .before .before .before .before .before .before .before .before .before .before .before .before .before in
-    let bytes = c .before .before .before .before .before .before .before .before .before .before .before .before .before .before .before .before .before .before .before .before .before .before .before .before .before .before .bytes in
-    let field = c .before .before .before .before .before .before .before .before .before .before .before .before .before .before .before .before .before .before .before .before .before .before .field in
+    let middle = c .before .before .before .before .before .before .before .before .before .before .before .before .before .before .before in
+    let start = middle .before .before .before .before .before .before .before .before .before .before .before .before .before .before .before in
+    let bytes = middle .before .before .before .before .before .before .before .before .before .before .before .bytes in
+    let field = middle .before .before .before .before .before .before .before .field in
     let field2 = c .before .before .before .before .before .before .before .before .before .before .before .before .before .before .before .before .before .before .field2 in
     let field3 = c .before .before .before .before .before .before .before .before .before .before .before .before .before .before .field3 in
     let field4 = c .before .before .before .before .before .before .before .before .before .before .field4 in
     let signed-field = c .before .before .before .before .before .before .signed-field in
     let byte = c .before .before .byte in
     wrote-then
-    (wrote-then (wrote-then (wrote-then (wrote-then (wrote-then (short 4 (bytes .ensures) (omega arith)) (field .ensures)) (field2 .ensures)) (field3 .ensures)) (field4 .ensures)) (wrote-as (signed-field .ensures) (ap (λ y. space ∷ integer y) (toZ-ofZ (start .fits .x)))))
+    (wrote-then
+    (wrote-then (wrote-then (wrote-then (wrote-then (short 4 (bytes .ensures) (omega arith)) (field .ensures)) (field2 .ensures)) (field3 .ensures)) (field4 .ensures))
+    (wrote-as (signed-field .ensures) (ap (λ y. space ∷ integer y) (toZ-ofZ (start .fits .x)))))
     (short 1 (byte .ensures) (omega arith))
 
 pub write-mesh-spec : {M : Type 1} → statement M

@@ -42,10 +42,11 @@ same-length c = search needs
 returns : tie.Need-returns
 unfolding partText
 returns c =
-    let start = c .before .before .before .before .before .before .before .before .before .before .before .before .before .before .before .before .before .before .before .before .before .before .before .before .before .before .before .before in
-    let euler = c .before .before .before .before .before .before .before .before .before .before .before .before .before .before .before .before .before .before .before .before .before .before .before .before .before .before .euler in
-    let side = c .before .before .before .before .before .before .before .before .before .before .before .before .before .before .before .before .before .before .before .before .before .before .before .before .before .side in
-    let bytes = c .before .before .before .before .before .before .before .before .before .before .before .before .before .before .before .before .before .before .before .before .before .before .bytes in
+    let middle = c .before .before .before .before .before .before .before .before .before .before .before .before .before .before in
+    let start = middle .before .before .before .before .before .before .before .before .before .before .before .before .before .before in
+    let euler = middle .before .before .before .before .before .before .before .before .before .before .before .before .euler in
+    let side = middle .before .before .before .before .before .before .before .before .before .before .before .side in
+    let bytes = middle .before .before .before .before .before .before .before .before .bytes in
     let field = c .before .before .before .before .before .before .before .before .before .before .before .before .before .before .before .before .before .before .field in
     let signed-field = c .before .before .before .before .before .before .before .before .before .before .before .before .before .before .signed-field in
     let byte = c .before .before .before .before .before .before .before .before .before .before .byte in
@@ -53,7 +54,11 @@ returns c =
     let byte3 = c .before .before .byte3 in
     let fits = start .fits in
     wrote-then
-    (wrote-then (wrote-then (wrote-then (short 4 (bytes .ensures) (omega arith)) (field .ensures)) (wrote-as (signed-field .ensures) (euler-on (start .args .v) (start .args .e) (start .args .f) (omega arith) (omega arith) (omega arith) (euler .ensures)))) (wrote-then (short 1 (byte .ensures) (omega arith)) (wrote-as (short 1 (byte2 .ensures) (omega arith)) (ap (λ x. x ∷ []) (side .ensures)))))
+    (wrote-then
+    (wrote-then (wrote-then (short 4 (bytes .ensures) (omega arith)) (field .ensures))
+    (wrote-as (signed-field .ensures)
+    (euler-on (start .args .v) (start .args .e) (start .args .f) (omega arith) (omega arith) (omega arith) (euler .ensures))))
+    (wrote-then (short 1 (byte .ensures) (omega arith)) (wrote-as (short 1 (byte2 .ensures) (omega arith)) (ap (λ x. x ∷ []) (side .ensures)))))
     (short 1 (byte3 .ensures) (omega arith))
 
 pub write-part-spec : {M : Type 1} → statement M

@@ -38,7 +38,8 @@ same-length c = search needs
 
 returns : tie.Need-returns
 returns c =
-    let start = c .before .before .before .before .before .before .before .before .before .before .before .before .before .before .before .before .before .before .before .before .before .before .before in
+    let middle = c .before .before .before .before .before .before .before .before .before .before .before in
+    let start = middle .before .before .before .before .before .before .before .before .before .before .before .before in
     let edge-word = c .before .before .before .before .before .before .before .before .before .before .before .before .before .before .before .before .before .before .before .before .edge-word in
     let field = c .before .before .before .before .before .before .before .before .before .before .before .before .before .before .before .before .before .before .field in
     let byte = c .before .before .before .before .before .before .before .before .before .before .before .before .before .before .byte in

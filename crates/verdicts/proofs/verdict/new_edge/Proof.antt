@@ -94,8 +94,12 @@ returns-4 c =
     let if2 = if2′ in
     let if3 = if3′ in
     let are-present = are-present′ in
-    simp
-    (seen-good (now (start .args .t)) (is-good .ensures) (if1 .left) .0, sym (are-names .ensures) ∙ not-false _ (if2 .left), eq-eqb _ _ (if3 .left), sym (are-present .ensures) ∙ not-true _ (c .if4 .taken))
+    simp (
+      seen-good (now (start .args .t)) (is-good .ensures) (if1 .left) .0,
+      sym (are-names .ensures) ∙ not-false _ (if2 .left),
+      eq-eqb _ _ (if3 .left),
+      sym (are-present .ensures) ∙ not-true _ (c .if4 .taken),
+    )
 
 returns-5 : tie.Need-returns-5
 unfolding newEdge
@@ -113,8 +117,12 @@ returns-5 c =
     let if2 = if2′ in
     let if3 = if3′ in
     let are-present = are-present′ in
-    simp
-    (seen-good (now (start .args .t)) (is-good .ensures) (if1 .left) .0, sym (are-names .ensures) ∙ not-false _ (if2 .left), eq-eqb _ _ (if3 .left), sym (are-present .ensures) ∙ not-false _ (c .if4 .left))
+    simp (
+      seen-good (now (start .args .t)) (is-good .ensures) (if1 .left) .0,
+      sym (are-names .ensures) ∙ not-false _ (if2 .left),
+      eq-eqb _ _ (if3 .left),
+      sym (are-present .ensures) ∙ not-false _ (c .if4 .left),
+    )
 
 pub new-edge-spec : {M : Type 1} → statement M
 new-edge-spec =

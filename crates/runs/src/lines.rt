@@ -6,8 +6,8 @@ use text::number::number;
 use text::window::byte;
 use text::window::bytes;
 ghost use Prim.Native.Nat.{_≤_, _^_};
-ghost use Rattle.text.specs.laws.Paste.{Pasted};
 ghost use Rattle.runs.specs.Lines.{noLine, stopLine};
+ghost use Rattle.text.specs.Paste.{Pasted};
 
 // Writes "no", the number n of a record and the refusal's number from place `at` on. The place after them.
 pub fn no_line(out: &mut [u8], at: usize, n: u64, refusal: u64) -> usize

@@ -10,12 +10,12 @@ use table::answer::number_of;
 ghost use Prim.Native.Nat.{_≤_, _^_};
 ghost use mathlib.Core.Path.{_≡_};
 ghost use lib.Seq.{sets};
-ghost use Rattle.text.specs.laws.Paste.{Pasted};
 ghost use Rattle.edits.specs.Edits.{edited};
 ghost use Rattle.runs.specs.Run.{run};
 ghost use Rattle.runs.specs.Reading.{reading};
 ghost use Rattle.runs.specs.Lines.{editLine, lines};
 ghost use Rattle.runs.specs.laws.Running.{Ready, ran};
+ghost use Rattle.text.specs.Paste.{Pasted};
 
 // What became of some bytes.
 pub struct Ran {

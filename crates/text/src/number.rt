@@ -5,9 +5,9 @@ ghost use Prim.Native.Nat.{_<_, _≤_, _^_};
 ghost use mathlib.Core.Path.{_≡_};
 ghost use lib.IntN.{natAbs};
 ghost use lib.ListN.{length};
-ghost use Rattle.text.specs.laws.Paste.{Pasted};
 ghost use Rattle.text.specs.Decimal.{decimal, integer as integerText};
 ghost use Rattle.text.specs.laws.Writing.{Spelled};
+ghost use Rattle.text.specs.Paste.{Pasted};
 
 // The digits of n at the end of `digits`. The index of the first.
 fn spell(digits: &mut [u8; 20], n: u64) -> usize

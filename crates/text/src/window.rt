@@ -3,8 +3,7 @@ ghost use Prim.Native.Nat.{_+_, _<_, _^_};
 ghost use mathlib.Core.Path.{_≡_};
 ghost use mathlib.Core.List.{_∷_, []};
 ghost use lib.ListN.{length};
-ghost use Rattle.text.specs.Paste.{put};
-ghost use Rattle.text.specs.laws.Paste.{Pasted};
+ghost use Rattle.text.specs.Paste.{put, Pasted};
 
 // Stores b at place `at` if the window shows it.
 fn store(out: &mut [u8], from: usize, at: usize, b: u8)

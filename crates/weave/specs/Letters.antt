@@ -35,6 +35,10 @@ crossings w = w - unturned + (unturned - w)
 unfoldable pub letter : Bool → ℕ → ℕ
 letter hand t = cond hand (cond (eqb t 0) over under) (cond (eqb t 0) under over)
 
+-- the letter of crossing j, from 0 on: "the type flips at each one"
+unfoldable pub letterAt : ℕ → ℕ → ℕ → ℕ
+letterAt w kind j = letter (positive w) ((kind + j) % 2)
+
 -- "Along a step the type flips at each one": n crossings, the first of them from type t
 unfoldable pub crossed : Bool → ℕ → ℕ → List ℕ
 crossed hand t zero = []

@@ -1,8 +1,8 @@
 // The crossings of one step and their letters, from the word of its edge and its type.
 ghost use mathlib.Core.Path.{_≡_};
 ghost use Rattle.walks.specs.laws.Stands.{Stands};
-ghost use Rattle.weave.specs.Letters.{crossings as crossingsOf};
-ghost use Rattle.weave.specs.laws.Crossing.{letterAt, EdgeWord};
+ghost use Rattle.weave.specs.Letters.{crossings as crossingsOf, letterAt};
+ghost use Rattle.weave.specs.laws.Crossing.{EdgeWord};
 use table::layout::EDGE;
 
 // The letters, as they are written.

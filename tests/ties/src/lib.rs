@@ -1,5 +1,5 @@
 //! What ties the documents and the C header to the code. `claims` checks the citations of docs/CLAIMS.md and of the README;
-//! `matching` compares include/planner.h with the exported signatures. The others read the files: `antt` the specs, `rattle`
+//! `rooms` that what is believed names no law; `matching` compares include/planner.h with the exported signatures. The others read the files: `antt` the specs, `rattle`
 //! the sources, `header` the C header, `markdown` the documents, `citations` what a document cites; `tree` finds the files.
 //! The tests in tests/ run both on small made-up trees (`small`) with one fault each.
 
@@ -10,6 +10,7 @@ pub mod header;
 pub mod markdown;
 pub mod matching;
 pub mod rattle;
+pub mod rooms;
 pub mod small;
 pub mod tree;
 

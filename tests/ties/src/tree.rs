@@ -35,6 +35,19 @@ impl Tree {
         entries.filter_map(|entry| entry.file_name().to_str()?.strip_suffix(ending).map(String::from)).collect()
     }
 
+    pub fn crates(&self) -> BTreeSet<String> {
+        self.listed("crates", "")
+    }
+
+    /// The files of a crate's first room.
+    pub fn spec_files(&self, name: &str) -> BTreeSet<String> {
+        self.listed(&format!("crates/{name}/specs"), ".antt")
+    }
+
+    pub fn source_files(&self, name: &str) -> BTreeSet<String> {
+        self.listed(&format!("crates/{name}/src"), ".rt")
+    }
+
     /// What crates/CRATE/specs/FILE.antt declares. Laws stand in a folder below and are not looked at.
     pub fn spec(&self, name: &str, file: &str) -> Option<Declared> {
         self.read(&format!("crates/{name}/specs/{file}.antt")).map(|text| declared(&text))

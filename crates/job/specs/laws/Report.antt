@@ -12,7 +12,7 @@ use Rattle.table.specs.Layout.{words}
 use Rattle.table.specs.Good.{Good}
 use Rattle.table.specs.Empty.{emptyTable, emptied}
 use Rattle.table.specs.laws.Empty.{empty-good}
-use Rattle.text.specs.laws.Paste.{Pasted, pasted-length}
+use Rattle.text.specs.laws.Paste.{pasted-length}
 use Rattle.report.specs.declared.report.Window.{Window}
 use Rattle.report.specs.Lines.{report}
 use Rattle.report.specs.Window.{windowText, windowOf}
@@ -27,6 +27,7 @@ use Rattle.runs.specs.laws.Lines.{lines-few, stop-few}
 use Rattle.runs.specs.Blocks.{printed}
 use Rattle.job.specs.declared.Progress.{Progress}
 use Rattle.job.specs.Job.{Read, Ended}
+use Rattle.text.specs.Paste.{Pasted}
 
 -- the last line has room, and all of it is handed over
 module _ (next : ℕ) (stop : Stop) (line : List ℕ) {size : ℕ} {line′ : List ℕ} (h : next < 2 ^ 64) (e : length line ≡ 64)

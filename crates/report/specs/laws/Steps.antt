@@ -15,10 +15,10 @@ use Rattle.tracing.specs.Listing.{gather}
 use Rattle.tracing.specs.laws.Listing.{gather-one, gather-append}
 use Rattle.walks.specs.laws.Stands.{Stands}
 use Rattle.walks.specs.laws.Along.{Walking, walking-none, walking-more, walking-all, walking-few}
-use Rattle.weave.specs.Letters.{crossings, lettersOn, stepLetters}
-use Rattle.weave.specs.laws.Crossing.{letterAt, EdgeWord, crossings-few, letters-length, letters-at}
-use Rattle.text.specs.Paste.{put}
-use Rattle.text.specs.laws.Paste.{Pasted, paste-one}
+use Rattle.weave.specs.Letters.{crossings, lettersOn, stepLetters, letterAt}
+use Rattle.weave.specs.laws.Crossing.{EdgeWord, crossings-few, letters-length, letters-at}
+use Rattle.text.specs.Paste.{put, Pasted}
+use Rattle.text.specs.laws.Paste.{paste-one}
 use Rattle.text.specs.Decimal.{decimal}
 use Rattle.text.specs.laws.Writing.{Copying, copying-more, copying-all}
 use Rattle.report.specs.Lines.{space, stepText}

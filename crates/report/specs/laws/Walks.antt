@@ -20,12 +20,12 @@ use Rattle.walks.specs.laws.Stands.{Stands}
 use Rattle.walks.specs.laws.Marks.{mark, unmarked}
 use Rattle.walks.specs.declared.count.Size.{Size}
 use Rattle.walks.specs.laws.Size.{LookReady, Looked, unmet, unmet-case, no-start, begins, Seen, seen-none, seen-range, seen-more, unmet-fresh, looked-begins}
-use Rattle.text.specs.laws.Paste.{Pasted}
 use Rattle.text.specs.Decimal.{decimal}
 use Rattle.text.specs.laws.Decimal.{decimal-low}
 use Rattle.report.specs.declared.walk.Place.{Place}
 use Rattle.report.specs.Lines.{space, newline, walk-word, stepText, walkFields, walkLine, numbered}
 use Rattle.report.specs.laws.Wrote.{Wrote, wrote-none, wrote-then, wrote-as, wrote-most, short, number-wrote, lones-most, steps-most, walk-most, walks-most}
+use Rattle.text.specs.Paste.{Pasted}
 
 -- lines with indices
 

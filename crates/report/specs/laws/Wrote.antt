@@ -20,13 +20,14 @@ use Rattle.surface.specs.Signed.{meshEuler}
 use Rattle.tallies.specs.laws.EulerWord.{euler-sfits}
 use Rattle.measure.specs.laws.Mesh.{MeshCounts, faces-low}
 use Rattle.weave.specs.Letters.{plain}
-use Rattle.text.specs.laws.Paste.{Pasted, paste-none, pasted-then, pasted-as, pasted-length}
+use Rattle.text.specs.laws.Paste.{paste-none, pasted-then, pasted-as, pasted-length}
 use Rattle.text.specs.Decimal.{decimal, integer}
 use Rattle.text.specs.laws.Decimal.{decimal-few}
 use Rattle.text.specs.laws.Sign.{integer-few}
 use Rattle.report.specs.Lines.{space, newline, meshText, meshLine, kind-word, weave-word, weaveLine}
 use Rattle.tracing.specs.Met.{edgeCount}
 use Rattle.tracing.specs.Step.{steps}
+use Rattle.text.specs.Paste.{Pasted}
 
 -- the text stands from place `at` on; it has at most so many bytes
 pub record Wrote (most from at : ℕ) (out text : List ℕ) (r : ℕ) (out′ : List ℕ) : Type 0 where

@@ -5,7 +5,7 @@ use mathlib.Core.Path.{_≡_, refl, sym, _∙_, ap}
 use mathlib.Core.List.{List, [], _∷_, _++_}
 use lib.ListN.{length, take, drop, length-append, length-drop}
 use lib.Seq.{sets, take-all, drop-drop}
-use Rattle.text.specs.laws.Paste.{Pasted, paste-none, paste-sets, pasted-then, pasted-as, pasted-length}
+use Rattle.text.specs.laws.Paste.{paste-none, paste-sets, pasted-then, pasted-as, pasted-length}
 use Rattle.table.specs.Answers.{numberOf}
 use Rattle.table.specs.declared.answer.Answer.{Answer}
 use Rattle.table.specs.declared.answer.Answer.the-variants.{Done, Declined}
@@ -25,6 +25,7 @@ use Rattle.runs.specs.Reading.{reading, ended, after}
 use Rattle.runs.specs.laws.Reading.{joined, joined-none, joined-after, joined-ended, reading-stopped, reading-record, record-sized}
 use Rattle.runs.specs.Lines.{noLine, stopLine, editLine, lines}
 use Rattle.runs.specs.laws.Lines.{lines-append, lines-one, lines-few}
+use Rattle.text.specs.Paste.{Pasted}
 
 -- what the code asks: the records can be counted, and there is room for the lines, 27 bytes at most for 4 bytes of a record
 pub record Ready (number : ℕ) (s out : List ℕ) : Type 0 where

@@ -9,12 +9,7 @@ use mathlib.Core.Logic.{_≢_}
 use lib.ListN.{length, getD, set, take, drop, length-append, length-set, length-take, length-drop, List·getD-append}
 use lib.Seq.{sets, sets-eq, length-sets, set-out, take-append-seam, getD-set-same, getD-set-other, getD-take, getD-drop, ext-getD}
 use borrow.Author.Tests.{le-leb, lt-leb}
-use Rattle.text.specs.Paste.{put, paste}
-
--- the text stands from place `at` on, and r is the place after it
-pub record Pasted (from at : ℕ) (out text : List ℕ) (r : ℕ) (out′ : List ℕ) : Type 0 where
-  pub end : r ≡ at + length text
-  pub shows : out′ ≡ paste from at out text
+use Rattle.text.specs.Paste.{put, paste, Pasted}
 
 -- one byte
 

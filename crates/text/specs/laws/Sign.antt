@@ -12,9 +12,10 @@ use borrow.Author.Tests.{ltb-true}
 use mir.Syntax.{w32, w64}
 use mir.Val.{SFits, Fits, toZ, ofZ}
 use mir.Facts.{toZ-ofZ}
-use Rattle.text.specs.laws.Paste.{Pasted, pasted-then, pasted-as}
+use Rattle.text.specs.laws.Paste.{pasted-then, pasted-as}
 use Rattle.text.specs.Decimal.{decimal, integer}
 use Rattle.text.specs.laws.Decimal.{decimal-short}
+use Rattle.text.specs.Paste.{Pasted}
 
 -- what the tests of the sign say
 

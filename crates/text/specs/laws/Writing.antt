@@ -6,8 +6,8 @@ use mathlib.Core.Path.{_≡_, refl, sym, _∙_, ap}
 use mathlib.Core.List.{List, [], _∷_, _++_, append-assoc}
 use lib.ListN.{length, getD, set, take, drop, length-set, length-append, length-drop, drop-of-length-le}
 use lib.Seq.{take-suc, take-all, length-take-le, drop-cons, drop-set-lt, getD-set-same}
-use Rattle.text.specs.Paste.{put, paste}
-use Rattle.text.specs.laws.Paste.{Pasted, put-length, paste-none, paste-one, paste-append}
+use Rattle.text.specs.Paste.{put, paste, Pasted}
+use Rattle.text.specs.laws.Paste.{put-length, paste-none, paste-one, paste-append}
 use Rattle.text.specs.Decimal.{digit, decimal}
 use Rattle.text.specs.laws.Decimal.{decimal-low, decimal-high, decimal-some, decimal-few}
 

@@ -11,13 +11,9 @@ use lib.Seq.{sets}
 use borrow.Author.Tests.{lt-ltb, le-ltb}
 use Rattle.table.specs.laws.Rotation.{live-yes}
 use Rattle.walks.specs.laws.Stands.{Stands, near, stands-dart}
-use Rattle.weave.specs.Letters.{over, under, unturned, positive, crossings, letter, crossed, lettersOn, wordOf}
+use Rattle.weave.specs.Letters.{over, under, unturned, positive, crossings, letter, crossed, lettersOn, wordOf, letterAt}
 use Rattle.table.specs.laws.Front.{Front, front-none, front-more}
 use Rattle.table.specs.Layout.{edgeWordMost}
-
--- the letter of crossing j, from 0 on: "the type flips at each one"
-unfoldable pub letterAt : ℕ → ℕ → ℕ → ℕ
-letterAt w kind j = letter (positive w) ((kind + j) % 2)
 
 -- r is the word of the edge that s is on
 pub record EdgeWord (t : List ℕ) (s r : ℕ) : Type 0 where

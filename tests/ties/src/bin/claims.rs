@@ -1,7 +1,10 @@
-//! Checks the citations of docs/CLAIMS.md and of the README. A line for each fault; the status is 1 if there is one.
+//! Checks the citations of docs/CLAIMS.md and of the README, and that what is believed names no law. A line for each fault; the status is 1 if there is one.
 
 use std::process::ExitCode;
 
 fn main() -> ExitCode {
-    ties::told("claims", &ties::claims::faults(&ties::tree::Tree::given()))
+    let tree = ties::tree::Tree::given();
+    let mut faults = ties::claims::faults(&tree);
+    faults.extend(ties::rooms::faults(&tree));
+    ties::told("claims", &faults)
 }

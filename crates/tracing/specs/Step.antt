@@ -33,3 +33,7 @@ mirror R s = around R (1 - s % 2) (s / 2)
 -- the same way along the edge, from its other end: the step after it is the mirror of s
 unfoldable pub back : Rotation → ℕ → ℕ
 back R s = 2 * rev (s / 2) + (1 - stepType R s)
+
+-- the step by the same dart with the other type: 2d and 2d+1 are exchanged
+abbrev pub otherType : ℕ → ℕ
+otherType s = rev s

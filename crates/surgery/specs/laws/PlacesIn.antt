@@ -15,7 +15,7 @@ use Rattle.table.specs.Layout.{rev}
 use Rattle.table.specs.Rotation.{Rotation, Lawful}
 use Rattle.orbits.specs.laws.Truth.{truth, holds, fails, both-left}
 use Rattle.orbits.specs.Orbits.{On}
-use Rattle.tracing.specs.Step.{steps}
+use Rattle.tracing.specs.Step.{steps, otherType}
 use Rattle.tracing.specs.laws.Step.{Type?, type?, step-word, mirror-word}
 use Rattle.tracing.specs.laws.Place.{places, trace, flip, on, place, is-step, is-still, trace-step, trace-still, flip-step, flip-still, on-step, on-trace, on-flip, rev-vertex}
 use Rattle.tracing.specs.laws.Mirrored.{Part}
@@ -74,7 +74,7 @@ module _ {R : Rotation} (L : Lawful R) where
     | is-step h ↦
         let w : flip R s < steps = rw (flip-step R s h) (mirror-word R L s h) in
         at-step (other-type (type? s)) (flip R s) (s / 2) w (flip-spin R s h) ∙ sym (vertex-step R s h)
-    | is-still h ↦ rw (flip-still R s h) (vertex-still R (rev s) (omega arith) ∙ rev-vertex s h ∙ sym (vertex-still R s h))
+    | is-still h ↦ rw (flip-still R s h) (vertex-still R (otherType s) (omega arith) ∙ rev-vertex s h ∙ sym (vertex-still R s h))
   ]
 
 module _ {R : Rotation} (L : Lawful R) {Q : ℕ → Bool} (C : EndsTogether R Q) where

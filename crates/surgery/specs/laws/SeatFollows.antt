@@ -16,15 +16,14 @@ use Rattle.orbits.specs.Reach.{Reach}
 use Rattle.orbits.specs.laws.Reach.{reach-here, reach-step, reach-one, reach-sym, reach-ind}
 use Rattle.orbits.specs.Orbits.{On}
 use Rattle.orbits.specs.Follow.{Skip, land, Follows}
-use Rattle.tracing.specs.Step.{steps, stepType}
+use Rattle.tracing.specs.Step.{steps, stepType, otherType}
 use Rattle.tracing.specs.laws.Step.{Type?, is-zero, is-one, type?, step-word, mirror-word}
 use Rattle.tracing.specs.laws.Place.{places, trace, flip, on, is-step, is-still, place, trace-step, trace-still, flip-step, flip-still, rev-vertex, on-step, on-still}
 use Rattle.surgery.specs.laws.Spin.{spin, spin-live, spin-from, spin-reach, step-type?, trace-spin, flip-spin, other-type}
 use Rattle.surgery.specs.Without.{Without}
 use Rattle.surgery.specs.laws.Without.{apart-other, here-both, kept, not-own, were, spin-skip, alone-stays, bare-edge, filled, full}
 use Rattle.surgery.specs.laws.Through.{through, through-other}
-use Rattle.surgery.specs.laws.Seat.{dartAt, seat, passedOver, Seated, a-step, a-vertex, a-bare, seated, seat-step, seat-vertex, seat-bare, dartAt-own, dartAt-from}
-use Rattle.surgery.specs.laws.Seat.{taken-other, taken-bare, halves, past, skip-around, reach-around, skip-bare, same-type}
+use Rattle.surgery.specs.laws.Seat.{dartAt, seat, passedOver, Seated, a-step, a-vertex, a-bare, seated, seat-step, seat-vertex, seat-bare, dartAt-own, dartAt-from, taken-other, taken-bare, halves, past, skip-around, reach-around, skip-bare, same-type}
 
 dart-step : {t : ℕ} (d : ℕ) → d < darts → Type? t → 2 * d + t < steps
 dart-step d h (is-zero z) = omega arith
@@ -197,13 +196,13 @@ module _ {R R′ : Rotation} {e : ℕ} (L : Lawful R) (L′ : Lawful R′) (W : 
           let w : flip R s < places = rw (flip-step R s h) (omega arith) in
           let here : Reach (through R e) (flip R s) (flip R′ s) = rw (flip-spin R s h, flip-spin R′ s h) (reach-around L L′ W T (spin-skip L L′ W T (s / 2) n)) in
           rw (q, seat-step R e (flip R′ s) (rw (flip-step R′ s h) (mirror-word R′ L′ s h))) (reach-sym I w here)
-      by (a-vertex h a q) = rw (q, flip-still R′ s h, flip-still R s h, seat-vertex R e (rev s) (omega arith) (rw (rev-vertex s h) a)) reach-here
+      by (a-vertex h a q) = rw (q, flip-still R′ s h, flip-still R s h, seat-vertex R e (otherType s) (omega arith) (rw (rev-vertex s h) a)) reach-here
       by (a-bare h d x v a p q) =
           let T = type? s in
           let low = own-low T d x in
           let f : R .alone ((s - steps) / 2) ≡ false = false-unless _ (λ b. L .alone-bare ((s - steps) / 2) d b (here-both L L′ W d x) v) in
           let half = halves d (s % 2) T in
           let dart : dartAt R e ((s - steps) / 2) ≡ d = ap (dartAt R e) (sym v) ∙ p in
-          let type : rev s % 2 ≡ 1 - s % 2 = omega arith in
-          rw (q, flip-still R′ s h, seat-bare R e (rev s) (omega arith) (rw (rev-vertex s h) f), rev-vertex s h, dart, type, flip-spin R (2 * d + s % 2) low, half .0, half .1)
+          let type : otherType s % 2 ≡ 1 - s % 2 = omega arith in
+          rw (q, flip-still R′ s h, seat-bare R e (otherType s) (omega arith) (rw (rev-vertex s h) f), rev-vertex s h, dart, type, flip-spin R (2 * d + s % 2) low, half .0, half .1)
           (rw (← (past L L′ W (other-type T) d x)) (reach-one (2 * d + (1 - s % 2))))

@@ -8,14 +8,14 @@ use mathlib.Core.Logic.{_≢_}
 use lib.Dec.{ltb}
 use lib.ListN.{length}
 use borrow.Author.Tests.{lt-ltb, le-ltb}
-use Rattle.table.specs.Layout.{darts, edges, rev}
+use Rattle.table.specs.Layout.{darts, edges}
 use Rattle.table.specs.Rotation.{Rotation, Lawful}
 use Rattle.orbits.specs.Count.{count, more}
 use Rattle.orbits.specs.laws.Count.{count-same, count-short}
 use Rattle.orbits.specs.Iterate.{iter}
 use Rattle.orbits.specs.laws.Iterate.{iter-zero, iter-suc, iter-low, Period}
 use Rattle.orbits.specs.laws.Mirror.{period-half}
-use Rattle.tracing.specs.Step.{steps, step}
+use Rattle.tracing.specs.Step.{steps, step, otherType}
 use Rattle.tracing.specs.laws.Step.{type?, is-zero, is-one, step-live, step-word, mirror-live, mirror-word}
 use Rattle.tracing.specs.laws.Place.{places, trace, on, place, is-step, is-still, trace-step, trace-still, flip-step, flip-still, on-step, rev-still}
 use Rattle.tracing.specs.Walk.{walk}
@@ -61,7 +61,7 @@ module _ (R : Rotation) (L : Lawful R) where
       | is-step l ↦
           let m = mirror-word R L s l in
           rw (flip-step R s l, step-is-live R s l) (step-is-live R _ m ∙ mirror-live R L s)
-      | is-still l ↦ rw (flip-still R s l, still-is-not R s l) (still-is-not R (rev s) (rev-still s l))
+      | is-still l ↦ rw (flip-still R s l, still-is-not R s l) (still-is-not R (otherType s) (rev-still s l))
     ];
     within = λ s h e. elim (place s) [
       | is-step l ↦ on-step R s l ∙ sym (step-is-live R s l) ∙ e

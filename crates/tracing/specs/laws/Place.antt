@@ -7,10 +7,10 @@ use mathlib.Core.Bool.{Bool, cond}
 use mathlib.Core.Logic.{_≢_}
 use lib.Dec.{ltb}
 use borrow.Author.Tests.{lt-ltb, le-ltb, ltb-true, ltb-false}
-use Rattle.table.specs.Layout.{rev, vertices}
+use Rattle.table.specs.Layout.{vertices}
 use Rattle.table.specs.Rotation.{Rotation, Lawful}
 use Rattle.orbits.specs.laws.Truth.{truth, holds, fails}
-use Rattle.tracing.specs.Step.{steps, step, mirror}
+use Rattle.tracing.specs.Step.{steps, step, mirror, otherType}
 use Rattle.tracing.specs.laws.Step.{is-zero, is-one, type?, step-word, mirror-word, step-live, mirror-live, mirror-mirror, mirror-other, step-other, step-turn}
 
 -- 4,096 step words, then two still places for each of 512 vertices
@@ -23,7 +23,7 @@ trace R s = cond (ltb s steps) (step R s) s
 
 -- the other sense at the same corner
 unfoldable pub flip : Rotation → ℕ → ℕ
-flip R s = cond (ltb s steps) (mirror R s) (rev s)
+flip R s = cond (ltb s steps) (mirror R s) (otherType s)
 
 -- the dart is live, or the vertex is isolated
 unfoldable pub on : Rotation → ℕ → Bool
@@ -40,10 +40,10 @@ place s = elim (truth (ltb s steps)) [
 ]
 
 -- the two still places of a vertex
-pub rev-still : (s : ℕ) → steps ≤ s → steps ≤ rev s
+pub rev-still : (s : ℕ) → steps ≤ s → steps ≤ otherType s
 rev-still s h = omega arith
 
-pub rev-vertex : (s : ℕ) → steps ≤ s → (rev s - steps) / 2 ≡ (s - steps) / 2
+pub rev-vertex : (s : ℕ) → steps ≤ s → (otherType s - steps) / 2 ≡ (s - steps) / 2
 rev-vertex s h = elim (type? s) [
   | is-zero e ↦ let d : s ≡ 2 * (s / 2) = omega arith in omega arith
   | is-one e ↦ let d : s ≡ 2 * (s / 2) + 1 = omega arith in omega arith
@@ -62,7 +62,7 @@ module _ (R : Rotation) where
   unfolding flip
   flip-step s h = rw (lt-ltb s steps h)
 
-  pub flip-still : (s : ℕ) → steps ≤ s → flip R s ≡ rev s
+  pub flip-still : (s : ℕ) → steps ≤ s → flip R s ≡ otherType s
   unfolding flip
   flip-still s h = rw (le-ltb s steps h)
 
@@ -90,7 +90,7 @@ module _ (R : Rotation) (L : Lawful R) where
   pub flip-flip : (s : ℕ) → flip R (flip R s) ≡ s
   flip-flip s = elim (place s) [
     | is-step h ↦ rw (flip-step R s h) (flip-step R (mirror R s) (mirror-word R L s h) ∙ mirror-mirror R L s)
-    | is-still h ↦ rw (flip-still R s h) (flip-still R (rev s) (rev-still s h) ∙ omega arith)
+    | is-still h ↦ rw (flip-still R s h) (flip-still R (otherType s) (rev-still s h) ∙ omega arith)
   ]
 
   pub flip-other : (s : ℕ) → flip R s ≢ s
@@ -115,7 +115,7 @@ module _ (R : Rotation) (L : Lawful R) where
         rw (trace-step R s h, flip-step R (step R s) a, trace-step R (mirror R (step R s)) b, flip-step R (step R (mirror R (step R s))) c)
         (step-turn R L s)
     | is-still h ↦
-        rw (trace-still R s h, flip-still R s h, trace-still R (rev s) (rev-still s h), flip-still R (rev s) (rev-still s h))
+        rw (trace-still R s h, flip-still R s h, trace-still R (otherType s) (rev-still s h), flip-still R (otherType s) (rev-still s h))
         (omega arith)
   ]
 
@@ -129,5 +129,5 @@ module _ (R : Rotation) (L : Lawful R) where
   on-flip s = elim (place s) [
     | is-step h ↦ rw (flip-step R s h, on-step R s h, on-step R (mirror R s) (mirror-word R L s h)) (mirror-live R L s)
     | is-still h ↦
-        rw (flip-still R s h, on-still R s h, on-still R (rev s) (rev-still s h)) (ap (R .alone) (rev-vertex s h))
+        rw (flip-still R s h, on-still R s h, on-still R (otherType s) (rev-still s h)) (ap (R .alone) (rev-vertex s h))
   ]

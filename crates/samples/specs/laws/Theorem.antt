@@ -64,5 +64,6 @@ holds-computed s e =
 pub samples-hold : All Holds samples
 unfolding runOn answersOn editedOn answerOn verdictOn writtenOn linkOn spliceOn facesOn eulerOn marksOn lengthsOn plainOn read lookup span
     facesFew eulerFew spotsFew ownLabels marksFew lengthsFew plainBy wellFormed present
-    starts fresh has gather corners walk onward step stepType around corner alones lone count eulerOf spot links joinedBy moved liveEdges twisted agrees every alternating apart lettersOn crossed crossings letter
+    starts fresh has gather corners walk onward step stepType around corner alones lone count eulerOf spot links joinedBy moved liveEdges
+    twisted agrees every alternating apart lettersOn crossed crossings letter
 samples-hold = all-map holds-computed samples (each-same computed samples refl)

@@ -23,7 +23,8 @@ use Rattle.surgery.specs.laws.Spin.{spin, spin-live, spin-from, spin-rea
 use Rattle.surgery.specs.Without.{Without}
 use Rattle.surgery.specs.laws.Without.{apart-other, here-both, kept, not-own, were, spin-skip, alone-stays, bare-edge, filled, full}
 use Rattle.surgery.specs.laws.Through.{through, through-other}
-use Rattle.surgery.specs.laws.Seat.{dartAt, seat, passedOver, Seated, a-step, a-vertex, a-bare, seated, seat-step, seat-vertex, seat-bare, dartAt-own, dartAt-from, taken-other, taken-bare, halves, past, skip-around, reach-around, skip-bare, same-type}
+use Rattle.surgery.specs.laws.Seat.{dartAt, seat, passedOver, Seated, a-step, a-vertex, a-bare, seated}
+use Rattle.surgery.specs.laws.Seat.{seat-step, seat-vertex, seat-bare, dartAt-own, dartAt-from, taken-other, taken-bare, halves, past, skip-around, reach-around, skip-bare, same-type}
 
 dart-step : {t : ℕ} (d : ℕ) → d < darts → Type? t → 2 * d + t < steps
 dart-step d h (is-zero z) = omega arith

@@ -1,4 +1,4 @@
--- The change of the face count that each edit's rule calls for, read on the table just before it, document 01, "Edits"; and that it is the change.
+-- The change of the face count that each edit's rule calls for, read on the table just before it, document 01, "Edits".
 use Prim.Native.Nat.{ℕ, zero, suc, _%_}
 use mathlib.Core.List.{List}
 use lib.IntN.{ℤ, natAbs}

@@ -1,4 +1,4 @@
--- The tables that the insertion and the deletion of an edge leave, document 01, "Edits". Both are good; deleting what was inserted gives the first table back.
+-- The tables that the insertion and the deletion of an edge leave, document 01, "Edits".
 use Prim.Native.Nat.{ℕ, _+_, _-_, _*_, zero, suc}
 use mathlib.Core.Bool.{true, false, cond}
 use mathlib.Core.List.{List}

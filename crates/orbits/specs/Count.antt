@@ -1,9 +1,4 @@
 -- How many numbers below n pass a test.
---     count-same, count-one      equal tests; tests that differ at one number only
---     count-none, count-all      no number passes; each does.       count-le, none-counted, count-some, count-find    the ways back
---     count-split, count-sum     a test in two exclusive parts; a range in two pieces.       count-short    nothing past n passes
---     count-into                 an injective relation from one counted set into another: the first has no more members
---     count-onto                 the same both ways: as many.       count-bijection    by two maps that undo each other
 use mathlib.Core.Path.{_≡_}
 use mathlib.Core.Bool.{Bool, true, false}
 use Prim.Native.Nat.{ℕ, zero, suc, _<_}

@@ -1,9 +1,6 @@
--- The exchange of two values, and where it joins. f with its values at x and y exchanged: where these were on two
--- orbits, the two become one, and all other orbits stay.
---     exch             f after x and y are exchanged;     exch-left, exch-right, exch-off    its values
---     exch-exch        the exchange undoes itself;     exch-inj, exch-world    it is injective where f is
---     exch-joins       x and y on two orbits of f: the orbits of the exchange are those of f with these two joined
---     exch-less        then there is one orbit less
+-- The exchange of two values, and the mirrored exchange, of two values and of those at their opposites.
+--     tr, exch         x and y exchanged; f after it
+--     tr2, exch2       the same with a mirror m
 use Prim.Native.Nat.{ℕ}
 use mathlib.Core.Bool.{cond}
 use lib.Dec.{eqb}

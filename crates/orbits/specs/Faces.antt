@@ -1,9 +1,5 @@
--- A face is an orbit with its mirror image. No orbit is its own mirror, so there are half as many faceClasses as orbits.
+-- A face is an orbit with its mirror image.
 --     Face, faced, faceClasses     on one orbit or on mirror orbits; the test; how many live classes
---     orbits-pair            twice as many orbits
---     faces-live, faces-split     equal live sets; a live set in two exclusive parts
---     faces-none, faces-some, faces-one     no live number; some live number; all live numbers on one face
---     reps-faces             one number for each live face: as many as there are faceClasses
 use mathlib.Core.Bool.{Bool, _||_}
 use Prim.Native.Nat.{ℕ}
 use Rattle.orbits.specs.Reach.{Reach, reaches}

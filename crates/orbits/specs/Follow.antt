@@ -1,11 +1,7 @@
 -- One map that follows another: g goes on from j to the next marked number after φ j on the orbit of f. So φ may rename
--- points, and the numbers that are not marked are passed over. Where each live orbit of f meets φ, the two maps have the same
--- orbits, and as many.
+-- points, and the numbers that are not marked are passed over.
 --     Skip             j is the first marked number after i
 --     Follows          g follows f under φ
---     reach-follow     i and j are on one orbit of g exactly if φ i and φ j are on one of f;     face-follow    the same for faces
---     orbits-follow    as many orbits;     faces-follow    as many faces
---     orbits-agree, faces-agree     for maps that agree on live numbers;     reach-agree    one way, with less asked
 use mathlib.Core.Path.{_≡_}
 use mathlib.Core.Bool.{Bool, true, false}
 use Prim.Native.Nat.{ℕ}

@@ -1,8 +1,6 @@
--- Steps of a map, and its finite order. A map that is injective below N and stays there brings each number back.
+-- Steps of a map.
 --     iter             k steps of f from i
 --     Inj              f keeps the numbers below N, and is injective on them
---     Period, period   the least number of steps, at least one, after which i comes back
---     period-on        it is at most the number of points of any set that f stays in, so at most N: period-le
 use mathlib.Core.Path.{_≡_}
 use Prim.Native.Nat.{ℕ, zero, suc, _<_}
 

@@ -1,9 +1,5 @@
--- Being on one orbit: some number of steps of f takes i to j. Below N, for a map that is injective there, this is an
--- equivalence, and it is decided by trying fewer than N steps.
---     reach-here, reach-one, reach-trans, reach-sym      it is an equivalence, and each step stays in it
---     reach-ind        what holds at i and is kept by a step along the orbit holds on the whole orbit
---     reach-within     fewer steps than the period are enough;     reach-below    so fewer than N
---     reaches          the test; reach-says and says-reach: it passes exactly if i reaches j; reach-dec
+-- Being on one orbit: some number of steps of f takes i to j.
+--     reaches          the test, which tries fewer than N steps
 use mathlib.Core.Path.{_≡_}
 use mathlib.Core.Bool.{Bool}
 use Prim.Native.Nat.{ℕ, zero, _<_}

@@ -1,4 +1,4 @@
--- The 32-bit float of z / 32, for a whole number z: what a cast and a division give, and that nothing is rounded.
+-- The 32-bit float of z / 32, for a whole number z: what a cast and a division give, and when it is exact.
 use Prim.Native.Nat.{ℕ}
 use mathlib.Core.Bool.{Bool, true, false}
 use lib.Dec.{T}

@@ -1,4 +1,4 @@
--- Why the job program may read its input in blocks: what it prints for a block and then for the bytes that are left is what it prints for all.
+-- The job program reads its input in blocks: what some bytes print, and which of them are left for the next block.
 use Prim.Native.Nat.{ℕ, _+_}
 use mathlib.Core.Bool.{cond}
 use mathlib.Core.List.{List, [], _++_}

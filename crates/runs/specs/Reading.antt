@@ -1,7 +1,4 @@
 -- All records of some bytes, document 01, "The job program": the edits, the bytes that they took, and why the reading ended.
---     reading-stopped, reading-record                     what a reading is, by the first record
---     reading-blocks, reading-bad                         bytes that come in blocks
---     reading-bounds                                      how many bytes and edits
 use Prim.Native.Nat.{ℕ, zero, suc, _+_}
 use mathlib.Core.Bool.{Bool, true, false}
 use mathlib.Core.List.{List, [], _∷_}

@@ -1,6 +1,4 @@
--- Two rotation systems with the same darts in the same order around each vertex. They have the same mirror, and the same
--- tracing wherever the turns of the edge have the same parity.
---     Alike                the same order;     alike-around, alike-flip, alike-trace    and what follows
+-- Two rotation systems with the same darts in the same order around each vertex.
 use mathlib.Core.Path.{_≡_}
 use Prim.Native.Nat.{ℕ}
 use Rattle.table.specs.Rotation.{Rotation}

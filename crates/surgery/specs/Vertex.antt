@@ -1,7 +1,4 @@
--- An isolated vertex added: its empty walk is one face more. Removed, one face less.
---     Added                the two rotation systems
---     VertexParts          a part before, and the same part after it;     vertex-whole    the whole mesh
---     add-vertex           one face more in the part that has the vertex;     add-elsewhere    as many in any other
+-- An isolated vertex added: the two rotation systems, side by side.
 use mathlib.Core.Path.{_≡_}
 use mathlib.Core.Logic.{_≢_}
 use mathlib.Core.Bool.{true, false}

@@ -1,8 +1,4 @@
 -- A rotation system with an edge, and the same without it: what deleting the edge leaves, and what inserting it began from.
---     Without              the two rotation systems, side by side
---     gone, kept, were     which darts are live
---     prev-bypass, spin-skip     around a vertex, the edge's darts are passed over
---     alone-stays, bare-edge, filled, bared     where the edge had the only darts of a vertex, that vertex is alone without it
 use mathlib.Core.Path.{_≡_}
 use mathlib.Core.Bool.{Bool, true, not, _&&_, cond}
 use Prim.Native.Nat.{ℕ, _+_, _*_, _%_}

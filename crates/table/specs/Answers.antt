@@ -1,4 +1,4 @@
--- Document 01's numbers for what a call answers.
+-- Document 01's numbers for what a call answers; a refusal unless a test holds, and what a declined call leaves.
 use Prim.Native.Nat.{ℕ}
 use lib.IntN.{ℤ, pos, negℤ}
 use mathlib.Core.Bool.{Bool, cond}

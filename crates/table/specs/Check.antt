@@ -1,4 +1,5 @@
--- Whether a table is good is decided: `good?` is the Boolean, and it is true exactly if the table is good.
+-- Whether a table is good is decided: `good?` is read off the decision that laws/Decided makes, and the theorem `good-says` states
+-- that it is true exactly if the table is good; nothing else has to be known of it.
 use Prim.Native.Nat.{ℕ}
 use mathlib.Core.Bool.{Bool, true, false}
 use mathlib.Core.List.{List}

@@ -1,4 +1,4 @@
--- The empty mesh: no dart, no edge and no vertex is live. It is a good table.
+-- The empty mesh: no dart, no edge and no vertex is live.
 use Prim.Native.Nat.{ℕ}
 use mathlib.Core.List.{List, _++_}
 use lib.ListN.{length, replicate}

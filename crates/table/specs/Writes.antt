@@ -1,4 +1,4 @@
--- A word of a table written: each kind of word reads back, and a write changes no other word.
+-- A word of a table written.
 use Prim.Native.Nat.{ℕ, _+_}
 use mathlib.Core.List.{List}
 use lib.ListN.{set}

@@ -1,5 +1,4 @@
 -- Corner words, the face that a corner is on and its type there, document 01, "Corners and walks" and "Counts".
--- Two corners are on one face exactly if their places are on one orbit of tracing or on mirror orbits; their types agree in the first case alone.
 use Prim.Native.Nat.{ℕ, _-_, _*_, _%_, _<_}
 use mathlib.Core.Path.{_≡_}
 use mathlib.Core.Bool.{Bool, true, false, _||_, cond}

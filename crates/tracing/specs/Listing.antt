@@ -69,6 +69,6 @@ walkText R c =
       | false ↦ 0 ∷ c ∷ []
     ]
 
--- "A listing is walkText as 16-bit words"
+-- "A listing is written as 16-bit words"
 unfoldable pub listing : Rotation → List ℕ
 listing R = gather (walkText R) (faces R)

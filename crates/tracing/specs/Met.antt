@@ -1,4 +1,4 @@
--- Each live edge has exactly two listed steps on it, its sides.
+-- What the listed walks meet and pass: their corners, their steps, and how often. "A step is on its dart's edge"; "E: live edges".
 use Prim.Native.Nat.{ℕ, _*_, _/_}
 use mathlib.Core.Bool.{Bool, true, false}
 use mathlib.Core.List.{List, [], _∷_}

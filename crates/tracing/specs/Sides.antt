@@ -1,5 +1,4 @@
 -- How the two sides of an edge lie: on different faces, on one walk by both darts, or by the same dart twice, document 01, "Edits".
--- With x = (2e, 0) and y = (2e+1, the turns' parity): by both darts exactly if y is on the orbit of x, by the same dart exactly if its mirror is.
 use Prim.Native.Nat.{ℕ, _/_}
 use mathlib.Core.Bool.{Bool, true, false}
 use mathlib.Core.List.{List, [], _∷_}

@@ -1,5 +1,4 @@
 -- A walk: the steps from a start up to the first return to it, dart and type, document 01, "Corners and walks".
--- The definition computes; `walk-run` says that it is the run of as many steps as its start's period under `step`.
 use Prim.Native.Nat.{ℕ, zero, suc}
 use mathlib.Core.Bool.{true, false}
 use mathlib.Core.List.{List, [], _∷_, map}

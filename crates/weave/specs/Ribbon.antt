@@ -1,4 +1,5 @@
--- A ribbon's letters are those of one strand, which closes: their number is even, and a ribbon alternates exactly if its turned edges turn the same way.
+-- Document 01, "Runs of edits": "A ribbon's edges are those its steps are on; they turn the same way if their turns, zeros left out, are
+-- all positive or all negative."
 use Prim.Native.Nat.{ℕ, _<_}
 use mathlib.Core.Path.{_≡_}
 use mathlib.Core.Bool.{Bool, true, false, _||_}

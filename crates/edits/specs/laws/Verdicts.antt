@@ -1,4 +1,4 @@
--- What a verdict tells: two lists of tests, one after the other, and what is known where an edit goes let-through.
+-- What a verdict tells: two lists of tests, one after the other, and what is known where an edit goes through.
 use Prim.Native.Nat.{ℕ, _<_}
 use native.Mathlib.Omega.{arith}
 use mathlib.Core.Path.{_≡_, refl, sym, _∙_, ap}
@@ -54,7 +54,7 @@ then-through : (a b : Verdict) → andThen a b ≡ Passes → (a ≡ Passes) × 
 then-through Passes b e = (refl, e)
 then-through (Declines r) b e = absurd (never e)
 
--- what the tests on names tell where they let an edit let-through
+-- what the tests on names tell where they let an edit through
 
 pub record MayAdd (t : List ℕ) (v : ℕ) : Type 0 where
   pub good : Good t
@@ -104,7 +104,7 @@ pub record MayTurn (t : List ℕ) (e : ℕ) (a : ℤ) : Type 0 where
   pub there : edgeWord t e ≢ 0
   pub few : overturned (turnsIn (edgeWord t e) +ℤ a) ≡ false
 
--- what is known where an edit goes let-through
+-- what is known where an edit goes through
 module _ (t : List ℕ) where
   pub may-add : (v : ℕ) → verdict t (AddVertex v) ≡ Passes → MayAdd t v
   unfolding newVertex

@@ -34,7 +34,7 @@ pub record Taken (t : List ℕ) (e : ℕ) (up₀ turn₀ up turn : List ℕ) : T
   pub shape : Shape up turn
   pub after : (s : ℕ → Spot) → Sound (rotation t) s → Forest s up₀ turn₀ → After (rotation t) e s up turn
 
--- a joinedBy between two roots, as a pointer
+-- a link between two roots, as a pointer
 module _ {up turn : List ℕ} {s : ℕ → Spot} (k : Link) (M : Moved up turn (k .high) (k .low) (k .shift)) (F : Forest s up turn) (less : k .low < k .high)
     (high-root : s (k .high) .label ≡ k .high) (high-even : s (k .high) .mark % 2 ≡ 0)
     (low-root : s (k .low) .label ≡ k .low) (low-even : s (k .low) .mark % 2 ≡ 0) where
@@ -132,7 +132,7 @@ module _ {t up turn : List ℕ} {e : ℕ} (K : Taking t up turn e) where
             let b = B .mark s (A .kept s F) in
             rw half (omega arith)
 
-        -- the edge's joinedBy is the pointer from h to l
+        -- the edge's link is the pointer from h to l
         after-link : {h l : ℕ} → max (s (leaves t (2 * e)) .label) (s (leaves t (2 * e + 1)) .label) ≡ h
             → min (s (leaves t (2 * e)) .label) (s (leaves t (2 * e + 1)) .label) ≡ l
             → Forest (λ w. moved (record { high = h; low = l; shift = shift }) (s w)) (set up₂ h l) (set turn₂ h shift)

@@ -3,7 +3,7 @@
 --     count-none, count-all      no number passes; each does.       count-le, none-counted, count-some, count-find    the ways back
 --     count-split, count-sum     a test in two exclusive parts; a range in two pieces.       count-short    nothing past n passes
 --     count-into                 an injective relation from one counted set into another: the first has no more members
---     count-onto                 the same both ways: as many.       count-bijection    by two maps that undo each other
+--     count-onto                 the same both ways: as many
 use mathlib.Core.Path.{_≡_, refl, sym, _∙_}
 use mathlib.Core.Logic.{_≢_}
 use mathlib.Core.Bool.{Bool, true, false, not, _&&_, _||_, and-true, and-false, Bool-discrete}

@@ -1,6 +1,6 @@
 -- Where the exchange of two values parts. x and y are two points of one orbit: after the exchange this orbit falls in
 -- two, one with x and one with y, and all others stay.
---     Arc, exch-arc    the part that has y is the way of f from x to y
+--     Arc              the part that has y is the way of f from x to y
 --     exch-parts       the orbits of f are those of the exchange, with those of x and y joined
 --     exch-more        there is one orbit more
 use mathlib.Core.Path.{_≡_, sym, _∙_, ap}

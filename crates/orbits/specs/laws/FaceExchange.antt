@@ -1,7 +1,7 @@
--- The mirrored exchange, in terms of faceClasses: an orbit and its mirror count as one.
+-- The mirrored exchange, in terms of faces: an orbit and its mirror count as one.
 --     faces-less, exch2-joins      y on another face than x: one face less, and it is the two joined
 --     faces-more, exch2-parts      y on the orbit of x, and not x: one face more, and the two joined are the old one
---     faces-same, exch2-keeps      y on the mirror of the orbit of x: as many faceClasses, with the same members
+--     faces-same, exch2-keeps      y on the mirror of the orbit of x: as many faces, with the same members
 use mathlib.Core.Path.{_≡_, _∙_, ap}
 use mathlib.Core.Logic.{_≢_, _↔_, Iff·rfl}
 use mathlib.Core.Bool.{Bool}
@@ -25,8 +25,8 @@ use Rattle.orbits.specs.laws.MirrorExchange.{exch2-at, exch2-world, exch
 use Rattle.orbits.specs.laws.MirrorExchange.{exch2-same, less-joins, more-parts, same-parts, mirror-apart}
 
 module _ {N : ℕ} {f m : ℕ → ℕ} {live : ℕ → Bool} (E : Mirror N f m live) {x y : ℕ} (a : On N live x) (b : On N live y) where
-  -- The faceClasses after it. In all cases a step of the new map stays inside the old faceClasses with those of x and y joined,
-  -- and a step of the old map inside the new faceClasses, with those of x and y joined.
+  -- The faces after it. In all cases a step of the new map stays inside the old faces with those of x and y joined,
+  -- and a step of the old map inside the new faces, with those of x and y joined.
   opposite-face : {i : ℕ} → i < N → Face f m i (m (f i))
   opposite-face {i} h = mirrored (rw (E .twice (f i) (E .fwd i h)) (reach-one i))
 

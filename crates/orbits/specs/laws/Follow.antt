@@ -3,9 +3,9 @@
 -- orbits, and as many.
 --     Skip             j is the first marked number after i
 --     Follows          g follows f under φ
---     reach-follow     i and j are on one orbit of g exactly if φ i and φ j are on one of f;     face-follow    the same for faceClasses
---     orbits-follow    as many orbits;     faces-follow    as many faceClasses
---     orbits-agree, faces-agree     for maps that agree on live numbers;     reach-agree    one way, with less asked
+--     reach-follow     i and j are on one orbit of g exactly if φ i and φ j are on one of f;     face-follow    the same for faces
+--     orbits-follow    as many orbits;     faces-follow    as many faces
+--     faces-agree      for maps that agree on live numbers
 use mathlib.Core.Path.{_≡_, refl, sym}
 use mathlib.Core.Logic.{_↔_}
 use mathlib.Core.Bool.{Bool, false}

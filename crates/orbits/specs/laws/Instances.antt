@@ -1,5 +1,5 @@
--- Small cases, computed. Four numbers, none of which moves, with the mirror 0 ↔ 1, 2 ↔ 3: four orbits, two faceClasses. The
--- mirrored exchange at 0 and 2 joins faceClasses, again at 0 and 2 it parts them, and at 0 and 1 it keeps their number. So the
+-- Small cases, computed. Four numbers, none of which moves, with the mirror 0 ↔ 1, 2 ↔ 3: four orbits, two faces. The
+-- mirrored exchange at 0 and 2 joins faces, again at 0 and 2 it parts them, and at 0 and 1 it keeps their number. So the
 -- hypotheses of the general statements can be met, and the numbers are the computed ones.
 use mathlib.Core.Path.{_≡_, refl, sym}
 use mathlib.Core.Logic.{_≢_}

@@ -2,7 +2,6 @@
 -- mirror is then a mirror of the new map. The number of orbits changes by -2, +2 or 0, as y lies to the orbit of x.
 --     exch2            the exchange;     exch2-left, exch2-right, exch2-undo    its values
 --     exch2-mirror     the mirror stays
---     Lies, lies       which of the three cases it is
 --     exch2-less       y neither on the orbit of x nor on its mirror: two orbits less
 --     exch2-more       y on the orbit of x, and not x: two orbits more
 --     exch2-same       y on the mirror of the orbit of x: as many orbits

@@ -2,9 +2,6 @@
 --     orbits           how many live numbers are least on their orbit
 --     World, On        f is injective below N and keeps `live`; x is a live number below N
 --     merge-orbits     two orbits joined are one less
---     orbits-live, orbits-split     equal live sets; a live set in two exclusive parts
---     orbits-none, orbits-some, orbits-one     no live number; some live number; all live numbers on one orbit
---     reps-orbits      one number for each live orbit: as many as there are orbits
 use mathlib.Core.Path.{_≡_, refl, _∙_}
 use mathlib.Core.Bool.{Bool}
 use Prim.Native.Nat.{ℕ, suc, _<_}

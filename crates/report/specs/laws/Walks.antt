@@ -117,7 +117,7 @@ module _ {t m : List ℕ} {d i at : ℕ} {size : Size} {m′ : List ℕ} (h : Da
       }
     ]
 
--- the loop over the darts: the lines of the walks that start below d are walkText
+-- the loop over the darts: the lines of the walks that start below d are written
 pub record Numbering (t : List ℕ) (from at d i end : ℕ) (m out₀ out : List ℕ) : Type 0 where
   pub seen : Seen t d m
   pub index : i ≡ length (starts (rotation t) d)

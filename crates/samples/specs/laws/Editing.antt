@@ -1,4 +1,4 @@
--- Runs of edits on sparse tables: as `run` and its answers on the table that is tableOf.
+-- Runs of edits on sparse tables: as `run` and its answers on the table itself.
 --     verdictOn, editedOn, answerOn     one edit;     runOn, answersOn     a run
 use Prim.Native.Nat.{ℕ, _+_}
 use mathlib.Core.Path.{_≡_, refl, _∙_, ap, ap₂}

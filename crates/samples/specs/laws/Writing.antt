@@ -1,5 +1,5 @@
 -- The words that an edit writes, on sparse tables.
---     linkOn, unlinkOn, writtenOn      as `link`, `unlink`, `written` on the table that is tableOf;     link-on, unlink-on, written-on
+--     linkOn, unlinkOn, writtenOn      as `link`, `unlink`, `written` on the table itself;     link-on, unlink-on, written-on
 use Prim.Native.Nat.{ℕ, zero, suc, _+_, _-_, _*_}
 use native.Mathlib.Omega.{arith}
 use native.Mathlib.Decide.{ℕ-discrete, decLt}
@@ -18,7 +18,7 @@ use Rattle.edits.specs.declared.edit.Edit.{Edit}
 use Rattle.edits.specs.declared.edit.Edit.the-variants.{AddVertex, RemoveVertex, InsertEdge, DeleteEdge, TurnEdge}
 use Rattle.samples.specs.laws.Sparse.{Writes, tableOf, read, put-read}
 
--- a dart tableOf into a corner
+-- a dart put into a corner
 unfoldable pub spliceOn : Writes → ℕ → ℕ → ℕ → ℕ → ℕ → Writes
 spliceOn ws x d p v w = (vertexAt + v, w) ∷ (leavesAt + x, v) ∷ (prevAt + x, p) ∷ (p, x) ∷ (prevAt + d, x) ∷ (x, d) ∷ ws
 

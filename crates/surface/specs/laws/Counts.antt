@@ -1,7 +1,7 @@
 -- V, E and F of the mesh and of a part, document 01, "Counts".
 --     vertex-dart, vertex-lone         the vertex of a corner
 --     walks-places                     the listed walks in a part are those at its places
---     walks-faces                      and they are its faceClasses: what the counts of crate `orbits` speak of
+--     walks-faces                      and they are its faces: what the counts of crate `orbits` speak of
 --     walk-vertices                    all corners of a listed walk are in the part of its first one
 --     EulerLaws                        what holds of a part's V-E+F
 use Prim.Native.Nat.{ℕ, _+_, _*_, _/_, _-_, _%_, _<_, _≤_}
@@ -96,7 +96,7 @@ module _ {R : Rotation} (L : Lawful R) {Q : ℕ → Bool} (K : EndsTogether R Q)
     ]
   ]
 
--- V-E+F is at most 2, even if the part is orientable, and at most 1 if not; here with F the number of faceClasses
+-- V-E+F is at most 2, even if the part is orientable, and at most 1 if not; here with F the number of faces
 pub record EulerLaws (R : Rotation) (Q : ℕ → Bool) (F : ℕ) : Type 0 where
   pub bound : verticesIn R Q + F ≤ edgesIn R Q + 2
   pub even : Orientable R Q → (verticesIn R Q + edgesIn R Q + F) % 2 ≡ 0

@@ -4,7 +4,7 @@
 --     label-chain, chain-label     equal labels and chains
 --     part-of                      the vertices labelled r are the part of r
 --     agree-orient, orient-agree   marks that agree, and marks that exist
---     label, orientable            those of the fold over the live edges;     label-one, orientable-one    the only ones
+--     label, orientable            those of the fold over the live edges;     label-one    the only ones
 use Prim.Native.Nat.{ℕ, _+_, _*_, _/_, _%_, _≤_}
 use native.Mathlib.Omega.{arith}
 use native.Mathlib.Decide.{ℕ-discrete}

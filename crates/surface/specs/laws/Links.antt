@@ -1,7 +1,7 @@
 -- The parts and their marks found: a fold over the live edges. Each edge links two labels, and a vertex follows the links made so far
 -- from itself to the label of its part. Two vertices have one label exactly if a chain joins them, and the label is the smallest of them.
---     Link, Spot, spot     a joinedBy; where a vertex has come to, and its mark there
---     links                one joinedBy for each edge of a list
+--     Link, Spot, spot     a link; where a vertex has come to, and its mark there
+--     links                one link for each edge of a list
 --     Labelling            what labels and marks must keep to, however they are found
 --     links-label          the fold over all live edges does
 use Prim.Native.Nat.{ℕ, zero, suc, _+_, _*_, _/_, _%_, _<_, _≤_, min, max}
@@ -39,7 +39,7 @@ pub record Labelling (R : Rotation) (s : ℕ → Spot) : Type 0 where
   pub sound : Sound R s
   pub same : (d : ℕ) → R .live d ≡ true → s (R .from (rev d)) .label ≡ s (R .from d) .label
 
--- the two ways of a joinedBy
+-- the two ways of a link
 pub data Moves (k : Link) (s t : Spot) : Type 0 where
   stays : s .label ≢ k .high → t ≡ s → Moves k s t
   goes : s .label ≡ k .high → t .label ≡ k .low → t .mark ≡ (s .mark + k .shift) % 2 → Moves k s t
@@ -58,7 +58,7 @@ begin-sound R = record { joined = λ w. Chain.here; low = λ w. omega arith; for
 fits-joined : {R : Rotation} {v w : ℕ} {m : ℕ → ℕ} → Chain R v w → FitsAt R v m → FitsAt R w m
 fits-joined c f = record { fits = λ d l k. f .fits d l (chain-trans c k) }
 
--- a joinedBy of two labels that are joined, whose shift is the difference of their marks
+-- a link of two labels that are joined, whose shift is the difference of their marks
 pub record Links (R : Rotation) (k : Link) : Type 0 where
   pub down : k .low ≤ k .high
   pub chain : Chain R (k .low) (k .high)
@@ -97,7 +97,7 @@ ordered {R} L a b n c f = elim (decLe a b) [
       rw (x, y) (record { down = omega arith; chain = chain-sym L c; shift = λ m g. let k = f m g in omega arith })
 ]
 
--- one more joinedBy, between the labels of the ends of a live edge
+-- one more link, between the labels of the ends of a live edge
 module _ {R : Rotation} (L : Lawful R) (s : ℕ → Spot) (S : Sound R s) (e : ℕ) (l : R .live (2 * e) ≡ true) where
   edge-chain : Chain R (R .from (2 * e)) (R .from (2 * e + 1))
   edge-chain = let q : rev (2 * e) ≡ 2 * e + 1 = omega arith in rw q at (chain-edge R (2 * e) l)
@@ -138,7 +138,7 @@ moved-same k s t q = by (moves k s) (moves k t)
     by (goes n e h) (stays p f) = absurd (p (sym q ∙ n))
     by (goes n e h) (goes p f g) = e ∙ sym f
 
--- the ends of the edge that makes a joinedBy get one label
+-- the ends of the edge that makes a link get one label
 pub link-same : (R : Rotation) (e : ℕ) (a b : Spot) → moved (joinedBy R e a b) a .label ≡ moved (joinedBy R e a b) b .label
 unfolding joinedBy
 link-same R e a b = by (moves (joinedBy R e a b) a) (moves (joinedBy R e a b) b)

@@ -1,5 +1,5 @@
--- An edge deleted. Its two sides on different faceClasses: one face less. The far side on the walk of the near side, so that one walk
--- passes by both darts: one face more. The far side on the mirror of that walk: as many faceClasses.
+-- An edge deleted. Its two sides on different faces: one face less. The far side on the walk of the near side, so that one walk
+-- passes by both darts: one face more. The far side on the mirror of that walk: as many faces.
 --     delete-less, delete-more, delete-same     in a part that has the edge
 --     delete-elsewhere     in any other part as many
 use mathlib.Core.Path.{_≡_, _∙_}

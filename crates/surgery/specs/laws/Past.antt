@@ -1,9 +1,9 @@
--- Tracing past an edge has the faceClasses of tracing without it, in the whole and in each part.
---     facesOf              the number of faceClasses in a part of the places
+-- Tracing past an edge has the faces of tracing without it, in the whole and in each part.
+--     facesOf              the number of faces in a part of the places
 --     Parts, whole-parts   a part with the edge, and the same part without it
 --     Inside, Outside, Level     the edge's steps are in the part; none is; one of the two
 --     through-mirror       tracing past the edge has the same mirror
---     past-faces           it has as many faceClasses as tracing without the edge;     past-reach    and the same orbits
+--     past-faces           it has as many faces as tracing without the edge;     past-reach    and the same orbits
 use mathlib.Core.Path.{_≡_, sym, _∙_, ap}
 use mathlib.Core.Logic.{_↔_}
 use mathlib.Core.Bool.{Bool, true, false}
@@ -33,7 +33,7 @@ use Rattle.surgery.specs.Change.{parity}
 abbrev pub facesOf : Rotation → (ℕ → Bool) → ℕ
 facesOf R P = faceClasses (trace R) (flip R) places P
 
--- P a part with the edge, P′ the same part without it: each position is in P′ exactly if its seat is in P
+-- P a part with the edge, P′ the same part without it: each place is in P′ exactly if its seat is in P
 pub record Parts (R : Rotation) (e : ℕ) (R′ : Rotation) (P P′ : ℕ → Bool) : Type 0 where
   pub before : Part R P
   pub after : Part R′ P′

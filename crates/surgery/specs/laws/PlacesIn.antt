@@ -3,8 +3,6 @@
 --     placeVertex, placesIn   the vertex of a place; the places that are there at these vertices
 --     EndsTogether, placesIn-part  edges keep the set: then its places are a part
 --     without-kept, without-parts     with an edge and without it;     inside-of, outside-of    its steps are in the part, or none is
---     turned-part          an edge turned: the same places
---     added-kept, added-parts, added-in     a vertex added
 use mathlib.Core.Path.{_≡_, sym, _∙_, ap}
 use mathlib.Core.Bool.{Bool, true, false, _&&_, cond}
 use Prim.Native.Nat.{ℕ, _+_, _-_, _*_, _/_, _%_, _<_, _≤_}

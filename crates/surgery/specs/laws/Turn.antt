@@ -2,8 +2,7 @@
 -- Its two sides on different faces: one face less. On one walk by the same dart twice, one face more. By both darts: as many faces.
 --     Turned               the two rotation systems;     turned-on    the same places
 --     turn-even            the same tracing, so the same faces
---     turn-less, turn-more, turn-same     an odd amount, in a part that has the edge;     turn-part    which stays a part
---     turn-elsewhere       in any other part as many
+--     turn-less, turn-more, turn-same     an odd amount, in a part that has the edge
 use mathlib.Core.Path.{_≡_, refl, sym, _∙_, ap, fun-ext}
 use mathlib.Core.Bool.{Bool, true}
 use Prim.Native.Nat.{ℕ, suc, _+_, _-_, _*_, _/_, _%_, _<_}

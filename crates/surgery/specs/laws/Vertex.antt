@@ -1,7 +1,7 @@
 -- An isolated vertex added: its empty walk is one face more. Removed, one face less.
 --     Added                the two rotation systems
 --     VertexParts          a part before, and the same part after it;     vertex-whole    the whole mesh
---     add-vertex           one face more in the part that has the vertex;     add-elsewhere    as many in any other
+--     add-vertex           one face more in the part that has the vertex
 use mathlib.Core.Path.{_≡_, sym, _∙_, ap, fun-ext}
 use mathlib.Core.Logic.{_≢_}
 use mathlib.Core.Bool.{Bool, true, false}
@@ -21,7 +21,7 @@ use Rattle.surgery.specs.laws.Past.{facesOf}
 use Rattle.surgery.specs.laws.Alike.{alike-flip, alike-trace}
 use Rattle.surgery.specs.Vertex.{Added}
 
--- the first still position of a vertex; the other is the next number
+-- the first still place of a vertex; the other is the next number
 abbrev pub stillAt : ℕ → ℕ
 stillAt v = steps + 2 * v
 
@@ -31,7 +31,7 @@ pub record VertexParts (R : Rotation) (v : ℕ) (R₁ : Rotation) (P P₁ : ℕ 
   pub others : (s : ℕ) → s < places → s ≢ stillAt v → s ≢ stillAt v + 1 → P₁ s ≡ P s
 
 module _ {R R₁ : Rotation} {v : ℕ} (L : Lawful R) (L₁ : Lawful R₁) (A : Added R v R₁) where
-  -- the vertex of a position that is no still position of v
+  -- the vertex of a place that is no still place of v
   other-vertex : (s : ℕ) → steps ≤ s → s ≢ stillAt v → s ≢ stillAt v + 1 → (s - steps) / 2 ≢ v
   other-vertex s h p q = omega arith
 
@@ -54,7 +54,7 @@ module _ {R R₁ : Rotation} {v : ℕ} (L : Lawful R) (L₁ : Lawful R₁) (A : 
   low : stillAt v + 1 < places
   low = let h = L₁ .there-low v (L₁ .alone-there v (A .now)) in omega arith
 
-  -- neither still position is there before
+  -- neither still place is there before
   absent : (s : ℕ) → steps ≤ s → (s - steps) / 2 ≡ v → on R s ≡ false
   absent s h q = on-still R s h ∙ rw q (false-unless (R .alone v) (λ a. clash (L .alone-there v a) (A .fresh)))
 

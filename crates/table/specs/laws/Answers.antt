@@ -12,7 +12,7 @@ use Rattle.table.specs.Answers.{numberOf, refusalCode, unless}
 use Rattle.table.specs.declared.answer.Refusal.{Refusal}
 use Rattle.table.specs.declared.answer.Refusal.the-variants.{Torn, NoSuchName, Taken, Absent, Joined, Overturned, ShortSlice, ManyTurns, Far, BadMark, CutRecord}
 
--- where tests let a call let-through, the first of them holds and the others let it let-through
+-- where tests let a call through, the first of them holds and the others let it through
 pub record LetThrough {A : Type 0} (test : Bool) (x y : A) : Type 0 where
   pub held : test ≡ true
   pub rest : x ≡ y

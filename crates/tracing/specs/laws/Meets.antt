@@ -20,7 +20,7 @@ use Rattle.tracing.specs.Listing.{has}
 use Rattle.tracing.specs.laws.Listing.{has-here}
 use Rattle.tracing.specs.laws.Has.{has-empty, has-parts, left, right, has-left, has-right, has-cons, here, later, has-map, has-mapped}
 
--- the points of a iterates
+-- the points of a run of steps
 
 pub has-run : (f : ℕ → ℕ) (s x n : ℕ) → has x (iterates f s n) ≡ true → Within f s x n
 unfolding iterates

@@ -9,11 +9,11 @@ use mathlib.Core.Bool.{Bool, true, false}
 use mathlib.Core.List.{List, _++_}
 use lib.ListN.{length, take}
 use Rattle.report.specs.Lines.{report}
-use Rattle.runs.specs.declared.records.Stop.{Stop}
+use Rattle.records.specs.declared.records.Stop.{Stop}
 use Rattle.runs.specs.Run.{run}
-use Rattle.runs.specs.Reading.{reading, readsOn}
-use Rattle.runs.specs.Lines.{lines}
-use Rattle.runs.specs.Blocks.{printed, left}
+use Rattle.records.specs.Reading.{reading, readsOn}
+use Rattle.records.specs.Lines.{lines}
+use Rattle.records.specs.Blocks.{printed, left}
 use Rattle.job.specs.declared.Progress.{Progress}
 use Rattle.job.specs.declared.Job.{Job}
 

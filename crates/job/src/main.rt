@@ -4,11 +4,11 @@
 // the number of those that are handed over.
 use libc::STDIN_FILENO;
 use libc::STDOUT_FILENO;
+use records::block::run_block;
+use records::lines::stop_line;
+use records::records::Stop;
+use records::records::reads_on;
 use report::report::show;
-use runs::block::run_block;
-use runs::lines::stop_line;
-use runs::records::Stop;
-use runs::records::reads_on;
 use table::empty::empty;
 ghost use Prim.Native.Nat.{_+_, _≤_, _<_, _^_};
 ghost use mathlib.Core.Path.{_≡_};
@@ -19,9 +19,9 @@ ghost use Rattle.table.specs.Layout.{words};
 ghost use Rattle.table.specs.Empty.{emptyTable};
 ghost use Rattle.report.specs.Lines.{report};
 ghost use Rattle.runs.specs.Run.{run};
-ghost use Rattle.runs.specs.Reading.{reading};
-ghost use Rattle.runs.specs.Blocks.{left};
-ghost use Rattle.runs.specs.Lines.{stopLine};
+ghost use Rattle.records.specs.Reading.{reading};
+ghost use Rattle.records.specs.Blocks.{left};
+ghost use Rattle.records.specs.Lines.{stopLine};
 ghost use Rattle.job.specs.Job.{goesOn, afterBlock, Turn, Read, Ended};
 
 // How far the reading has come.

@@ -1,8 +1,2 @@
 pub mod Run
-pub mod Reading
-pub mod Lines
-pub mod Blocks
-pub mod Decoding
-pub mod Running
-pub mod Moving
 pub mod Theorem

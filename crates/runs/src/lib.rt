@@ -1,5 +1,1 @@
-// Runs of edits: the theorem about a whole run stands in specs/. Job records: decoded, and run over a table.
-pub mod block;
-pub mod lines;
-pub mod records;
-pub mod run;
+// Runs of edits: the theorem about a whole run stands in specs/. No code: crate `records` runs the records of a job.

@@ -12,19 +12,19 @@ use borrow.Author.Tests.{not-true, not-false}
 use Rattle.orbits.specs.laws.Truth.{clash}
 use Rattle.table.specs.Good.{Good}
 use Rattle.text.specs.laws.Paste.{front-text}
-use Rattle.runs.specs.declared.block.Block.{Block}
-use Rattle.runs.specs.declared.records.Stop.{Stop}
-use Rattle.runs.specs.declared.records.Stop.the-variants.{End}
+use Rattle.records.specs.declared.block.Block.{Block}
+use Rattle.records.specs.declared.records.Stop.{Stop}
+use Rattle.records.specs.declared.records.Stop.the-variants.{End}
 use Rattle.runs.specs.Run.{run}
-use Rattle.runs.specs.Reading.{reading, readUpTo, ended, readsOn}
-use Rattle.runs.specs.laws.Reading.{joined, reading-bounds}
-use Rattle.runs.specs.Lines.{lines}
-use Rattle.runs.specs.laws.Lines.{lines-few}
-use Rattle.runs.specs.Blocks.{left}
+use Rattle.records.specs.Reading.{reading, readUpTo, ended, readsOn}
+use Rattle.records.specs.laws.Reading.{joined, reading-bounds}
+use Rattle.records.specs.Lines.{lines}
+use Rattle.records.specs.laws.Lines.{lines-few}
+use Rattle.records.specs.Blocks.{left}
 use Rattle.report.specs.Lines.{report}
-use Rattle.runs.specs.laws.Blocks.{left-some, reading-left, left-again, left-few, lines-blocks, run-blocks, printed-bad, run-bad}
-use Rattle.runs.specs.laws.Running.{Ready}
-use Rattle.runs.specs.laws.Moving.{blockOf, block-fits}
+use Rattle.records.specs.laws.Blocks.{left-some, reading-left, left-again, left-few, lines-blocks, run-blocks, printed-bad, run-bad}
+use Rattle.records.specs.laws.Running.{Ready}
+use Rattle.records.specs.laws.Moving.{blockOf, block-fits}
 use Rattle.job.specs.declared.Progress.{Progress}
 use Rattle.job.specs.Job.{output, goesOn, afterBlock, Turn, came, failed, Read}
 

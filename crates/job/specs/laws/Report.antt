@@ -17,14 +17,14 @@ use Rattle.report.specs.declared.report.Window.{Window}
 use Rattle.report.specs.Lines.{report}
 use Rattle.report.specs.Window.{windowText, windowOf}
 use Rattle.report.specs.laws.Window.{window-size}
-use Rattle.runs.specs.declared.records.Stop.{Stop}
+use Rattle.records.specs.declared.records.Stop.{Stop}
 use Rattle.runs.specs.Run.{run}
 use Rattle.runs.specs.laws.Theorem.{run-good}
-use Rattle.runs.specs.Reading.{reading}
-use Rattle.runs.specs.laws.Reading.{reading-bounds}
-use Rattle.runs.specs.Lines.{lines, stopLine}
-use Rattle.runs.specs.laws.Lines.{lines-few, stop-few}
-use Rattle.runs.specs.Blocks.{printed}
+use Rattle.records.specs.Reading.{reading}
+use Rattle.records.specs.laws.Reading.{reading-bounds}
+use Rattle.records.specs.Lines.{lines, stopLine}
+use Rattle.records.specs.laws.Lines.{lines-few, stop-few}
+use Rattle.records.specs.Blocks.{printed}
 use Rattle.job.specs.declared.Progress.{Progress}
 use Rattle.job.specs.Job.{Read, Ended}
 use Rattle.text.specs.Paste.{Pasted}

@@ -1,0 +1,65 @@
+-- Job records, document 01, "The job program": the first record of some bytes.
+use Prim.Native.Nat.{ℕ, _+_, _-_, _*_}
+use mathlib.Core.Bool.{cond}
+use mathlib.Core.List.{List}
+use lib.IntN.{ℤ, pos, negsuc}
+use lib.Dec.{ltb, eqb}
+use lib.ListN.{length, getD}
+use Rattle.edits.specs.declared.edit.Edit.{Edit}
+use Rattle.edits.specs.declared.edit.Edit.the-variants.{AddVertex, RemoveVertex, InsertEdge, DeleteEdge, TurnEdge}
+use Rattle.records.specs.declared.records.Mark.{Mark}
+use Rattle.records.specs.declared.records.Mark.the-variants.{AV, RV, IE, DE, TW}
+use Rattle.records.specs.declared.records.Marked.{Marked}
+use Rattle.records.specs.declared.records.Marked.the-variants.{Known, Unknown}
+use Rattle.records.specs.declared.records.Found.{Found}
+use Rattle.records.specs.declared.records.Found.the-variants.{Record, Stopped}
+use Rattle.records.specs.declared.records.Stop.the-variants.{End, BadMark, CutRecord}
+
+-- "16-bit words, high byte first": the one at byte i
+abbrev pub word : List ℕ → ℕ → ℕ
+word s i = getD s i 0 * 256 + getD s (i + 1) 0
+
+-- "k and amount in two's complement"
+abbrev pub signedWord : ℕ → ℤ
+signedWord w = cond (ltb w 32768) (pos w) (negsuc (65535 - w))
+
+-- "a two-byte mark": the letters' codes
+abbrev pub markOf : ℕ → Marked
+markOf w =
+    cond (eqb w (65 * 256 + 86)) (Known AV)
+    (cond (eqb w (82 * 256 + 86)) (Known RV)
+    (cond (eqb w (73 * 256 + 69)) (Known IE)
+    (cond (eqb w (68 * 256 + 69)) (Known DE)
+    (cond (eqb w (84 * 256 + 87)) (Known TW)
+    Unknown))))
+
+-- "AV v; RV v; IE e c1 c2 k; DE e; TW e amount": the bytes of a record, its mark included
+abbrev pub sizeOf : Mark → ℕ
+sizeOf AV = 4
+sizeOf RV = 4
+sizeOf IE = 10
+sizeOf DE = 4
+sizeOf TW = 6
+
+abbrev pub editOf : Mark → List ℕ → Edit
+editOf AV s = AddVertex (word s 2)
+editOf RV s = RemoveVertex (word s 2)
+editOf IE s = InsertEdge (word s 2) (word s 4) (word s 6) (signedWord (word s 8))
+editOf DE s = DeleteEdge (word s 2)
+editOf TW s = TurnEdge (word s 2) (signedWord (word s 4))
+
+-- "cut record: fewer bytes than the record needs"
+unfoldable pub knownRecord : Mark → List ℕ → Found
+knownRecord m s = cond (ltb (length s) (sizeOf m)) (Stopped CutRecord) (Record (editOf m s) (sizeOf m))
+
+-- "bad mark: job record with an unknown mark"
+abbrev pub markedRecord : Marked → List ℕ → Found
+markedRecord (Known m) s = knownRecord m s
+markedRecord Unknown s = Stopped BadMark
+
+-- the first record; "one lone byte included" among the cut ones
+unfoldable pub firstRecord : List ℕ → Found
+firstRecord s =
+    cond (eqb (length s) 0) (Stopped End)
+    (cond (eqb (length s) 1) (Stopped CutRecord)
+    (markedRecord (markOf (word s 0)) s))

@@ -103,7 +103,7 @@ pub extern "C" fn planner_parts(words: &[u16], out: &mut [i32]) -> i64
 pub extern "C" fn planner_alternates(words: &[u16], dart: u16, kind: u16) -> i64
     ensures { λ r. ⌜ r ≡ codeOf (alternatesOf (now (words .entry)) dart kind) ⌝ }
 {
-    code(weave::call::alternates(words, dart, kind))
+    code(alternation::call::alternates(words, dart, kind))
 }
 
 // Is the weave plain.
@@ -111,7 +111,7 @@ pub extern "C" fn planner_alternates(words: &[u16], dart: u16, kind: u16) -> i64
 pub extern "C" fn planner_plain(words: &[u16]) -> i64
     ensures { λ r. ⌜ r ≡ codeOf (plainOf (now (words .entry))) ⌝ }
 {
-    code(weave::call::plain(words))
+    code(alternation::call::plain(words))
 }
 
 // Writes the letters of the ribbon through the step of dart and type, in the order of travel from it.
@@ -119,7 +119,7 @@ pub extern "C" fn planner_plain(words: &[u16]) -> i64
 pub extern "C" fn planner_letters(words: &[u16], dart: u16, kind: u16, out: &mut [u8]) -> i64
     ensures { λ r. ⌜ (r ≡ codeOf (lettersOf (now (words .entry)) dart kind (length (now (out .entry))))) × (now (out .exit) ≡ lettersOut (now (words .entry)) dart kind (now (out .entry))) ⌝ }
 {
-    code(weave::call::letters(words, dart, kind, out))
+    code(letters::call::letters(words, dart, kind, out))
 }
 
 // The cut length of the ribbon through the step of dart and type, in sixteenths of a millimetre.

@@ -1,11 +1,11 @@
 // Where a reader stands, and the refusals of its making and of its steps that come of the table and the place.
+use letters::call::named_step;
 use table::answer::Answer;
 use table::answer::Refusal;
 use table::layout::DARTS;
 use table::layout::EDGE;
 use table::whole::is_good;
-use weave::call::Named;
-use weave::call::named_step;
+use weave::named::Named;
 ghost use mathlib.Core.Path.{_≡_};
 ghost use Rattle.reader.specs.Reader.{beginOf, placed as placedAt};
 

@@ -1,11 +1,11 @@
 // A tally, brought forward by one step: its letters are counted without a loop, and no field may pass 32 bits.
+use letters::letter::UNTURNED;
+use letters::letter::crossings;
+use letters::letter::edge_word;
 use ribbons::length::LONGEST;
 use ribbons::length::SHORTEST;
 use table::answer::Refusal;
 use table::layout::EDGES;
-use weave::letter::UNTURNED;
-use weave::letter::crossings;
-use weave::letter::edge_word;
 ghost use Prim.Native.Nat.{_<_};
 ghost use mathlib.Core.Path.{_≡_};
 ghost use Rattle.tracing.specs.Met.{times};

@@ -7,7 +7,7 @@ use crate::tally::tally_step;
 use table::answer::Answer;
 use table::answer::Refusal;
 use walks::step::step;
-use weave::call::Named;
+use weave::named::Named;
 ghost use mathlib.Core.Path.{_≡_};
 ghost use Prim.Native.Nat.{_<_};
 ghost use Rattle.table.specs.Layout.{darts};

@@ -1,10 +1,10 @@
 // The fields of a line, and the lines of the mesh and of the weave.
+use alternation::plain::is_plain;
 use measure::mesh::measure_mesh;
 use text::number::integer;
 use text::number::number;
 use text::window::byte;
 use text::window::bytes;
-use weave::plain::is_plain;
 ghost use Prim.Native.Nat.{_<_, _^_};
 ghost use mathlib.Core.List.{_∷_};
 ghost use Rattle.table.specs.Good.{Good};

@@ -1,11 +1,11 @@
 // The steps of a walk, each as dart/type:letters.
 use crate::line::field;
+use letters::letter::crossings;
+use letters::letter::edge_word;
+use letters::letter::letter;
 use text::number::number;
 use text::window::byte;
 use walks::step::step;
-use weave::letter::crossings;
-use weave::letter::edge_word;
-use weave::letter::letter;
 ghost use Prim.Native.Nat.{_<_, _^_};
 ghost use Rattle.table.specs.Rotation.{rotation};
 ghost use Rattle.tracing.specs.Walk.{walk};

@@ -10,8 +10,8 @@ use Rattle.table.specs.declared.answer.Answer.{Answer}
 use Rattle.table.specs.declared.answer.Answer.the-variants.{Done, Declined}
 use Rattle.table.specs.declared.answer.Refusal.the-variants.{ShortSlice, Far}
 use Rattle.tracing.specs.Walk.{walk}
-use Rattle.weave.specs.declared.call.Named.{Named}
-use Rattle.weave.specs.declared.call.Named.the-variants.{There, Refused}
+use Rattle.weave.specs.declared.named.Named.{Named}
+use Rattle.weave.specs.declared.named.Named.the-variants.{There, Refused}
 use Rattle.weave.specs.Calls.{namedStep}
 use Rattle.weave.specs.Ribbon.{some}
 use Rattle.table.specs.Answers.{unless}

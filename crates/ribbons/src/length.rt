@@ -1,10 +1,10 @@
 // The cut length of a ribbon: the sum of the lengths of the edges that its steps are on.
+use letters::call::named_step;
 use table::answer::Answer;
 use table::answer::Refusal;
 use table::layout::EDGES;
 use walks::step::step;
-use weave::call::Named;
-use weave::call::named_step;
+use weave::named::Named;
 ghost use Prim.Native.Nat.{_≤_};
 ghost use mathlib.Core.Path.{_≡_};
 ghost use lib.ListN.{length};

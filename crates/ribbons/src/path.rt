@@ -1,10 +1,10 @@
 // The call for the float path: it measures and tests everything before it writes.
 use crate::survey::survey_from;
 use crate::writing::write_path;
+use letters::call::named_step;
 use table::answer::Answer;
 use table::answer::Refusal;
-use weave::call::Named;
-use weave::call::named_step;
+use weave::named::Named;
 ghost use mathlib.Core.Path.{_≡_};
 ghost use lib.ListN.{length};
 ghost use Rattle.walks.specs.laws.Stands.{Stands};

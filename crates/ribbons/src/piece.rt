@@ -1,11 +1,11 @@
 // The pieces of a float path: how a strand passes at a step, and where.
 use crate::exact::over_32;
 use crate::place::places_of;
-use weave::letter::OVER;
-use weave::letter::UNDER;
-use weave::letter::UNTURNED;
-use weave::letter::edge_word;
-use weave::letter::letter;
+use letters::letter::OVER;
+use letters::letter::UNDER;
+use letters::letter::UNTURNED;
+use letters::letter::edge_word;
+use letters::letter::letter;
 ghost use mathlib.Core.Path.{_≡_};
 ghost use mathlib.Core.Bool.{false};
 ghost use Rattle.walks.specs.laws.Stands.{Stands};

@@ -1,8 +1,8 @@
 // What the walk of a ribbon shows before its path is written.
 use crate::range::is_far_step;
+use letters::letter::crossings;
+use letters::letter::edge_word;
 use walks::step::step;
-use weave::letter::crossings;
-use weave::letter::edge_word;
 ghost use Prim.Native.Nat.{_<_};
 ghost use mathlib.Core.Path.{_≡_};
 ghost use mathlib.Core.Bool.{_||_};

@@ -1,5 +1,5 @@
 pub mod Letters
 pub mod Calls
 pub mod Ribbon
-pub mod laws
 pub mod Theorems
+pub mod laws

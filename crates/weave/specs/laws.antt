@@ -1,8 +1,4 @@
-pub mod Crossing
-pub mod Passing
-pub mod Calls
 pub mod Strand
 pub mod Ribbon
-pub mod Hands
-pub mod Plain
 pub mod Sense
+pub mod Calls

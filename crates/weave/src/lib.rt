@@ -1,6 +1,3 @@
-// Over and under: the letters of ribbons, which ribbons alternate, and plain weaves.
-pub mod call;
-pub mod hands;
-pub mod letter;
-pub mod plain;
-pub mod ribbon;
+// Over and under: the letters of ribbons, which ribbons alternate, and plain weaves. No code but the step that a call names: crates `letters`
+// and `alternation` have it.
+pub mod named;

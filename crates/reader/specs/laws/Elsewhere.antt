@@ -17,8 +17,8 @@ use Rattle.tracing.specs.Listing.{has}
 use Rattle.tracing.specs.laws.Place.{trace, trace-step}
 use Rattle.tracing.specs.laws.Meets.{walk-has}
 use Rattle.walks.specs.laws.Stands.{stands-low}
-use Rattle.weave.specs.declared.call.Named.{Named}
-use Rattle.weave.specs.declared.call.Named.the-variants.{There, Refused}
+use Rattle.weave.specs.declared.named.Named.{Named}
+use Rattle.weave.specs.declared.named.Named.the-variants.{There, Refused}
 use Rattle.reader.specs.declared.place.Step.{Step}
 use Rattle.reader.specs.declared.tally.Tally.{Tally}
 use Rattle.reader.specs.declared.tally.Tallied.{Tallied}

@@ -9,7 +9,7 @@ use Rattle.table.specs.Layout.{edges}
 use Rattle.table.specs.declared.answer.Refusal.the-variants.{Overturned, ShortSlice, Far}
 use Rattle.tracing.specs.Met.{times}
 use Rattle.weave.specs.Letters.{over, crossings, lettersOn, stepLetters}
-use Rattle.weave.specs.laws.Crossing.{EdgeWord}
+use Rattle.letters.specs.laws.Crossing.{EdgeWord}
 use Rattle.ribbons.specs.CutLength.{lengthOf, longest}
 use Rattle.reader.specs.declared.tally.Tally.{Tally}
 use Rattle.reader.specs.declared.tally.Tallied.{Tallied}

@@ -26,11 +26,11 @@ use Rattle.tracing.specs.laws.Walk.{iterates, run-suc, run-length, walk-run, wa
 use Rattle.tracing.specs.Listing.{gather, bit}
 use Rattle.tracing.specs.laws.Meets.{run-has}
 use Rattle.walks.specs.laws.Stands.{Stands, stands-low, stands-step}
-use Rattle.weave.specs.declared.call.Named.{Named}
-use Rattle.weave.specs.declared.call.Named.the-variants.{There, Refused}
+use Rattle.weave.specs.declared.named.Named.{Named}
+use Rattle.weave.specs.declared.named.Named.the-variants.{There, Refused}
 use Rattle.weave.specs.Letters.{over, under, wordOf, stepLetters, letters}
-use Rattle.weave.specs.laws.Crossing.{edge-read, crossings-few}
-use Rattle.weave.specs.laws.Passing.{lettersBefore, before-suc}
+use Rattle.letters.specs.laws.Crossing.{edge-read, crossings-few}
+use Rattle.letters.specs.laws.Passing.{lettersBefore, before-suc}
 use Rattle.weave.specs.Ribbon.{some}
 use Rattle.weave.specs.laws.Ribbon.{passes-some}
 use Rattle.weave.specs.Calls.{namedStep}

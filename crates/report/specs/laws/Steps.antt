@@ -16,7 +16,7 @@ use Rattle.tracing.specs.laws.Listing.{gather-one, gather-append}
 use Rattle.walks.specs.laws.Stands.{Stands}
 use Rattle.walks.specs.laws.Along.{Walking, walking-none, walking-more, walking-all, walking-few}
 use Rattle.weave.specs.Letters.{crossings, lettersOn, stepLetters, letterAt}
-use Rattle.weave.specs.laws.Crossing.{EdgeWord, crossings-few, letters-length, letters-at}
+use Rattle.letters.specs.laws.Crossing.{EdgeWord, crossings-few, letters-length, letters-at}
 use Rattle.text.specs.Paste.{put, Pasted}
 use Rattle.text.specs.laws.Paste.{paste-one}
 use Rattle.text.specs.Decimal.{decimal}

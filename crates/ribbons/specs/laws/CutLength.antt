@@ -11,8 +11,8 @@ use Rattle.table.specs.declared.answer.Answer.the-variants.{Declined}
 use Rattle.table.specs.declared.answer.Refusal.{Refusal}
 use Rattle.table.specs.declared.answer.Refusal.the-variants.{ShortSlice}
 use Rattle.tracing.specs.Walk.{walk}
-use Rattle.weave.specs.declared.call.Named.{Named}
-use Rattle.weave.specs.declared.call.Named.the-variants.{There, Refused}
+use Rattle.weave.specs.declared.named.Named.{Named}
+use Rattle.weave.specs.declared.named.Named.the-variants.{There, Refused}
 use Rattle.weave.specs.Calls.{namedStep}
 use Rattle.ribbons.specs.CutLength.{lengthAlong, cutLengthBy, cutLengthOf}
 

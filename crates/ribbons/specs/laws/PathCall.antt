@@ -21,8 +21,8 @@ use Rattle.tracing.specs.Step.{step, steps}
 use Rattle.tracing.specs.Walk.{walk}
 use Rattle.tracing.specs.laws.Walk.{run-length, walk-run, walk-period, walk-period-le}
 use Rattle.walks.specs.laws.Stands.{Stands, stands-low}
-use Rattle.weave.specs.declared.call.Named.{Named}
-use Rattle.weave.specs.declared.call.Named.the-variants.{There, Refused}
+use Rattle.weave.specs.declared.named.Named.{Named}
+use Rattle.weave.specs.declared.named.Named.the-variants.{There, Refused}
 use Rattle.weave.specs.Calls.{namedStep}
 use Rattle.weave.specs.laws.Calls.{there-steps}
 use Rattle.weave.specs.Ribbon.{some}

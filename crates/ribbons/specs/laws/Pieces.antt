@@ -10,7 +10,7 @@ use lib.Ieee.{binary32, ofBits}
 use borrow.Author.Tests.{ltb-false, eq-eqb, ne-eqb}
 use Rattle.orbits.specs.laws.Truth.{clash}
 use Rattle.weave.specs.Letters.{over, under, unturned, positive, crossings, letter, crossed, lettersOn, stepLetters, letterAt}
-use Rattle.weave.specs.laws.Crossing.{EdgeWord}
+use Rattle.letters.specs.laws.Crossing.{EdgeWord}
 use Rattle.ribbons.specs.declared.piece.Point.{Point}
 use Rattle.ribbons.specs.declared.piece.Piece.{Piece}
 use Rattle.ribbons.specs.declared.piece.Piece.the-variants.{Over, Under, Flat, Close}

@@ -14,7 +14,7 @@ use Rattle.tracing.specs.Walk.{walk}
 use Rattle.tracing.specs.laws.Walk.{iterates, run-suc, run-length}
 use Rattle.walks.specs.laws.Along.{Walking, walking-none, walking-more, walking-all, walking-few}
 use Rattle.weave.specs.Letters.{crossings}
-use Rattle.weave.specs.laws.Crossing.{EdgeWord}
+use Rattle.letters.specs.laws.Crossing.{EdgeWord}
 use Rattle.weave.specs.Ribbon.{some}
 use Rattle.weave.specs.laws.Ribbon.{some-append}
 use Rattle.ribbons.specs.declared.survey.Survey.{Survey}

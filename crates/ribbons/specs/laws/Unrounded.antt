@@ -12,8 +12,8 @@ use Rattle.table.specs.laws.Output.{done-declined}
 use Rattle.table.specs.declared.answer.Answer.the-variants.{Done}
 use Rattle.tracing.specs.Walk.{walk}
 use Rattle.tracing.specs.Listing.{has}
-use Rattle.weave.specs.declared.call.Named.{Named}
-use Rattle.weave.specs.declared.call.Named.the-variants.{There, Refused}
+use Rattle.weave.specs.declared.named.Named.{Named}
+use Rattle.weave.specs.declared.named.Named.the-variants.{There, Refused}
 use Rattle.weave.specs.Letters.{over, under}
 use Rattle.weave.specs.Calls.{namedStep}
 use Rattle.weave.specs.laws.Calls.{there-steps}

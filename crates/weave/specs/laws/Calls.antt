@@ -22,10 +22,9 @@ use Rattle.table.specs.declared.answer.Refusal.{Refusal}
 use Rattle.table.specs.declared.answer.Refusal.the-variants.{Torn, NoSuchName, Absent, ShortSlice}
 use Rattle.tracing.specs.Listing.{bit}
 use Rattle.walks.specs.laws.Stands.{Stands}
-use Rattle.weave.specs.declared.call.Named.{Named}
-use Rattle.weave.specs.declared.call.Named.the-variants.{There, Refused}
+use Rattle.weave.specs.declared.named.Named.{Named}
+use Rattle.weave.specs.declared.named.Named.the-variants.{There, Refused}
 use Rattle.weave.specs.Letters.{letters, alternates, plain}
-use Rattle.weave.specs.laws.Passing.{LetterCount}
 use Rattle.weave.specs.Calls.{namedStep, alternatesBy, alternatesOf, plainOf, lettersOf, lettersOut}
 
 -- the ends of the naming
@@ -89,16 +88,14 @@ module _ (t : List ℕ) (d k : ℕ) {n : Named} (e : n ≡ namedStep t d k) wher
   pub letters-refused : {r : Refusal} (out : List ℕ) → n ≡ Refused r → (Declined r ≡ lettersOf t d k (length out)) × (out ≡ lettersOut t d k out)
   letters-refused out f = rw (← e, f) (refl, refl)
 
-  pub letters-short : {s size : ℕ} (out : List ℕ) → n ≡ There s → LetterCount t s size → length out < size
+  pub letters-short : {s size : ℕ} (out : List ℕ) → n ≡ There s → size ≡ length (letters t s) → length out < size
       → (Declined ShortSlice ≡ lettersOf t d k (length out)) × (out ≡ lettersOut t d k out)
-  letters-short {s} out f c h =
-      let count = c .count in
+  letters-short {s} out f count h =
       rw (← e, f, lt-leb (length (letters t s)) (length out) (omega arith)) (refl, refl)
 
-  pub letters-done : {s size : ℕ} (out : List ℕ) {out′ : List ℕ} → n ≡ There s → LetterCount t s size → size ≤ length out → out′ ≡ sets out 0 (letters t s)
+  pub letters-done : {s size : ℕ} (out : List ℕ) {out′ : List ℕ} → n ≡ There s → size ≡ length (letters t s) → size ≤ length out → out′ ≡ sets out 0 (letters t s)
       → (Done size ≡ lettersOf t d k (length out)) × (out′ ≡ lettersOut t d k out)
-  letters-done {s} {size} out f c h w =
-      let count = c .count in
+  letters-done {s} {size} out f count h w =
       let word = there-steps t d k (sym f ∙ e) .word in
       let room : length (letters t s) ≤ length out = omega arith in
       rw (← e, f, le-leb (length (letters t s)) (length out) room, ← word)

@@ -2,8 +2,8 @@
 // A slice is a pointer and then its number of elements. `include/planner.h` declares the functions.
 use reader::standing::Standing;
 use reader::standing::step_call;
-use reader::tally::Tally;
 use table::answer::code;
+use tally::tally::Tally;
 ghost use mathlib.Core.Path.{_≡_};
 ghost use lib.ListN.{length};
 ghost use Rattle.table.specs.Answers.{codeOf};

@@ -1,4 +1,3 @@
-pub mod Forward
 pub mod Reader
 pub mod Held
 pub mod Walked

@@ -13,7 +13,7 @@ use Rattle.tracing.specs.Listing.{has}
 use Rattle.weave.specs.Ribbon.{some}
 use Rattle.ribbons.specs.CutLength.{farLength}
 use Rattle.reader.specs.declared.place.Step.{Step}
-use Rattle.reader.specs.declared.tally.Tally.{Tally}
+use Rattle.tally.specs.declared.tally.Tally.{Tally}
 use Rattle.reader.specs.Reader.{wordAt, beginOf, EachStep}
 use Rattle.reader.specs.Walked.{stepsFrom, Walked}
 use Rattle.reader.specs.laws.Reader as reader

@@ -1,5 +1,3 @@
-pub mod Counts
-pub mod Forward
 pub mod Reader
 pub mod Walked
 pub mod Elsewhere

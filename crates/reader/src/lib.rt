@@ -1,6 +1,5 @@
-// The walk reader, and the tally that its steps bring forward.
+// The walk reader, which brings its tally forward by each step that it hands out.
 pub mod place;
 pub mod reader;
 pub mod standing;
-pub mod tally;
 pub mod walk;

@@ -1,10 +1,10 @@
 // The walk reader as a struct over the lent table. Its functions are thin: each takes the struct apart and leaves the work to
 // `walk_step`, which takes the slice and the numbers.
 use crate::place::Step;
-use crate::tally::Tally;
 use crate::walk::Stepped;
 use crate::walk::walk_step;
 use table::answer::Answer;
+use tally::tally::Tally;
 ghost use mathlib.Core.Path.{_≡_};
 ghost use Rattle.reader.specs.Held.{readerAt, heldStep, heldAfter};
 ghost use Rattle.reader.specs.Reader.{stepOf};

@@ -1,11 +1,11 @@
 // One step of a walk reader, by value: its answer, where the reader then stands, and the tally.
 use crate::place::Step;
 use crate::place::placed;
-use crate::tally::Tallied;
-use crate::tally::Tally;
-use crate::tally::tally_step;
 use table::answer::Answer;
 use table::answer::Refusal;
+use tally::tally::Tallied;
+use tally::tally::Tally;
+use tally::tally::tally_step;
 use walks::step::step;
 use weave::named::Named;
 ghost use mathlib.Core.Path.{_≡_};

@@ -20,10 +20,10 @@ use Rattle.walks.specs.laws.Stands.{stands-low}
 use Rattle.weave.specs.declared.named.Named.{Named}
 use Rattle.weave.specs.declared.named.Named.the-variants.{There, Refused}
 use Rattle.reader.specs.declared.place.Step.{Step}
-use Rattle.reader.specs.declared.tally.Tally.{Tally}
-use Rattle.reader.specs.declared.tally.Tallied.{Tallied}
-use Rattle.reader.specs.declared.tally.Tallied.the-variants.{Brought, Kept}
-use Rattle.reader.specs.Forward.{tallyOf}
+use Rattle.tally.specs.declared.tally.Tally.{Tally}
+use Rattle.tally.specs.declared.tally.Tallied.{Tallied}
+use Rattle.tally.specs.declared.tally.Tallied.the-variants.{Brought, Kept}
+use Rattle.tally.specs.Forward.{tallyOf}
 use Rattle.reader.specs.Reader.{beginOf, wordAt, placed, steppedBy, stepBy, stepOf}
 use Rattle.reader.specs.Walked.{stepsFrom}
 use Rattle.reader.specs.laws.Reader.{there-placed, each-step}

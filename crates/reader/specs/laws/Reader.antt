@@ -23,11 +23,11 @@ use Rattle.weave.specs.declared.named.Named.{Named}
 use Rattle.weave.specs.declared.named.Named.the-variants.{There, Refused}
 use Rattle.weave.specs.Calls.{namedStep}
 use Rattle.reader.specs.declared.place.Step.{Step}
-use Rattle.reader.specs.declared.tally.Tally.{Tally}
-use Rattle.reader.specs.declared.tally.Tallied.{Tallied}
-use Rattle.reader.specs.declared.tally.Tallied.the-variants.{Brought, Kept}
+use Rattle.tally.specs.declared.tally.Tally.{Tally}
+use Rattle.tally.specs.declared.tally.Tallied.{Tallied}
+use Rattle.tally.specs.declared.tally.Tallied.the-variants.{Brought, Kept}
 use Rattle.reader.specs.declared.walk.Stepped.{Stepped}
-use Rattle.reader.specs.Forward.{tallyOf}
+use Rattle.tally.specs.Forward.{tallyOf}
 use Rattle.reader.specs.Reader.{beginBy, beginOf, wordAt, stepAt, isStep, placed, stays, goesOn, steppedBy, stepBy, stepOf, EachStep}
 
 -- "Every step declines as the making of the reader would"

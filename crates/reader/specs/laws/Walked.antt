@@ -37,11 +37,11 @@ use Rattle.weave.specs.Calls.{namedStep}
 use Rattle.ribbons.specs.CutLength.{lengthOf, farLength, cutLength, longest}
 use Rattle.ribbons.specs.laws.Summing.{cut-append}
 use Rattle.reader.specs.declared.place.Step.{Step}
-use Rattle.reader.specs.declared.tally.Tally.{Tally}
+use Rattle.tally.specs.declared.tally.Tally.{Tally}
 use Rattle.tracing.specs.Met.{times, countIn}
 use Rattle.tracing.specs.laws.Has.{countIn-append}
-use Rattle.reader.specs.laws.Counts.{unders-left}
-use Rattle.reader.specs.Forward.{past32, fits32, forwardOf, stepTally, tallyOf}
+use Rattle.tally.specs.laws.Counts.{unders-left}
+use Rattle.tally.specs.Forward.{past32, fits32, forwardOf, stepTally, tallyOf}
 use Rattle.reader.specs.Reader.{beginBy, beginOf, wordAt, stepAt, goesOn, stepBy, stepOf}
 use Rattle.reader.specs.laws.Reader.{in-range, placed-begun, placed-there, Placed, there-placed}
 use Rattle.reader.specs.Walked.{stepsFrom, afterSteps, handed, Walked}

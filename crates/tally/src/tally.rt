@@ -11,7 +11,7 @@ ghost use mathlib.Core.Path.{_≡_};
 ghost use Rattle.tracing.specs.Met.{times};
 ghost use Rattle.walks.specs.laws.Stands.{Stands};
 ghost use Rattle.weave.specs.Letters.{over, lettersOn};
-ghost use Rattle.reader.specs.Forward.{forwardOf, tallyOf};
+ghost use Rattle.tally.specs.Forward.{forwardOf, tallyOf};
 
 // "steps, overs, unders, length"
 #[repr(C)]

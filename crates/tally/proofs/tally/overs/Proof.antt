@@ -1,9 +1,9 @@
 -- `tally::overs` meets its contract: half of the crossings, and the odd one by the hand and the type.
-use Rattle.reader.specs.laws.Counts.{overs-positive, overs-negative, crossings-most}
+use Rattle.tally.specs.laws.Counts.{overs-positive, overs-negative, crossings-most}
 use native.Mathlib.Omega.{arith}
 use borrow.Author.Needs.{needs}
-use Rattle.reader.proofs.tally.overs.Statement.{statement}
-use Rattle.reader.proofs.tally.overs.Tie as tie
+use Rattle.tally.proofs.tally.overs.Statement.{statement}
+use Rattle.tally.proofs.tally.overs.Tie as tie
 
 crossings-requires : tie.Need-crossings-requires
 crossings-requires c κs = search needs

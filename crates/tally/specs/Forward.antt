@@ -9,9 +9,9 @@ use Rattle.table.specs.declared.answer.Refusal.the-variants.{Overturned, ShortS
 use Rattle.tracing.specs.Met.{times}
 use Rattle.weave.specs.Letters.{over, under, stepLetters}
 use Rattle.ribbons.specs.CutLength.{lengthOf, farLength}
-use Rattle.reader.specs.declared.tally.Tally.{Tally}
-use Rattle.reader.specs.declared.tally.Tallied.{Tallied}
-use Rattle.reader.specs.declared.tally.Tallied.the-variants.{Brought, Kept}
+use Rattle.tally.specs.declared.tally.Tally.{Tally}
+use Rattle.tally.specs.declared.tally.Tallied.{Tallied}
+use Rattle.tally.specs.declared.tally.Tallied.the-variants.{Brought, Kept}
 use Rattle.table.specs.Answers.{unless}
 
 -- "A tally record .. is brought forward by each step: steps, overs, unders, length."

@@ -1,11 +1,11 @@
 -- `tally::tally_step` meets its contract, a return for each refusal in its order: short slice, far, overturned.
-use Rattle.reader.specs.laws.Counts.{unders-left}
-use Rattle.reader.specs.laws.Forward.{tally-short, tally-low, tally-high, tally-forward}
+use Rattle.tally.specs.laws.Counts.{unders-left}
+use Rattle.tally.specs.laws.Forward.{tally-short, tally-low, tally-high, tally-forward}
 use Rattle.walks.specs.laws.Stands.{stands-low}
 use native.Mathlib.Omega.{arith}
 use borrow.Author.Needs.{needs}
-use Rattle.reader.proofs.tally.tally_step.Statement.{statement}
-use Rattle.reader.proofs.tally.tally_step.Tie as tie
+use Rattle.tally.proofs.tally.tally_step.Statement.{statement}
+use Rattle.tally.proofs.tally.tally_step.Tie as tie
 
 returns : tie.Need-returns
 returns c = tally-short _ _ _ _ (c .if1 .taken)

@@ -11,11 +11,11 @@ use Rattle.tracing.specs.Met.{times}
 use Rattle.weave.specs.Letters.{over, crossings, lettersOn, stepLetters}
 use Rattle.letters.specs.laws.Crossing.{EdgeWord}
 use Rattle.ribbons.specs.CutLength.{lengthOf, longest}
-use Rattle.reader.specs.declared.tally.Tally.{Tally}
-use Rattle.reader.specs.declared.tally.Tallied.{Tallied}
-use Rattle.reader.specs.declared.tally.Tallied.the-variants.{Brought, Kept}
-use Rattle.reader.specs.laws.Counts.{unders-left}
-use Rattle.reader.specs.Forward.{forward, past32, forwardOf, tallyOf}
+use Rattle.tally.specs.declared.tally.Tally.{Tally}
+use Rattle.tally.specs.declared.tally.Tallied.{Tallied}
+use Rattle.tally.specs.declared.tally.Tallied.the-variants.{Brought, Kept}
+use Rattle.tally.specs.laws.Counts.{unders-left}
+use Rattle.tally.specs.Forward.{forward, past32, forwardOf, tallyOf}
 
 -- the ends of the bringing forward
 

@@ -1,9 +1,9 @@
 -- `tally::forward` meets its contract: each field is tested before it is added to.
-use Rattle.reader.specs.laws.Forward.{past-steps, past-overs, past-unders, past-length, brought}
+use Rattle.tally.specs.laws.Forward.{past-steps, past-overs, past-unders, past-length, brought}
 use native.Mathlib.Omega.{arith}
 use borrow.Author.Needs.{needs}
-use Rattle.reader.proofs.tally.forward.Statement.{statement}
-use Rattle.reader.proofs.tally.forward.Tie as tie
+use Rattle.tally.proofs.tally.forward.Statement.{statement}
+use Rattle.tally.proofs.tally.forward.Tie as tie
 
 returns : tie.Need-returns
 returns c = past-steps _ _ _ _ (c .if1 .taken)

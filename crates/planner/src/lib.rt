@@ -13,9 +13,9 @@ ghost use Rattle.tracing.specs.Call.{listAnswer, listOut};
 ghost use Rattle.edits.specs.Edits.{answer, edited};
 ghost use Rattle.surface.specs.Calls.{countsAnswer, countsOut, partsAnswer, partsOut};
 ghost use Rattle.weave.specs.Calls.{alternatesOf, plainOf, lettersOf, lettersOut};
-ghost use Rattle.ribbons.specs.CutLength.{cutLengthOf};
+ghost use Rattle.lengths.specs.CutLength.{cutLengthOf};
 ghost use Rattle.reader.specs.Standing.{calledOf};
-ghost use Rattle.ribbons.specs.PathCall.{pathAnswer, kindsOut, coordsOut};
+ghost use Rattle.paths.specs.PathCall.{pathAnswer, kindsOut, coordsOut};
 ghost use Rattle.edits.specs.declared.edit.Edit.the-variants.{AddVertex, RemoveVertex, InsertEdge, DeleteEdge, TurnEdge};
 
 // Fills the slice with the empty mesh.
@@ -127,7 +127,7 @@ pub extern "C" fn planner_letters(words: &[u16], dart: u16, kind: u16, out: &mut
 pub extern "C" fn planner_cut_length(words: &[u16], dart: u16, kind: u16, lengths: &[u32]) -> i64
     ensures { λ r. ⌜ r ≡ codeOf (cutLengthOf (now (words .entry)) dart kind (now (lengths .entry))) ⌝ }
 {
-    code(ribbons::length::cut_length(words, dart, kind, lengths))
+    code(lengths::length::cut_length(words, dart, kind, lengths))
 }
 
 // Writes the float path of the ribbon through the step of dart and type: a word and three floats for each piece. Answers the number of pieces.
@@ -145,7 +145,7 @@ pub extern "C" fn planner_float_path(
         × (now (kinds .exit) ≡ kindsOut (now (words .entry)) dart kind (now (points .entry)) (now (lifts .entry)) (now (kinds .entry)) (now (coords .entry)))
         × (now (coords .exit) ≡ coordsOut (now (words .entry)) dart kind (now (points .entry)) (now (lifts .entry)) (now (kinds .entry)) (now (coords .entry))) ⌝ }
 {
-    code(ribbons::path::float_path(words, dart, kind, points, lifts, kinds, coords))
+    code(paths::path::float_path(words, dart, kind, points, lifts, kinds, coords))
 }
 
 // One step of the walk reader: dart and type of the step it stands at, then those of its walk's start. Answers 1 where the walk ends at that step, else 0.

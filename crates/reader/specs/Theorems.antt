@@ -11,7 +11,7 @@ use Rattle.table.specs.declared.answer.Answer.the-variants.{Done}
 use Rattle.tracing.specs.Walk.{walk}
 use Rattle.tracing.specs.Listing.{has}
 use Rattle.weave.specs.Ribbon.{some}
-use Rattle.ribbons.specs.CutLength.{farLength}
+use Rattle.lengths.specs.CutLength.{farLength}
 use Rattle.reader.specs.declared.place.Step.{Step}
 use Rattle.tally.specs.declared.tally.Tally.{Tally}
 use Rattle.reader.specs.Reader.{wordAt, beginOf, EachStep}

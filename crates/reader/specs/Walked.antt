@@ -10,7 +10,7 @@ use Rattle.table.specs.declared.answer.Answer.the-variants.{Done}
 use Rattle.tracing.specs.Walk.{walk}
 use Rattle.tracing.specs.Listing.{bit}
 use Rattle.weave.specs.Letters.{over, under, letters}
-use Rattle.ribbons.specs.CutLength.{cutLength}
+use Rattle.lengths.specs.CutLength.{cutLength}
 use Rattle.reader.specs.declared.place.Step.{Step}
 use Rattle.tally.specs.declared.tally.Tally.{Tally}
 use Rattle.reader.specs.declared.walk.Stepped.{Stepped}

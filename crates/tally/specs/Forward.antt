@@ -8,7 +8,7 @@ use Rattle.table.specs.Layout.{edges}
 use Rattle.table.specs.declared.answer.Refusal.the-variants.{Overturned, ShortSlice, Far}
 use Rattle.tracing.specs.Met.{times}
 use Rattle.weave.specs.Letters.{over, under, stepLetters}
-use Rattle.ribbons.specs.CutLength.{lengthOf, farLength}
+use Rattle.lengths.specs.CutLength.{lengthOf, farLength}
 use Rattle.tally.specs.declared.tally.Tally.{Tally}
 use Rattle.tally.specs.declared.tally.Tallied.{Tallied}
 use Rattle.tally.specs.declared.tally.Tallied.the-variants.{Brought, Kept}

@@ -1,9 +1,9 @@
 // A tally, brought forward by one step: its letters are counted without a loop, and no field may pass 32 bits.
+use lengths::length::LONGEST;
+use lengths::length::SHORTEST;
 use letters::letter::UNTURNED;
 use letters::letter::crossings;
 use letters::letter::edge_word;
-use ribbons::length::LONGEST;
-use ribbons::length::SHORTEST;
 use table::answer::Refusal;
 use table::layout::EDGES;
 ghost use Prim.Native.Nat.{_<_};

@@ -34,8 +34,8 @@ use Rattle.letters.specs.laws.Passing.{lettersBefore, before-suc}
 use Rattle.weave.specs.Ribbon.{some}
 use Rattle.weave.specs.laws.Ribbon.{passes-some}
 use Rattle.weave.specs.Calls.{namedStep}
-use Rattle.ribbons.specs.CutLength.{lengthOf, farLength, cutLength, longest}
-use Rattle.ribbons.specs.laws.Summing.{cut-append}
+use Rattle.lengths.specs.CutLength.{lengthOf, farLength, cutLength, longest}
+use Rattle.lengths.specs.laws.Summing.{cut-append}
 use Rattle.reader.specs.declared.place.Step.{Step}
 use Rattle.tally.specs.declared.tally.Tally.{Tally}
 use Rattle.tracing.specs.Met.{times, countIn}

@@ -10,7 +10,7 @@ use Rattle.table.specs.declared.answer.Refusal.the-variants.{Overturned, ShortS
 use Rattle.tracing.specs.Met.{times}
 use Rattle.weave.specs.Letters.{over, crossings, lettersOn, stepLetters}
 use Rattle.letters.specs.laws.Crossing.{EdgeWord}
-use Rattle.ribbons.specs.CutLength.{lengthOf, longest}
+use Rattle.lengths.specs.CutLength.{lengthOf, longest}
 use Rattle.tally.specs.declared.tally.Tally.{Tally}
 use Rattle.tally.specs.declared.tally.Tallied.{Tallied}
 use Rattle.tally.specs.declared.tally.Tallied.the-variants.{Brought, Kept}

@@ -1,0 +1,2 @@
+pub mod CutLength
+pub mod Summing

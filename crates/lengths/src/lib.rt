@@ -1,0 +1,2 @@
+// The cut length of a ribbon.
+pub mod length;

@@ -1,0 +1,4 @@
+pub mod PathCall
+pub mod Unrounded
+pub mod Theorems
+pub mod laws

@@ -1,0 +1,5 @@
+pub mod Range
+pub mod Survey
+pub mod Laying
+pub mod PathCall
+pub mod Unrounded

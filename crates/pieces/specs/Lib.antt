@@ -1,0 +1,4 @@
+pub mod Exact
+pub mod Path
+pub mod laws
+pub mod Theorems

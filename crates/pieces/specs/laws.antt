@@ -1,0 +1,4 @@
+pub mod Exact
+pub mod Places
+pub mod Coordinate
+pub mod Pieces

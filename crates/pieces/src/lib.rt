@@ -1,0 +1,4 @@
+// The piece of a float path that one step gives, its places and its kind.
+pub mod exact;
+pub mod piece;
+pub mod place;

@@ -1,10 +1,10 @@
 // The calls on alternation: each names its refusal in document 01's order.
 use crate::hands::is_alternating;
 use crate::plain::is_plain;
+use checker::whole::is_good;
 use letters::call::named_step;
 use table::answer::Answer;
 use table::answer::Refusal;
-use table::whole::is_good;
 use weave::named::Named;
 ghost use mathlib.Core.Path.{_≡_};
 ghost use Rattle.weave.specs.Calls.{alternatesOf, plainOf};

@@ -2,11 +2,11 @@
 // before it writes.
 use crate::ribbon::letter_count;
 use crate::ribbon::write_letters;
+use checker::whole::is_good;
 use table::answer::Answer;
 use table::answer::Refusal;
 use table::layout::DARTS;
 use table::layout::EDGE;
-use table::whole::is_good;
 use weave::named::Named;
 ghost use mathlib.Core.Path.{_≡_};
 ghost use lib.ListN.{length};

@@ -1,8 +1,8 @@
 // The call for the listing: it checks the table and measures before it writes.
 use crate::listing::write_listing;
+use checker::whole::is_good;
 use table::answer::Answer;
 use table::answer::Refusal;
-use table::whole::is_good;
 use walks::count::measure;
 ghost use mathlib.Core.Path.{_≡_};
 ghost use lib.ListN.{length};

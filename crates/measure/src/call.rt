@@ -2,11 +2,11 @@
 use crate::mesh::measure_mesh;
 use crate::mesh::roots;
 use crate::rows::labelled_rows;
+use checker::whole::is_good;
 use labels::forest::label_parts;
 use table::answer::Answer;
 use table::answer::Refusal;
 use table::layout::VERTICES;
-use table::whole::is_good;
 ghost use Prim.Native.Nat.{_≤_};
 ghost use mathlib.Core.Path.{_≡_};
 ghost use lib.ListN.{length};

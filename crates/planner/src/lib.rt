@@ -31,7 +31,7 @@ pub extern "C" fn planner_empty(words: &mut [u16]) -> i64
 pub extern "C" fn planner_check(words: &[u16]) -> i64
     ensures { λ r. ⌜ r ≡ codeOf (checkOf (now (words .entry))) ⌝ }
 {
-    code(table::whole::check(words))
+    code(checker::whole::check(words))
 }
 
 // Writes the listing of the table's walks, and answers its number of words.

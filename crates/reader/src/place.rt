@@ -1,10 +1,10 @@
 // Where a reader stands, and the refusals of its making and of its steps that come of the table and the place.
+use checker::whole::is_good;
 use letters::call::named_step;
 use table::answer::Answer;
 use table::answer::Refusal;
 use table::layout::DARTS;
 use table::layout::EDGE;
-use table::whole::is_good;
 use weave::named::Named;
 ghost use mathlib.Core.Path.{_≡_};
 ghost use Rattle.reader.specs.Reader.{beginOf, placed as placedAt};

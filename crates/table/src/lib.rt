@@ -1,7 +1,5 @@
-// The words of a table: its layout, what a good table is and the check that answers it, the empty mesh, and the refusals.
+// The words of a table: its layout, what a good table is, the empty mesh, and the refusals. Crate `checker` has the check.
 pub mod answer;
-pub mod dart;
+pub mod counted;
 pub mod empty;
 pub mod layout;
-pub mod vertex;
-pub mod whole;

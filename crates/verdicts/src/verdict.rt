@@ -1,5 +1,6 @@
 // The verdict on each edit, over the lent table: the first refusal that holds, in document 01's order.
 use crate::turns::turned_word;
+use checker::whole::is_good;
 use edits::edit::Verdict;
 use table::answer::Refusal;
 use table::layout::EDGE;
@@ -8,7 +9,6 @@ use table::layout::ISOLATED;
 use table::layout::NOTHING;
 use table::layout::VERTEX;
 use table::layout::VERTICES;
-use table::whole::is_good;
 use walks::corner::is_corner;
 use walks::corner::is_present;
 ghost use mathlib.Core.Path.{_≡_};

@@ -2,8 +2,8 @@
 use Prim.Native.Nat.{ℕ}
 use native.Mathlib.Omega.{arith}
 use mathlib.Core.Path.{_≡_}
-use Rattle.table.specs.declared.dart.Counted.{Counted}
-use Rattle.table.specs.declared.dart.Counted.the-variants.{Broken, Of}
+use Rattle.table.specs.declared.counted.Counted.{Counted}
+use Rattle.table.specs.declared.counted.Counted.the-variants.{Broken, Of}
 
 pub data Counts (Rule : Type 0) (n : ℕ) (r : Counted) : Type 0 where
   counts : r ≡ Of n → Rule → Counts Rule n r

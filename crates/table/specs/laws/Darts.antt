@@ -14,8 +14,8 @@ use Rattle.table.specs.Good.{Good, Bare}
 use Rattle.table.specs.Rotation.{live?}
 use Rattle.table.specs.laws.Rotation.{yes-live, not-live}
 use Rattle.table.specs.laws.Counting.{Counts, counts, breaks}
-use Rattle.table.specs.declared.dart.Counted.{Counted}
-use Rattle.table.specs.declared.dart.Counted.the-variants.{Broken, Of}
+use Rattle.table.specs.declared.counted.Counted.{Counted}
+use Rattle.table.specs.declared.counted.Counted.the-variants.{Broken, Of}
 
 -- the words of a live dart
 pub record Linked (t : List ℕ) (d : ℕ) : Type 0 where

@@ -23,8 +23,8 @@ use Rattle.table.specs.laws.Rotation.{yes-live, live-yes, not-live, next
 use Rattle.table.specs.laws.Darts.{Ruled}
 use Rattle.table.specs.laws.Cycle.{CycleSays, leads, follows, next-live, prev-live, next-inj, iter-live, iter-leaves, iter-word, orbit-size}
 use Rattle.table.specs.laws.Counting.{Counts, counts, breaks}
-use Rattle.table.specs.declared.dart.Counted.{Counted}
-use Rattle.table.specs.declared.dart.Counted.the-variants.{Broken, Of}
+use Rattle.table.specs.declared.counted.Counted.{Counted}
+use Rattle.table.specs.declared.counted.Counted.the-variants.{Broken, Of}
 
 -- w is live, leaves v, and is the smallest on its cycle
 pub record Leads (t : List ℕ) (v w : ℕ) : Type 0 where

@@ -1,19 +1,19 @@
 // The rules that a vertex's word keeps, once each dart keeps its own. The darts of each cycle are counted and not marked: the sum over the
 // vertices is the number of live darts exactly if each vertex has one cycle.
-use crate::dart::Counted;
-use crate::layout::DARTS;
-use crate::layout::ISOLATED;
-use crate::layout::LEAVES;
-use crate::layout::NOTHING;
-use crate::layout::VERTEX;
-use crate::layout::VERTICES;
+use table::counted::Counted;
+use table::layout::DARTS;
+use table::layout::ISOLATED;
+use table::layout::LEAVES;
+use table::layout::NOTHING;
+use table::layout::VERTEX;
+use table::layout::VERTICES;
 ghost use mathlib.Core.Path.{_≡_};
 ghost use Prim.Native.Nat.{_<_};
 ghost use lib.ListN.{length};
 ghost use Rattle.table.specs.Layout.{words, darts, vertices, Live};
 ghost use Rattle.table.specs.laws.Darts.{Ruled};
 ghost use Rattle.table.specs.laws.Cycle.{CycleSays};
 ghost use Rattle.table.specs.laws.Vertices.{VertexSays, VerticesSay};
 
 // The number of darts on the cycle of w, or 0 where a smaller dart is on it.
 fn cycle(t: &[u16], w: usize) -> usize

@@ -1,12 +1,12 @@
 // The check of a whole table.
-use crate::answer::Answer;
-use crate::answer::Refusal;
-use crate::dart::Counted;
 use crate::dart::live_darts;
-use crate::layout::WORDS;
 use crate::vertex::all_led_darts;
+use table::answer::Answer;
+use table::answer::Refusal;
+use table::counted::Counted;
+use table::layout::WORDS;
 ghost use mathlib.Core.Path.{_≡_};
 ghost use Rattle.table.specs.Check.{good?, checkOf};
 
 // Is t a good table. Keeps no array, and reads each word a few times at most.
 pub fn is_good(t: &[u16]) -> bool

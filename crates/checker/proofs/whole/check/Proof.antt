@@ -1,11 +1,11 @@
 -- `table::whole::check` meets its contract. The check, as a call: 0 for a good table, and torn for every other slice.
 use Rattle.table.specs.Answers.{unless}
 use Rattle.table.specs.declared.answer.Answer.the-variants.{Done, Declined}
 use Rattle.table.specs.declared.answer.Refusal.the-variants.{Torn}
 use mathlib.Core.Path.{sym, ap, _∙_}
 use borrow.Author.Needs.{needs}
-use Rattle.table.proofs.whole.check.Statement.{statement}
-use Rattle.table.proofs.whole.check.Tie as tie
+use Rattle.checker.proofs.whole.check.Statement.{statement}
+use Rattle.checker.proofs.whole.check.Tie as tie
 
 is-good-requires : tie.Need-is-good-requires
 is-good-requires c κs = search needs

@@ -1,12 +1,12 @@
 -- `table::whole::is_good` meets its contract. Is t a good table. Keeps no array, and reads each word a few times at most.
 use Rattle.table.specs.laws.Check.{good-yes, good-no}
 use Rattle.table.specs.laws.Vertices.{counted-good, good-counted}
 use Rattle.table.specs.laws.Counting.{counts-broken, counts-of}
 use Rattle.table.specs.laws.Darts.{good-ruled}
 use mathlib.Core.Path.{_∙_, sym}
 use borrow.Author.Needs.{needs}
-use Rattle.table.proofs.whole.is_good.Statement.{statement}
-use Rattle.table.proofs.whole.is_good.Tie as tie
+use Rattle.checker.proofs.whole.is_good.Statement.{statement}
+use Rattle.checker.proofs.whole.is_good.Tie as tie
 
 returns : tie.Need-returns
 returns c = good-no _ (λ g. c .if1 .taken (g .size))

@@ -1,9 +1,9 @@
 -- `table::dart::is_bare` meets its contract. Are the three words of a dart that is not live 65,535.
 use mathlib.Core.Path.{refl}
 use Rattle.table.specs.laws.Rotation.{holds, fails}
 use borrow.Author.Needs.{needs}
-use Rattle.table.proofs.dart.is_bare.Statement.{statement}
-use Rattle.table.proofs.dart.is_bare.Tie as tie
+use Rattle.checker.proofs.dart.is_bare.Statement.{statement}
+use Rattle.checker.proofs.dart.is_bare.Tie as tie
 
 mul-if1 : tie.Need-mul-if1
 mul-if1 c = search needs

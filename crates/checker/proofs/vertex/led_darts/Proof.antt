@@ -1,10 +1,10 @@
 -- `table::vertex::led_darts` meets its contract. The number of darts on the cycle that v's word leads.
 use Rattle.table.specs.laws.Vertices.{vertex-none, vertex-alone, vertex-astray, leaving-live, vertex-leads, vertex-follows}
 use mir.Facts.{fits-16-64}
 use native.Mathlib.Omega.{arith}
 use borrow.Author.Needs.{needs}
-use Rattle.table.proofs.vertex.led_darts.Statement.{statement}
-use Rattle.table.proofs.vertex.led_darts.Tie as tie
+use Rattle.checker.proofs.vertex.led_darts.Statement.{statement}
+use Rattle.checker.proofs.vertex.led_darts.Tie as tie
 
 add-word : tie.Need-add-word
 add-word c = search needs

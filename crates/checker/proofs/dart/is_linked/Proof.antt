@@ -1,11 +1,11 @@
 -- `table::dart::is_linked` meets its contract. Does a live dart leave a vertex, and do "next" and "previous" undo each other at it, at one vertex.
 use mathlib.Core.Path.{refl}
 use native.Mathlib.Omega.{arith}
 use Rattle.table.specs.laws.Rotation.{holds, fails}
 use mir.Facts.{fits-16-64}
 use borrow.Author.Needs.{needs}
-use Rattle.table.proofs.dart.is_linked.Statement.{statement}
-use Rattle.table.proofs.dart.is_linked.Tie as tie
+use Rattle.checker.proofs.dart.is_linked.Statement.{statement}
+use Rattle.checker.proofs.dart.is_linked.Tie as tie
 
 add-v : tie.Need-add-v
 add-v c = search needs

@@ -1,11 +1,11 @@
 -- `table::vertex::cycle` meets its contract. The number of darts on the cycle of w, or 0 where a smaller dart is on it. The loop keeps `Round`, and `darts - n` falls.
 use Rattle.table.specs.laws.Cycle.{Round, round-none, round-more, round-short, round-all, round-lower}
 use Rattle.table.specs.Layout.{darts}
 use mir.Facts.{fits-16-64}
 use native.Mathlib.Omega.{arith}
 use Prim.Native.Nat.{_-_}
-use Rattle.table.proofs.vertex.cycle.Statement.{statement}
-use Rattle.table.proofs.vertex.cycle.Tie as tie
+use Rattle.checker.proofs.vertex.cycle.Statement.{statement}
+use Rattle.checker.proofs.vertex.cycle.Tie as tie
 
 abbrev Inv-loop : tie.InvT-loop
 Inv-loop t w d₀ n₀ d n = Round t w n d

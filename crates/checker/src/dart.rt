@@ -1,24 +1,19 @@
 // The rules that a dart's own words keep.
-use crate::layout::DARTS;
-use crate::layout::EDGE;
-use crate::layout::EDGE_WORD_MAX;
-use crate::layout::LEAVES;
-use crate::layout::NOTHING;
-use crate::layout::PREV;
-use crate::layout::VERTICES;
+use table::counted::Counted;
+use table::layout::DARTS;
+use table::layout::EDGE;
+use table::layout::EDGE_WORD_MAX;
+use table::layout::LEAVES;
+use table::layout::NOTHING;
+use table::layout::PREV;
+use table::layout::VERTICES;
 ghost use mathlib.Core.Path.{_≡_};
 ghost use Prim.Native.Nat.{_<_};
 ghost use lib.ListN.{length};
 ghost use Rattle.table.specs.Layout.{words, darts, edgeWord, edgeOf};
 ghost use Rattle.table.specs.Good.{Bare};
 ghost use Rattle.table.specs.laws.Rotation.{Case};
 ghost use Rattle.table.specs.laws.Darts.{Linked, DartRule, DartsSay};
-
-// How many darts a part of the check went over, or that it met a broken rule.
-pub enum Counted {
-    Broken,
-    Of(usize),
-}
 
 // Are the three words of a dart that is not live 65,535.
 fn is_bare(t: &[u16], d: usize) -> bool

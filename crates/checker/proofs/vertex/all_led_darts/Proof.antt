@@ -1,12 +1,12 @@
 -- `table::vertex::all_led_darts` meets its contract. The number of darts on the cycles that the vertices' words lead. The loop keeps `Summed`, and `vertices - v` falls.
 use Rattle.table.specs.laws.Vertices.{Summed, summed-none, summed-more, summed-few, summed-all, summed-broken}
 use Rattle.table.specs.laws.Counting.{counts-broken, counts-of}
 use Rattle.table.specs.Layout.{vertices}
 use borrow.Author.Needs.{needs}
 use native.Mathlib.Omega.{arith}
 use Prim.Native.Nat.{_-_}
-use Rattle.table.proofs.vertex.all_led_darts.Statement.{statement}
-use Rattle.table.proofs.vertex.all_led_darts.Tie as tie
+use Rattle.checker.proofs.vertex.all_led_darts.Statement.{statement}
+use Rattle.checker.proofs.vertex.all_led_darts.Tie as tie
 
 abbrev Inv-loop : tie.InvT-loop
 Inv-loop t n₀ v₀ n v = Summed t n v

@@ -1,11 +1,11 @@
 -- `table::dart::keeps_rule` meets its contract. Does dart d keep its rules, by what its edge's word w says.
 use Rattle.table.specs.laws.Darts.{rule-dead, rule-live}
 use Rattle.table.specs.laws.Rotation.{case-map, fails}
 use native.Mathlib.Omega.{arith}
 use mathlib.Core.Path.{refl, sym, _∙_}
 use borrow.Author.Needs.{needs}
-use Rattle.table.proofs.dart.keeps_rule.Statement.{statement}
-use Rattle.table.proofs.dart.keeps_rule.Tie as tie
+use Rattle.checker.proofs.dart.keeps_rule.Statement.{statement}
+use Rattle.checker.proofs.dart.keeps_rule.Tie as tie
 
 is-bare-requires : tie.Need-is-bare-requires
 is-bare-requires c κs = search needs

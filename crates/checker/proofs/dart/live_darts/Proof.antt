@@ -1,14 +1,14 @@
 -- `table::dart::live_darts` meets its contract. The number of live darts, if each dart keeps its rules. The loop keeps `RuledBelow`, and `darts - d` falls.
 use Rattle.table.specs.laws.Darts.{passed-few, RuledBelow, passed-none, passed-live, passed-dead, passed-all, passed-broken}
 use borrow.Author.Tests.{not-true, not-false}
 use mathlib.Core.Path.{refl}
 use Rattle.table.specs.laws.Rotation.{case-yes, case-no}
 use Rattle.table.specs.Layout.{darts}
 use native.Mathlib.Omega.{arith}
 use Prim.Native.Nat.{_-_}
 use mathlib.Core.Logic.{⊎-elim}
-use Rattle.table.proofs.dart.live_darts.Statement.{statement}
-use Rattle.table.proofs.dart.live_darts.Tie as tie
+use Rattle.checker.proofs.dart.live_darts.Statement.{statement}
+use Rattle.checker.proofs.dart.live_darts.Tie as tie
 
 abbrev Inv-loop : tie.InvT-loop
 Inv-loop t n₀ d₀ n d = RuledBelow t n d

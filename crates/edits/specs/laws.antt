@@ -3,8 +3,8 @@ pub mod Held
 pub mod Splice
 pub mod Unlink
 pub mod Grown
-pub mod LinkBefore
-pub mod LinkAlone
+pub mod Seat
+pub mod Link
 pub mod Edge
 pub mod Ready
 pub mod Deleted

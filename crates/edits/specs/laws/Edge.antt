@@ -18,8 +18,8 @@ use Rattle.edits.specs.Edge.{splice, lesser, seek, successor, taken, unl
 use Rattle.edits.specs.laws.Splice.{Reads, reads-splice, reads-cut, reads-vertex}
 use Rattle.edits.specs.laws.Unlink.{Sought, found, none, sought, Shrunk, out-shrunk}
 use Rattle.edits.specs.laws.Grown.{new, old, plus-case, Grown}
-use Rattle.edits.specs.laws.LinkBefore.{before-grown, before-seat}
-use Rattle.edits.specs.laws.LinkAlone.{alone-grown, alone-seat}
+use Rattle.edits.specs.laws.Seat.{among, alone, foremost-among, foremost-alone}
+use Rattle.edits.specs.laws.Link.{linked-grown, linked-seat}
 
 -- a corner that is there, where L are the live darts
 pub data Corner (t : List ℕ) (L : ℕ → Bool) (c : ℕ) : Type 0 where
@@ -45,20 +45,25 @@ module _ (t : List ℕ) (L : ℕ → Bool) (H : Held t L) (x : ℕ) where
   pub link-grown : (c : ℕ) → L x ≡ false → x < darts → Corner t L c → Grown t (link t x c) L x
   link-grown c free low (at-dart on) =
       rw (link-dart t x c (H .low c on))
-      (before-grown t _ L H x c (prevWord t c) (leaves t c) (lesser (vertexWord t (leaves t c)) x) free low on refl refl refl
+      (linked-grown t _ L H x c (prevWord t c) (leaves t c) _ free low (among on refl refl) (foremost-among t L H x free c on)
       (reads-splice t (H .size) x c (prevWord t c) (leaves t c) _ low (H .low c on) (H .low _ (H .prev-live c on)) (H .leaves-low c on)))
   link-grown c free low (at-lone v e h bare) =
-      rw (e, link-lone t x v) (alone-grown t _ L H x v free low h bare (reads-splice t (H .size) x x x v x low low low h))
+      rw (e, link-lone t x v)
+      (linked-grown t _ L H x x x v x free low (alone refl refl (H .alone v h bare)) (foremost-alone t L H x free v h bare)
+      (reads-splice t (H .size) x x x v x low low low h))
 
   -- where the dart that was put in stands
   pub link-before : (c : ℕ) → L x ≡ false → x < darts → L c ≡ true → (leaves (link t x c) x ≡ leaves t c) × (nextWord (link t x c) x ≡ c)
   link-before c free low on =
       rw (link-dart t x c (H .low c on))
-      (before-seat t _ L H x c (prevWord t c) (leaves t c) (lesser (vertexWord t (leaves t c)) x) free low on refl refl refl
+      (linked-seat t _ L H x c (prevWord t c) (leaves t c) _ free low (among on refl refl) (foremost-among t L H x free c on)
       (reads-splice t (H .size) x c (prevWord t c) (leaves t c) _ low (H .low c on) (H .low _ (H .prev-live c on)) (H .leaves-low c on)))
 
   pub link-alone : (v : ℕ) → L x ≡ false → x < darts → v < vertices → vertexWord t v ≡ isolated → (leaves (link t x (loneAt + v)) x ≡ v) × (nextWord (link t x (loneAt + v)) x ≡ x)
-  link-alone v free low h bare = rw (link-lone t x v) (alone-seat t _ L H x v free low h bare (reads-splice t (H .size) x x x v x low low low h))
+  link-alone v free low h bare =
+      rw (link-lone t x v)
+      (linked-seat t _ L H x x x v x free low (alone refl refl (H .alone v h bare)) (foremost-alone t L H x free v h bare)
+      (reads-splice t (H .size) x x x v x low low low h))
 
   -- an isolated vertex stays so, unless the dart was put there
   pub still-isolated : (u : List ℕ) → Grown t u L x → (v : ℕ) → v < vertices → vertexWord t v ≡ isolated → leaves u x ≢ v → vertexWord u v ≡ isolated

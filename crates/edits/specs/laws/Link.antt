@@ -1,12 +1,11 @@
--- A dart put just before the dart that names a corner: the rules of the darts hold again.
-use Prim.Native.Nat.{ℕ, _≤_, _<_}
+-- A dart put on its seat: the rules of the darts hold again.
+use Prim.Native.Nat.{ℕ, _<_}
 use native.Mathlib.Omega.{arith}
-use native.Mathlib.Decide.{ℕ-discrete, decLt}
+use native.Mathlib.Decide.{ℕ-discrete}
 use mathlib.Core.Path.{_≡_, sym, _∙_, ap}
 use mathlib.Core.Bool.{Bool, true, false}
 use mathlib.Core.List.{List}
 use mathlib.Core.Logic.{_≢_}
-use borrow.Author.Tests.{lt-ltb, le-ltb}
 use Rattle.orbits.specs.laws.Truth.{clash, truth, holds, fails}
 use Rattle.orbits.specs.Reach.{Reach}
 use Rattle.orbits.specs.laws.Reach.{reach-here, reach-one, reach-trans, reach-by}
@@ -16,39 +15,72 @@ use Rattle.surgery.specs.Without.{bypass}
 use Rattle.surgery.specs.laws.Bypass.{bypass-self, bypass-into, bypass-off}
 use Rattle.edits.specs.laws.Held.{Held, SmallestIn, nextIn, next-in, next-out}
 use Rattle.edits.specs.laws.Splice.{Reads}
-use Rattle.edits.specs.Edge.{lesser}
 use Rattle.edits.specs.laws.Grown.{plus, plus-new, plus-old, Plus, new, old, plus-case, Grown}
+use Rattle.edits.specs.laws.Seat.{Seat, among, alone, Foremost}
 
--- Just before dart d: x comes between d and the dart p before it.
-module _ (t u : List ℕ) (L : ℕ → Bool) (H : Held t L) (x d p v w : ℕ) (free : L x ≡ false) (low : x < darts) (on : L d ≡ true)
-    (before : prevWord t d ≡ p) (at : leaves t d ≡ v) (word : lesser (vertexWord t v) x ≡ w)
+module _ (t u : List ℕ) (L : ℕ → Bool) (H : Held t L) (x d p v w : ℕ) (free : L x ≡ false) (low : x < darts) (seat : Seat t L x d p v) (foremost : Foremost t L x v w)
     (r : Reads u (upd (upd (nextWord t) x d) p x) (upd (upd (prevWord t) d x) x p) (upd (leaves t) x v) (edgeWord t) (upd (vertexWord t) v w)) where
   not-x : (j : ℕ) → L j ≡ true → j ≢ x
   not-x j e q = clash (rw q at e) free
 
-  p-on : L p ≡ true
-  p-on = rw (← before) (H .prev-live d on)
+  grow : (j : ℕ) → L j ≡ true → plus L x j ≡ true
+  grow j e = plus-old L x j (not-x j e) ∙ e
 
-  p-next : nextWord t p ≡ d
-  p-next = rw (← before) (H .next-prev d on)
+  plus-low : (j : ℕ) → plus L x j ≡ true → j < darts
+  plus-low j e = elim (plus-case L x j e) [ new a ↦ rw a low | old n a ↦ H .low j a ]
 
-  v-low : v < vertices
-  v-low = rw (← at) (H .leaves-low d on)
+  -- the neighbours: x itself, or old darts of v
 
-  p-leaves : leaves t p ≡ v
-  p-leaves = sym (H .next-leaves p p-on) ∙ ap (leaves t) p-next ∙ at
+  d-in : plus L x d ≡ true
+  d-in = elim seat [ among o b a ↦ grow d o | alone e f n ↦ rw e (plus-new L x) ]
+
+  p-in : plus L x p ≡ true
+  p-in = elim seat [ among o b a ↦ grow p (rw (← b) (H .prev-live d o)) | alone e f n ↦ rw f (plus-new L x) ]
+
+  d-new : p ≡ x → d ≡ x
+  d-new q = elim seat [ among o b a ↦ absurd (not-x p (rw (← b) (H .prev-live d o)) q) | alone e f n ↦ e ]
+
+  p-new : d ≡ x → p ≡ x
+  p-new q = elim seat [ among o b a ↦ absurd (not-x d o q) | alone e f n ↦ f ]
+
+  p-next : L p ≡ true → nextWord t p ≡ d
+  p-next l = elim seat [ among o b a ↦ rw (← b) (H .next-prev d o) | alone e f n ↦ absurd (not-x p l f) ]
+
+  d-prev : L d ≡ true → prevWord t d ≡ p
+  d-prev l = elim seat [ among o b a ↦ b | alone e f n ↦ absurd (not-x d l e) ]
+
+  d-at : L d ≡ true → leaves t d ≡ v
+  d-at l = elim seat [ among o b a ↦ a | alone e f n ↦ absurd (not-x d l e) ]
+
+  -- where v has a dart, they are old
+  d-old : (k : ℕ) → L k ≡ true → leaves t k ≡ v → L d ≡ true
+  d-old k l q = elim seat [ among o b a ↦ o | alone e f n ↦ absurd (n k l q) ]
+
+  p-old : (k : ℕ) → L k ≡ true → leaves t k ≡ v → L p ≡ true
+  p-old k l q = let o = d-old k l q in rw (← d-prev o) (H .prev-live d o)
+
+  p-at : L p ≡ true → leaves t p ≡ v
+  p-at l = let e = p-next l in sym (H .next-leaves p l) ∙ ap (leaves t) e ∙ d-at (rw e at (H .next-live p l))
+
+  -- the words
 
   next-x : nextWord u x ≡ d
-  next-x = r .next-is x low ∙ upd-off _ p x x (λ q. not-x p p-on (sym q)) ∙ upd-at (nextWord t) x d
+  next-x = r .next-is x low ∙ elim (ℕ-discrete p x) [
+    | yes q ↦ rw q (upd-at _ x x) ∙ sym (d-new q)
+    | no n ↦ upd-off _ p x x (λ q. n (sym q)) ∙ upd-at (nextWord t) x d
+  ]
 
   next-p : nextWord u p ≡ x
-  next-p = r .next-is p (H .low p p-on) ∙ upd-at _ p x
+  next-p = r .next-is p (plus-low p p-in) ∙ upd-at _ p x
 
   next-other : (j : ℕ) → j < darts → j ≢ x → j ≢ p → nextWord u j ≡ nextWord t j
   next-other j h n m = r .next-is j h ∙ upd-off _ p x j m ∙ upd-off (nextWord t) x d j n
 
   prev-d : prevWord u d ≡ x
-  prev-d = r .prev-is d (H .low d on) ∙ upd-off _ x p d (not-x d on) ∙ upd-at (prevWord t) d x
+  prev-d = r .prev-is d (plus-low d d-in) ∙ elim (ℕ-discrete d x) [
+    | yes q ↦ rw q (upd-at _ x p) ∙ p-new q
+    | no n ↦ upd-off _ x p d n ∙ upd-at (prevWord t) d x
+  ]
 
   prev-x : prevWord u x ≡ p
   prev-x = r .prev-is x low ∙ upd-at _ x p
@@ -65,39 +97,25 @@ module _ (t u : List ℕ) (L : ℕ → Bool) (H : Held t L) (x d p v w : ℕ) (f
   leaves-old : (j : ℕ) → L j ≡ true → leaves u j ≡ leaves t j
   leaves-old j e = leaves-other j (H .low j e) (not-x j e)
 
+  d-here : leaves u d ≡ v
+  d-here = elim (plus-case L x d d-in) [ new a ↦ rw a leaves-x | old n a ↦ leaves-old d a ∙ d-at a ]
+
+  p-here : leaves u p ≡ v
+  p-here = elim (plus-case L x p p-in) [ new a ↦ rw a leaves-x | old n a ↦ leaves-old p a ∙ p-at a ]
+
   vertex-v : vertexWord u v ≡ w
-  vertex-v = r .vertex-is v v-low ∙ upd-at (vertexWord t) v w
+  vertex-v = r .vertex-is v (foremost .v-low) ∙ upd-at (vertexWord t) v w
 
   vertex-other : (j : ℕ) → j < vertices → j ≢ v → vertexWord u j ≡ vertexWord t j
   vertex-other j h n = r .vertex-is j h ∙ upd-off (vertexWord t) v w j n
 
-  -- v's word before is its smallest dart
-  old-smallest : SmallestIn t L v (vertexWord t v)
-  old-smallest = H .smallest v v-low (rw at at (H .leaves-live d on)) (λ i. H .alone v v-low i d on at)
-
-  data Lesser : Type 0 where
-    takes : x < vertexWord t v → w ≡ x → Lesser
-    stays : vertexWord t v ≤ x → w ≡ vertexWord t v → Lesser
-
-  lesser-case : Lesser
-  lesser-case = elim (decLt x (vertexWord t v)) [
-    | yes h ↦ takes h (sym word ∙ rw (lt-ltb _ _ h))
-    | no h ↦ stays (omega arith) (sym word ∙ rw (le-ltb x (vertexWord t v) (omega arith)))
-  ]
-
   w-low : w < darts
-  w-low = elim lesser-case [
-    | takes h e ↦ rw e low
-    | stays h e ↦ rw e (H .low _ (old-smallest .live))
-  ]
-
-  grow : (j : ℕ) → L j ≡ true → plus L x j ≡ true
-  grow j e = plus-old L x j (not-x j e) ∙ e
+  w-low = elim (foremost .w-in) [ new a ↦ rw a low | old n a ↦ H .low w a ]
 
   -- an old step is a step still, or two by way of x
   old-step : (j : ℕ) → L j ≡ true → Reach (nextWord u) j (nextWord t j)
   old-step j e = elim (ℕ-discrete j p) [
-    | yes q ↦ rw (q, p-next) (rw (next-p, next-x) at (reach-trans (reach-one {f = nextWord u} p) (reach-one (nextWord u p))))
+    | yes q ↦ rw (q, p-next (rw q at e)) (rw (next-p, next-x) at (reach-trans (reach-one {f = nextWord u} p) (reach-one (nextWord u p))))
     | no n ↦ rw (next-other j (H .low j e) (not-x j e) n) at (reach-one {f = nextWord u} j)
   ]
 
@@ -107,22 +125,24 @@ module _ (t u : List ℕ) (L : ℕ → Bool) (H : Held t L) (x d p v w : ℕ) (f
   new-cycle : (j k : ℕ) → Plus L x j → Plus L x k → leaves u j ≡ leaves u k → Reach (nextWord u) j k
   new-cycle j k (new a) (new b) e = rw (a, b) reach-here
   new-cycle j k (new a) (old n b) e =
-      let s : leaves t d ≡ leaves t k = at ∙ sym leaves-x ∙ ap (leaves u) (sym a) ∙ e ∙ leaves-old k b in
-      rw a (reach-trans (rw next-x at (reach-one {f = nextWord u} x)) (old-reach d k on (H .one-cycle d k on b s)))
+      let s : leaves t k ≡ v = sym (leaves-old k b) ∙ sym e ∙ ap (leaves u) a ∙ leaves-x in
+      let o = d-old k b s in
+      rw a (reach-trans (rw next-x at (reach-one {f = nextWord u} x)) (old-reach d k o (H .one-cycle d k o b (d-at o ∙ sym s))))
   new-cycle j k (old n a) (new b) e =
-      let s : leaves t j ≡ leaves t p = sym (leaves-old j a) ∙ e ∙ ap (leaves u) b ∙ leaves-x ∙ sym p-leaves in
-      rw b (reach-trans (old-reach j p a (H .one-cycle j p a p-on s)) (rw next-p at (reach-one {f = nextWord u} p)))
+      let s : leaves t j ≡ v = sym (leaves-old j a) ∙ e ∙ ap (leaves u) b ∙ leaves-x in
+      let o = p-old j a s in
+      rw b (reach-trans (old-reach j p a (H .one-cycle j p a o (s ∙ sym (p-at o)))) (rw next-p at (reach-one {f = nextWord u} p)))
   new-cycle j k (old n a) (old m b) e = old-reach j k a (H .one-cycle j k a b (sym (leaves-old j a) ∙ e ∙ leaves-old k b))
 
   next-new : (j : ℕ) → Plus L x j → plus L x (nextWord u j) ≡ true
-  next-new j (new a) = rw (a, next-x) (grow d on)
+  next-new j (new a) = rw (a, next-x) d-in
   next-new j (old n a) = elim (ℕ-discrete j p) [
     | yes q ↦ rw (q, next-p) (plus-new L x)
     | no m ↦ rw (next-other j (H .low j a) n m) (grow _ (H .next-live j a))
   ]
 
   prev-new : (j : ℕ) → Plus L x j → plus L x (prevWord u j) ≡ true
-  prev-new j (new a) = rw (a, prev-x) (grow p p-on)
+  prev-new j (new a) = rw (a, prev-x) p-in
   prev-new j (old n a) = elim (ℕ-discrete j d) [
     | yes q ↦ rw (q, prev-d) (plus-new L x)
     | no m ↦ rw (prev-other j (H .low j a) n m) (grow _ (H .prev-live j a))
@@ -135,7 +155,7 @@ module _ (t u : List ℕ) (L : ℕ → Bool) (H : Held t L) (x d p v w : ℕ) (f
     | no m ↦
         let l = H .next-live j a in
         rw (next-other j (H .low j a) n m)
-        (prev-other (nextWord t j) (H .low _ l) (not-x _ l) (λ q. m (sym (H .prev-next j a) ∙ ap (prevWord t) q ∙ before)) ∙ H .prev-next j a)
+        (prev-other (nextWord t j) (H .low _ l) (not-x _ l) (λ q. m (sym (H .prev-next j a) ∙ ap (prevWord t) q ∙ d-prev (rw q at l))) ∙ H .prev-next j a)
   ]
 
   next-prev-new : (j : ℕ) → Plus L x j → nextWord u (prevWord u j) ≡ j
@@ -145,18 +165,18 @@ module _ (t u : List ℕ) (L : ℕ → Bool) (H : Held t L) (x d p v w : ℕ) (f
     | no m ↦
         let l = H .prev-live j a in
         rw (prev-other j (H .low j a) n m)
-        (next-other (prevWord t j) (H .low _ l) (not-x _ l) (λ q. m (sym (H .next-prev j a) ∙ ap (nextWord t) q ∙ p-next)) ∙ H .next-prev j a)
+        (next-other (prevWord t j) (H .low _ l) (not-x _ l) (λ q. m (sym (H .next-prev j a) ∙ ap (nextWord t) q ∙ p-next (rw q at l))) ∙ H .next-prev j a)
   ]
 
   leaves-new : (j : ℕ) → Plus L x j → leaves u (nextWord u j) ≡ leaves u j
-  leaves-new j (new a) = rw (a, next-x) (leaves-old d on ∙ at ∙ sym leaves-x)
+  leaves-new j (new a) = rw (a, next-x) (d-here ∙ sym leaves-x)
   leaves-new j (old n a) = elim (ℕ-discrete j p) [
-    | yes q ↦ rw (q, next-p) (leaves-x ∙ sym p-leaves ∙ sym (leaves-old p p-on))
+    | yes q ↦ rw (q, next-p) (leaves-x ∙ sym p-here)
     | no m ↦ rw (next-other j (H .low j a) n m) (leaves-old _ (H .next-live j a) ∙ H .next-leaves j a ∙ sym (leaves-old j a))
   ]
 
   leaves-low-new : (j : ℕ) → Plus L x j → leaves u j < vertices
-  leaves-low-new j (new a) = rw (a, leaves-x) v-low
+  leaves-low-new j (new a) = rw (a, leaves-x) (foremost .v-low)
   leaves-low-new j (old n a) = rw (leaves-old j a) (H .leaves-low j a)
 
   vertex-live-new : (j : ℕ) → j < vertices → (j ≢ v → vertexWord t j ≢ nothing) → vertexWord u j ≢ nothing
@@ -180,24 +200,14 @@ module _ (t u : List ℕ) (L : ℕ → Bool) (H : Held t L) (x d p v w : ℕ) (f
       elsewhere (old n a) m = H .alone b h (sym (vertex-other b h m) ∙ i) j a (sym (leaves-old j a) ∙ q)
 
   smallest-here : SmallestIn u (plus L x) v w
-  smallest-here = elim lesser-case [
-    | takes h e ↦ record {
-      live = rw e (plus-new L x);
-      here = rw e leaves-x;
-      least = λ k l q. elim (plus-case L x k l) [
-        | new a ↦ rw (e, a) (omega arith)
-        | old n a ↦ let s = old-smallest .least k a (sym (leaves-old k a) ∙ q) in omega arith
-      ];
-    }
-    | stays h e ↦ record {
-      live = rw e (grow _ (old-smallest .live));
-      here = rw e (leaves-old _ (old-smallest .live) ∙ old-smallest .here);
-      least = λ k l q. elim (plus-case L x k l) [
-        | new a ↦ rw (e, a) h
-        | old n a ↦ rw e (old-smallest .least k a (sym (leaves-old k a) ∙ q))
-      ];
-    }
-  ]
+  smallest-here = record {
+    live = elim (foremost .w-in) [ new a ↦ rw a (plus-new L x) | old n a ↦ grow w a ];
+    here = elim (foremost .w-in) [ new a ↦ rw a leaves-x | old n a ↦ leaves-old w a ∙ foremost .w-here a ];
+    least = λ k l q. elim (plus-case L x k l) [
+      | new a ↦ rw a (foremost .w-new)
+      | old n a ↦ foremost .w-least k a (sym (leaves-old k a) ∙ q)
+    ];
+  }
 
   smallest-new : (b : ℕ) → b < vertices → vertexWord u b ≢ nothing → vertexWord u b ≢ isolated → SmallestIn u (plus L x) b (vertexWord u b)
   smallest-new b h n i = elim (ℕ-discrete b v) [
@@ -215,17 +225,16 @@ module _ (t u : List ℕ) (L : ℕ → Bool) (H : Held t L) (x d p v w : ℕ) (f
         })
   ]
 
-  before-held : Held u (plus L x)
-  before-held = record {
+  linked-held : Held u (plus L x)
+  linked-held = record {
     size = r .size;
     low = λ j e. elim (plus-case L x j e) [ new a ↦ rw a low | old n a ↦ H .low j a ];
     bare = λ j h e.
         let n : j ≢ x = λ q. clash (rw q (plus-new L x)) e in
-        let off : L j ≡ false = sym (plus-old L x j n) ∙ e in
-        let b = H .bare j h off in
+        let b = H .bare j h (sym (plus-old L x j n) ∙ e) in
         record {
-          next-none = next-other j h n (λ q. clash (rw q p-on) off) ∙ b .next-none;
-          prev-none = prev-other j h n (λ q. clash (rw q on) off) ∙ b .prev-none;
+          next-none = next-other j h n (λ q. clash (rw q p-in) e) ∙ b .next-none;
+          prev-none = prev-other j h n (λ q. clash (rw q d-in) e) ∙ b .prev-none;
           leaves-none = leaves-other j h n ∙ b .leaves-none;
         };
     leaves-low = λ j e. leaves-low-new j (plus-case L x j e);
@@ -240,8 +249,8 @@ module _ (t u : List ℕ) (L : ℕ → Bool) (H : Held t L) (x d p v w : ℕ) (f
     smallest = smallest-new;
   }
 
-  before-next : (j : ℕ) → nextIn t L j ≡ bypass (nextIn u (plus L x)) x j
-  before-next j = elim (ℕ-discrete j x) [
+  linked-next : (j : ℕ) → nextIn t L j ≡ bypass (nextIn u (plus L x)) x j
+  linked-next j = elim (ℕ-discrete j x) [
     | yes q ↦ rw q (next-out t L x free ∙ sym (bypass-self (nextIn u (plus L x)) x))
     | no n ↦ elim (truth (L j)) [
       | fails f ↦
@@ -249,8 +258,9 @@ module _ (t u : List ℕ) (L : ℕ → Bool) (H : Held t L) (x d p v w : ℕ) (f
           next-out t L j f ∙ sym (bypass-off (nextIn u (plus L x)) x j n (rw e n) ∙ e)
       | holds l ↦ elim (ℕ-discrete j p) [
         | yes q ↦
-            let e : nextIn u (plus L x) p ≡ x = next-in u (plus L x) p (grow p p-on) ∙ next-p in
-            rw q (next-in t L p p-on ∙ p-next ∙ sym (bypass-into (nextIn u (plus L x)) x p (not-x p p-on) e ∙ next-in u (plus L x) x (plus-new L x) ∙ next-x))
+            let o : L p ≡ true = rw q at l in
+            let e : nextIn u (plus L x) p ≡ x = next-in u (plus L x) p p-in ∙ next-p in
+            rw q (next-in t L p o ∙ p-next o ∙ sym (bypass-into (nextIn u (plus L x)) x p (not-x p o) e ∙ next-in u (plus L x) x (plus-new L x) ∙ next-x))
         | no m ↦
             let e : nextIn u (plus L x) j ≡ nextWord t j = next-in u (plus L x) j (grow j l) ∙ next-other j (H .low j l) n m in
             next-in t L j l ∙ sym (bypass-off (nextIn u (plus L x)) x j n (rw e (not-x _ (H .next-live j l))) ∙ e)
@@ -259,19 +269,19 @@ module _ (t u : List ℕ) (L : ℕ → Bool) (H : Held t L) (x d p v w : ℕ) (f
   ]
 
   -- where x stands
-  pub before-seat : (leaves u x ≡ v) × (nextWord u x ≡ d)
-  before-seat = (leaves-x, next-x)
+  pub linked-seat : (leaves u x ≡ v) × (nextWord u x ≡ d)
+  linked-seat = (leaves-x, next-x)
 
-  pub before-grown : Grown t u L x
-  before-grown = record {
-    held = before-held;
-    next = before-next;
+  pub linked-grown : Grown t u L x
+  linked-grown = record {
+    held = linked-held;
+    next = linked-next;
     from = leaves-other;
     edge = r .edge-is;
     there = λ b h. elim (ℕ-discrete b v) [
       | yes q ↦ (
         λ z. let e : w ≡ nothing = sym vertex-v ∙ ap (vertexWord u) (sym q) ∙ z in let l = w-low in absurd (omega arith),
-        λ z. absurd (rw at at (H .leaves-live d on) (ap (vertexWord t) (sym q) ∙ z)),
+        λ z. absurd (foremost .v-there (ap (vertexWord t) (sym q) ∙ z)),
       )
       | no m ↦ let e = vertex-other b h m in (λ z. sym e ∙ z, λ z. e ∙ z)
     ];

@@ -109,7 +109,7 @@ unfolding parts
 parts-count R = parts-below R vertices
 
 -- six words for each part
-six-each : (R : Rotation) (l : List ℕ) → length (rowsOf R l) ≡ 6 * length l
+pub six-each : (R : Rotation) (l : List ℕ) → length (rowsOf R l) ≡ 6 * length l
 unfolding rowsOf row
 six-each R [] = refl
 six-each R (r ∷ l) = let rest = six-each R l in rw (length-append (row R r) (rowsOf R l)) (omega arith)

@@ -25,7 +25,7 @@ use Rattle.surface.specs.Rows.{flagOf, rowOf, row, rowsOf, rows}
 use Rattle.surface.specs.Calls.{partRows}
 
 module _ (R : Rotation) where
-  rows-append : (a b : List ℕ) → rowsOf R (a ++ b) ≡ rowsOf R a ++ rowsOf R b
+  pub rows-append : (a b : List ℕ) → rowsOf R (a ++ b) ≡ rowsOf R a ++ rowsOf R b
   unfolding rowsOf
   rows-append [] b = refl
   rows-append (r ∷ a) b = ap (λ l. row R r ++ l) (rows-append a b) ∙ sym (append-assoc (row R r) (rowsOf R a) (rowsOf R b))
@@ -100,7 +100,7 @@ module _ {R : Rotation} {n at : ℕ} {out₀ out : List ℤ} (K : Written R n at
 
 -- six stores
 
-flag-fits : (b : Bool) → SFits w32 (flagOf b)
+pub flag-fits : (b : Bool) → SFits w32 (flagOf b)
 flag-fits true = sfits-lit tt
 flag-fits false = sfits-lit tt
 

@@ -1,111 +1,228 @@
--- The lines of the parts, one vertex at a time.
---     Tallied, TalliedAt     labels and counts;     part-none, part-other, part-root     one vertex
---     Parting                the loop
-use Prim.Native.Nat.{ℕ, _+_, _*_, _<_, _≤_, _^_}
+-- The lines of the parts, read off the rows that are written of them.
+--     Sided            the letter of a mark
+--     RowAt            the row of a part;     LineOf     the line that it gives
+--     Parting          the loop over the rows
+use Prim.Native.Nat.{ℕ, suc, _+_, _*_, _<_, _≤_}
 use native.Mathlib.Omega.{arith}
-use native.Mathlib.Numerals.{add-one}
 use mathlib.Core.Path.{_≡_, refl, sym, _∙_, ap}
-use mathlib.Core.Bool.{Bool, true, false}
-use mathlib.Core.List.{List, [], _∷_, _++_}
-use mathlib.Core.Logic.{_≢_}
-use lib.Dec.{eqb}
-use lib.IntN.{ℤ}
-use lib.ListN.{getD}
+use mathlib.Core.Bool.{Bool, true, false, _&&_}
+use mathlib.Core.List.{List, [], _∷_, _++_, append-assoc, append-nil}
+use lib.IntN.{ℤ, pos}
+use lib.ListN.{length, getD, drop, length-append}
+use lib.Seq.{sets, getD-append-add}
 use mir.Syntax.{w32}
-use mir.Val.{toZ, ofZ}
+use mir.Val.{SFits, toZ, ofZ}
 use mir.Facts.{toZ-ofZ}
-use Rattle.table.specs.Layout.{vertices, vertexWord, nothing}
-use Rattle.table.specs.Rotation.{Rotation, rotation}
-use Rattle.tracing.specs.Listing.{gather, only, bit}
+use Rattle.orbits.specs.Count.{more}
+use Rattle.orbits.specs.laws.Count.{count-le}
+use Rattle.table.specs.Layout.{vertices, edges}
+use Rattle.table.specs.Rotation.{Rotation, Lawful}
+use Rattle.table.specs.laws.Output.{sets-front}
+use Rattle.tracing.specs.Listing.{gather, faces, faceCount}
 use Rattle.tracing.specs.laws.Listing.{gather-one, gather-none, gather-append}
-use Rattle.surface.specs.Parts.{root?, partsBelow, parts}
-use Rattle.surface.specs.Signed.{eulerOf, partEuler}
+use Rattle.tracing.specs.Met.{countIn}
+use Rattle.tracing.specs.laws.Has.{has-head, has-right}
+use Rattle.surface.specs.Counts.{verticesIn, edgesIn, walksIn, cornerVertex}
+use Rattle.surface.specs.Parts.{root?, parts}
+use Rattle.surface.specs.laws.Parts.{root-there}
+use Rattle.surface.specs.laws.Listed.{listed-root}
+use Rattle.surface.specs.Rows.{flagOf, row, rowsOf, rows}
+use Rattle.surface.specs.Signed.{partEuler}
+use Rattle.surface.specs.Labels.{inPart, orientable}
 use Rattle.tallies.specs.laws.EulerWord.{euler-sfits}
-use Rattle.tallies.specs.laws.Tally.{Keyed}
-use Rattle.tallies.specs.laws.Tallying.{PartTally}
-use Rattle.measure.specs.laws.Mesh.{root-none, root-other, root-yes}
-use Rattle.text.specs.Decimal.{integer}
-use Rattle.report.specs.Lines.{space, partText, partLine}
+use Rattle.measure.specs.laws.Rows.{Written, rows-append, flag-fits}
+use Rattle.measure.specs.laws.Mesh.{six-each, rows-length, faces-low, parts-count}
+use Rattle.text.specs.Decimal.{decimal, integer}
+use Rattle.report.specs.Lines.{space, side, partLine}
 use Rattle.report.specs.laws.Wrote.{Wrote, wrote-none, wrote-then, wrote-as, wrote-most, parts-most}
 
--- V-E+F, as it is handed on
-pub euler-on : {x : ℤ} (v e f : ℕ) → v < 65536 → e < 65536 → f < 65536 → x ≡ eulerOf v e f → space ∷ integer (toZ w32 (ofZ w32 x)) ≡ space ∷ integer (eulerOf v e f)
-euler-on v e f a b c q = ap (λ y. space ∷ integer y) (ap (λ y. toZ w32 (ofZ w32 y)) q ∙ toZ-ofZ (euler-sfits v e f a b c))
+-- of whatever part has this mark
+abbrev pub Sided : ℤ → ℕ → Type 0
+Sided o l = (b : Bool) → o ≡ flagOf b → l ≡ side b
 
--- the labels and the counts of the parts
-pub record Tallied (t up vs es fs odd : List ℕ) : Type 0 where
-  pub keyed : Keyed t up
-  pub tally : PartTally t vs es fs odd
+pub sided-no : {o : ℤ} → ofZ w32 o ≡ 0 → Sided o (side false)
+sided-no e true f = let z : _≡_ {A = ℕ} 1 0 = rw f at e in absurd (omega arith)
+sided-no e false f = refl
 
-pub record TalliedAt (t up vs es fs odd : List ℕ) (r at : ℕ) : Type 0 where
-  pub tallied : Tallied t up vs es fs odd
+pub sided-yes : {o : ℤ} → (ofZ w32 o ≡ 0 → ⊥) → Sided o (side true)
+sided-yes n true f = refl
+sided-yes n false f = absurd (n (rw f))
+
+-- the row of the part of r begins at word i
+pub record RowAt (R : Rotation) (words : List ℤ) (i r : ℕ) : Type 0 where
+  pub vertex : getD words i (pos 0) ≡ pos r
+  pub euler : getD words (i + 4) (pos 0) ≡ partEuler R r
+  pub mark : getD words (i + 5) (pos 0) ≡ flagOf (orientable R r)
   pub low : r < vertices
-  pub near : at < 2 ^ 45
+  pub fits : SFits w32 (partEuler R r)
 
--- a test's answer tells whether a line is there
+-- of whatever part has its row there
+abbrev pub LineOf : List ℤ → ℕ → ℕ → ℕ → List ℕ → ℕ → List ℕ → Type 0
+LineOf words i from at out n out′ = (R : Rotation) (r : ℕ) → RowAt R words i r → Wrote 40 from at out (partLine R r) n out′
 
-only-none : (b : Bool) (r : ℕ) → 0 ≡ bit b → only b r ≡ []
-only-none true r e = absurd (omega arith)
-only-none false r e = refl
+-- a word of a row, as it is handed on
+abbrev held : ℤ → ℤ
+held z = toZ w32 (ofZ w32 z)
 
-only-one : (b : Bool) (r : ℕ) → 1 ≡ bit b → only b r ≡ r ∷ []
-only-one true r e = refl
-only-one false r e = absurd (omega arith)
-
-module _ {t up vs es fs odd : List ℕ} {r at : ℕ} (k : TalliedAt t up vs es fs odd r at) {from : ℕ} (out : List ℕ) where
-  no-line : 0 ≡ bit (root? (rotation t) r) → Wrote 40 from at out (gather (partLine (rotation t)) (only (root? (rotation t) r) r)) at out
-  no-line e = rw (only-none (root? (rotation t) r) r e) (wrote-most (wrote-as (wrote-none from at out) (sym (gather-none (partLine (rotation t))))) 40 (omega arith))
-
-  pub part-none : vertexWord t r ≡ nothing → Wrote 40 from at out (gather (partLine (rotation t)) (only (root? (rotation t) r) r)) at out
-  part-none e = no-line (root-none t (k .tallied .keyed) r (k .low) e)
-
-  pub part-other : getD up r 0 ≢ r → Wrote 40 from at out (gather (partLine (rotation t)) (only (root? (rotation t) r) r)) at out
-  part-other d = no-line (root-other t (k .tallied .keyed) r (k .low) d)
-
-  pub part-root : {n : ℕ} {out′ : List ℕ} → vertexWord t r ≢ nothing → getD up r 0 ≡ r
-      → Wrote 40 from at out (partText r (eulerOf (getD vs r 0) (getD es r 0) (getD fs r 0)) (eqb (getD odd r 0) 0)) n out′
-      → Wrote 40 from at out (gather (partLine (rotation t)) (only (root? (rotation t) r) r)) n out′
-  unfolding partEuler
-  part-root e q w =
+module _ {R : Rotation} {words : List ℤ} {i r : ℕ} (k : RowAt R words i r) where
+  pub vertex-text : space ∷ integer (held (getD words i (pos 0))) ≡ space ∷ decimal r
+  unfolding integer
+  vertex-text =
       let h = k .low in
-      let tally = k .tallied .tally in
-      rw (
-        only-one (root? (rotation t) r) r (root-yes t (k .tallied .keyed) r h e q),
-        gather-one (partLine (rotation t)) r,
-        ← tally .vertices-at r h,
-        ← tally .edges-at r h,
-        ← tally .walks-at r h,
-        ← tally .orientable-at r h,
-      ) w
+      let fits : SFits w32 (pos r) = record { sfits = omega arith } in
+      rw (k .vertex, toZ-ofZ fits)
 
--- the loop over the vertices: the lines of the parts below r are written
-pub record Parting (t : List ℕ) (from at r end : ℕ) (out₀ out : List ℕ) : Type 0 where
-  pub low : r ≤ vertices
-  pub wrote : Wrote (40 * r) from at out₀ (gather (partLine (rotation t)) (partsBelow (rotation t) r)) end out
+  pub euler-text : space ∷ integer (held (getD words (i + 4) (pos 0))) ≡ space ∷ integer (partEuler R r)
+  euler-text = rw (k .euler, toZ-ofZ (k .fits))
 
-pub parting-none : (t : List ℕ) (from at : ℕ) (out : List ℕ) → Parting t from at 0 at out out
-unfolding partsBelow gather
-parting-none t from at out = record { low = omega arith; wrote = wrote-none from at out }
+  pub mark-held : held (getD words (i + 5) (pos 0)) ≡ flagOf (orientable R r)
+  mark-held = rw (k .mark) (toZ-ofZ (flag-fits (orientable R r)))
 
-parts-more : (R : Rotation) (r : ℕ) → gather (partLine R) (partsBelow R r) ++ gather (partLine R) (only (root? R r) r) ≡ gather (partLine R) (partsBelow R (r + 1))
-unfolding partsBelow
-parts-more R r = rw (add-one) (sym (gather-append (partLine R) (partsBelow R r) (only (root? R r) r)))
+-- where the rows of the parts stand
 
-pub parting-more : {t : List ℕ} {from at r end n : ℕ} {out₀ out out′ : List ℕ} → Parting t from at r end out₀ out → r < vertices
-    → Wrote 40 from end out (gather (partLine (rotation t)) (only (root? (rotation t) r) r)) n out′ → Parting t from at (r + 1) n out₀ out′
-parting-more {t} {r = r} k h w = record {
-  low = omega arith;
-  wrote = wrote-most (wrote-as (wrote-then (k .wrote) w) (parts-more (rotation t) r)) (40 * (r + 1)) (omega arith);
+countIn-few : (q : ℕ → Bool) (l : List ℕ) → countIn q l ≤ length l
+unfolding countIn
+countIn-few q [] = omega arith
+countIn-few q (x ∷ l) = one (q x) (countIn-few q l)
+  where
+    one : (b : Bool) {n m : ℕ} → n ≤ m → more b n ≤ suc m
+    one true h = omega arith
+    one false h = omega arith
+
+part-fits : {R : Rotation} → Lawful R → (r : ℕ) → SFits w32 (partEuler R r)
+unfolding partEuler verticesIn edgesIn walksIn faceCount
+part-fits {R} L r =
+    let v = count-le (λ v. R .there v && inPart R r v) vertices in
+    let e = count-le (λ e. R .live (2 * e) && inPart R r (R .from (2 * e))) edges in
+    let f = countIn-few (λ c. inPart R r (cornerVertex R c)) (faces R) in
+    let all = faces-low L in
+    euler-sfits (verticesIn R (inPart R r)) (edgesIn R (inPart R r)) (walksIn R (inPart R r)) (omega arith) (omega arith) (omega arith)
+
+module _ {R : Rotation} (L : Lawful R) (words room : List ℤ) (stored : words ≡ sets room 0 (rowsOf R (parts R))) (enough : length (rowsOf R (parts R)) ≤ length room) where
+  module _ (before : List ℕ) (r : ℕ) (after : List ℕ) (all : before ++ (r ∷ after) ≡ parts R) where
+    rest : List ℤ
+    rest = drop (length (rowsOf R (parts R))) room
+
+    word-at : (j : ℕ) → getD words (6 * length before + j) (pos 0) ≡ getD (rowsOf R (r ∷ after) ++ rest) j (pos 0)
+    unfolding rest
+    word-at j =
+        let split : words ≡ rowsOf R before ++ (rowsOf R (r ∷ after) ++ rest) =
+        stored ∙ sets-front (rowsOf R (parts R)) room enough
+        ∙ ap (λ l. l ++ rest) (ap (rowsOf R) (sym all) ∙ rows-append R before (r ∷ after))
+        ∙ append-assoc (rowsOf R before) (rowsOf R (r ∷ after)) rest in
+        ap (λ l. getD l (6 * length before + j) (pos 0)) split
+        ∙ ap (λ n. getD (rowsOf R before ++ (rowsOf R (r ∷ after) ++ rest)) (n + j) (pos 0)) (sym (six-each R before))
+        ∙ getD-append-add (rowsOf R before) (rowsOf R (r ∷ after) ++ rest) j (pos 0)
+
+    pub row-at : RowAt R words (6 * length before) r
+    unfolding rowsOf row partEuler
+    row-at = record {
+      vertex = ap (λ n. getD words n (pos 0)) (omega arith) ∙ word-at 0;
+      euler = word-at 4;
+      mark = word-at 5;
+      low = L .there-low r (root-there R r (listed-root R r (rw all at (has-right r before (r ∷ after) (has-head after refl)))));
+      fits = part-fits L r;
+    }
+
+pub rows-few : (R : Rotation) → length (rows R vertices) ≤ 6 * vertices
+rows-few R = let c = count-le (root? R) vertices in rw (rows-length R, parts-count R) (omega arith)
+
+-- the loop: the lines of the parts before word i are written
+pub record Parting (R : Rotation) (from at i end : ℕ) (out₀ out : List ℕ) : Type 0 where
+  pub done : List ℕ
+  pub left : List ℕ
+  pub all : done ++ left ≡ parts R
+  pub here : i ≡ 6 * length done
+  pub wrote : Wrote (40 * length done) from at out₀ (gather (partLine R) done) end out
+
+pub parting-none : (R : Rotation) (from at : ℕ) (out : List ℕ) → Parting R from at 0 at out out
+parting-none R from at out = record {
+  done = [];
+  left = parts R;
+  all = refl;
+  here = refl;
+  wrote = wrote-as (wrote-none from at out) (sym (gather-none (partLine R)));
 }
 
-pub parting-at : {t up vs es fs odd : List ℕ} {from at r end : ℕ} {out₀ out : List ℕ} → Tallied t up vs es fs odd → at < 2 ^ 44 → Parting t from at r end out₀ out → r < vertices
-    → TalliedAt t up vs es fs odd r end
-parting-at a l k h = record { tallied = a; low = h; near = let n = k .wrote .near in omega arith }
+data Next (l : List ℕ) : Type 0 where
+  none : l ≡ [] → Next l
+  part : (r : ℕ) (rest : List ℕ) → l ≡ r ∷ rest → Next l
 
-pub parting-all : {t : List ℕ} {from at r end : ℕ} {out₀ out : List ℕ} → Parting t from at r end out₀ out → vertices ≤ r
-    → Wrote parts-most from at out₀ (gather (partLine (rotation t)) (parts (rotation t))) end out
-unfolding parts
-parting-all {t} {r = r} k h =
-    let low = k .low in
-    let all : r ≡ vertices = omega arith in
-    wrote-most (wrote-as (k .wrote) (ap (λ n. gather (partLine (rotation t)) (partsBelow (rotation t) n)) all)) parts-most (omega arith)
+next : (l : List ℕ) → Next l
+next [] = none refl
+next (r ∷ l) = part r l refl
+
+-- the rows are all there
+module _ {R : Rotation} (L : Lawful R) {n : ℕ} {room words : List ℤ} (w : Written R vertices n room words) where
+  size : n ≡ 6 * length (parts R)
+  size = w .here ∙ rows-length R
+
+  stored : words ≡ sets room 0 (rowsOf R (parts R))
+  unfolding rows parts
+  stored = w .words
+
+  enough : length (rowsOf R (parts R)) ≤ length room
+  unfolding rows parts
+  enough = w .room
+
+  few : length (parts R) ≤ vertices
+  few = let c = count-le (root? R) vertices in rw (parts-count R) c
+
+  module _ {from at i end : ℕ} {out₀ out : List ℕ} (k : Parting R from at i end out₀ out) where
+    counted : length (k .done) + length (k .left) ≡ length (parts R)
+    counted = sym (length-append (k .done) (k .left)) ∙ ap length (k .all)
+
+    pub parting-near : (i ≤ n) × (n ≤ 6 * vertices) × (end ≤ at + parts-most)
+    parting-near =
+        let a = counted in
+        let b = few in
+        let s = size in
+        let h = k .here in
+        let e = k .wrote .near in
+        (omega arith, omega arith, omega arith)
+
+    pub parting-room : i < n → i + 6 ≤ n
+    parting-room l =
+        let a = counted in
+        let s = size in
+        let h = k .here in
+        omega arith
+
+    pub parting-more : {m : ℕ} {out′ : List ℕ} → i < n → LineOf words i from end out m out′ → Parting R from at (i + 6) m out₀ out′
+    parting-more l line = elim (next (k .left)) [
+      | none e ↦
+          let a = counted in
+          let s = size in
+          let h = k .here in
+          let z = ap length e in
+          absurd (omega arith)
+      | part r rest e ↦
+          let all : k .done ++ (r ∷ rest) ≡ parts R = ap (λ l. k .done ++ l) (sym e) ∙ k .all in
+          let row : RowAt R words i r = rw (k .here) (row-at L words room stored enough (k .done) r rest all) in
+          record {
+            done = k .done ++ (r ∷ []);
+            left = rest;
+            all = append-assoc (k .done) (r ∷ []) rest ∙ all;
+            here = let h = k .here in rw (length-append (k .done) (r ∷ [])) (omega arith);
+            wrote =
+                rw (length-append (k .done) (r ∷ []))
+                (wrote-most
+                (wrote-as (wrote-then (k .wrote) (line R r row)) (ap (λ x. gather (partLine R) (k .done) ++ x) (sym (gather-one (partLine R) r)) ∙ sym (gather-append (partLine R) (k .done) (r ∷ []))))
+                (40 * (length (k .done) + 1)) (omega arith));
+          }
+    ]
+
+    pub parting-all : n ≤ i → Wrote parts-most from at out₀ (gather (partLine R) (parts R)) end out
+    parting-all l = elim (next (k .left)) [
+      | none e ↦
+          let b = few in
+          let all : k .done ≡ parts R = sym (append-nil (k .done)) ∙ ap (λ l. k .done ++ l) (sym e) ∙ k .all in
+          let same = ap length all in
+          wrote-most (wrote-as (k .wrote) (ap (gather (partLine R)) all)) parts-most (omega arith)
+      | part r rest e ↦
+          let a = counted in
+          let s = size in
+          let h = k .here in
+          let z = ap length e in
+          absurd (omega arith)
+    ]

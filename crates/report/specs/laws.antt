@@ -1,6 +1,4 @@
-pub mod Wrote
+pub mod Mesh
 pub mod Parts
-pub mod Steps
-pub mod Walks
 pub mod Whole
 pub mod Window

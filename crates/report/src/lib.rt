@@ -2,5 +2,3 @@
 pub mod line;
 pub mod part;
 pub mod report;
-pub mod step;
-pub mod walk;

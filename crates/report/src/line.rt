@@ -1,35 +1,15 @@
-// The fields of a line, and the lines of the mesh and of the weave.
+// The lines of the mesh and of the weave.
 use alternation::plain::is_plain;
+use lines::field::field;
+use lines::field::signed_field;
 use measure::mesh::measure_mesh;
-use text::number::integer;
-use text::number::number;
 use text::window::byte;
 use text::window::bytes;
 ghost use Prim.Native.Nat.{_<_, _^_};
-ghost use mathlib.Core.List.{_∷_};
 ghost use Rattle.table.specs.Good.{Good};
 ghost use Rattle.table.specs.Rotation.{rotation};
-ghost use Rattle.text.specs.Decimal.{decimal, integer as integerText};
-ghost use Rattle.report.specs.Lines.{space, meshText, meshLine, weaveLine};
-ghost use Rattle.report.specs.laws.Wrote.{Wrote};
-
-// A space and n.
-pub fn field(out: &mut [u8], from: usize, at: usize, n: u64) -> usize
-    requires { ⌜ at < 2 ^ 47 ⌝ }
-    ensures { λ r. ⌜ Wrote 21 from at (now (out .entry)) (space ∷ decimal n) r (now (out .exit)) ⌝ }
-{
-    let next = byte(out, from, at, b' ');
-    number(out, from, next, n)
-}
-
-// A space and z.
-pub fn signed_field(out: &mut [u8], from: usize, at: usize, z: i32) -> usize
-    requires { ⌜ at < 2 ^ 47 ⌝ }
-    ensures { λ r. ⌜ Wrote 12 from at (now (out .entry)) (space ∷ integerText z) r (now (out .exit)) ⌝ }
-{
-    let next = byte(out, from, at, b' ');
-    integer(out, from, next, z)
-}
+ghost use Rattle.lines.specs.Lines.{meshText, meshLine, weaveLine};
+ghost use Rattle.lines.specs.laws.Wrote.{Wrote};
 
 // The line of a mesh of these counts.
 fn write_mesh(

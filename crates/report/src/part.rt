@@ -1,6 +1,6 @@
 // The lines of the parts, upward, read off their rows.
-use crate::line::signed_field;
 use labels::forest::label_parts;
+use lines::field::signed_field;
 use measure::rows::labelled_rows;
 use table::layout::VERTICES;
 use text::window::byte;
@@ -11,8 +11,8 @@ ghost use Rattle.table.specs.Good.{Good};
 ghost use Rattle.table.specs.Rotation.{rotation};
 ghost use Rattle.tracing.specs.Listing.{gather};
 ghost use Rattle.surface.specs.Parts.{parts};
-ghost use Rattle.report.specs.Lines.{partLine};
-ghost use Rattle.report.specs.laws.Wrote.{Wrote, parts-most};
+ghost use Rattle.lines.specs.Lines.{partLine};
+ghost use Rattle.lines.specs.laws.Wrote.{Wrote, parts-most};
 ghost use Rattle.report.specs.laws.Parts.{Sided, LineOf};
 
 // o for the mark of an orientable part, n for the other.

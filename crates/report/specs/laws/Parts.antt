@@ -33,8 +33,8 @@ use Rattle.tallies.specs.laws.EulerWord.{euler-sfits}
 use Rattle.measure.specs.laws.Rows.{Written, rows-append, flag-fits}
 use Rattle.measure.specs.laws.Mesh.{six-each, rows-length, faces-low, parts-count}
 use Rattle.text.specs.Decimal.{decimal, integer}
-use Rattle.report.specs.Lines.{space, side, partLine}
-use Rattle.report.specs.laws.Wrote.{Wrote, wrote-none, wrote-then, wrote-as, wrote-most, parts-most}
+use Rattle.lines.specs.Lines.{space, side, partLine}
+use Rattle.lines.specs.laws.Wrote.{Wrote, wrote-none, wrote-then, wrote-as, wrote-most, parts-most}
 
 -- of whatever part has this mark
 abbrev pub Sided : ℤ → ℕ → Type 0

@@ -1,5 +1,6 @@
 -- `line::mesh_line` meets its contract: the line of the counts of the mesh.
-use Rattle.report.specs.laws.Wrote.{wrote-as, mesh-text}
+use Rattle.lines.specs.laws.Wrote.{wrote-as}
+use Rattle.report.specs.laws.Mesh.{mesh-text}
 use borrow.Author.Needs.{needs}
 use Rattle.report.proofs.line.mesh_line.Statement.{statement}
 use Rattle.report.proofs.line.mesh_line.Tie as tie

@@ -1,6 +1,6 @@
 -- `line::weave_line` meets its contract, a return for each word.
 use mathlib.Core.Path.{sym, _∙_}
-use Rattle.report.specs.laws.Wrote.{weave-plain, weave-mixed}
+use Rattle.report.specs.laws.Mesh.{weave-plain, weave-mixed}
 use borrow.Author.Needs.{needs}
 use Rattle.report.proofs.line.weave_line.Statement.{statement}
 use Rattle.report.proofs.line.weave_line.Tie as tie

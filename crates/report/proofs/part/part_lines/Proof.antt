@@ -2,7 +2,7 @@
 use Rattle.table.specs.Rotation.{rotation}
 use Rattle.table.specs.laws.Lawful.{good-lawful}
 use Rattle.report.specs.laws.Parts.{rows-few, Parting, parting-none, parting-near, parting-room, parting-more, parting-all}
-use Rattle.report.specs.laws.Wrote.{wrote-length}
+use Rattle.lines.specs.laws.Wrote.{wrote-length}
 use Prim.Native.Nat.{_-_}
 use native.Mathlib.Omega.{arith}
 use borrow.Author.Needs.{needs}
@@ -40,7 +40,10 @@ part-line-requires c κs =
     let loop = c .before .before .before .loop in
     let labelled-rows = c .before .before .before .before .before .labelled-rows in
     let start = c .before .before .before .before .before .before .before .before .before .before .before .before .before .before in
-    let l = good-lawful _ (start .pre .0) in let k = loop .inv in let m = parting-near l (labelled-rows .ensures) k in let r = parting-room l (labelled-rows .ensures) k (c .before .before .loop-test .taken) in (omega arith, omega arith)
+    let lawful = good-lawful _ (start .pre .0) in
+    let near = parting-near lawful (labelled-rows .ensures) (loop .inv) in
+    let room = parting-room lawful (labelled-rows .ensures) (loop .inv) (c .before .before .loop-test .taken) in
+    (omega arith, omega arith)
 
 add-i : tie.Need-add-i Inv-loop μ-loop
 add-i c =

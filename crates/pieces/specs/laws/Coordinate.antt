@@ -9,11 +9,11 @@ use lib.IntN.{ℤ, pos, negsuc, negℤ, natAbs, _+ℤ_, _-ℤ_, _*ℤ_}
 use lib.Ieee.{Float}
 use lib.ListN.{length}
 use mir.Syntax.{w32}
-use mir.Val.{SFits, toZ, ofZ}
+use mir.Val.{SFits}
 use mir.Facts.{toZ-ofZ}
 use borrow.Author.Tests.{eq-eqb, ne-eqb}
 use Rattle.orbits.specs.laws.Truth.{truth, holds, fails}
-use Rattle.table.specs.laws.Signed.{size-sum, size-minus, size-twice}
+use Rattle.table.specs.laws.Signed.{handed, size-sum, size-minus, size-twice}
 use Rattle.weave.specs.Letters.{over, under}
 use Rattle.pieces.specs.Exact.{largest, over32}
 use Rattle.pieces.specs.Path.{farthestPoint, farthestLift, sixteenths, thirtySeconds, pointAt}
@@ -28,41 +28,37 @@ pub record NearEnds (a b l : ℤ) : Type 0 where
   pub second : natAbs b ≤ farthestPoint
   pub lift : natAbs l ≤ farthestLift
 
--- a number as the machine has it
-abbrev pub held : ℤ → ℤ
-held z = toZ w32 (ofZ w32 z)
-
-held-is : (z : ℤ) → natAbs z ≤ largest → held z ≡ z
-held-is z h = toZ-ofZ {w = w32} {z = z} (size-fits z h)
+handed-is : (z : ℤ) → natAbs z ≤ largest → handed z ≡ z
+handed-is z h = toZ-ofZ {w = w32} {z = z} (size-fits z h)
 
 module _ {a b l : ℤ} (n : NearEnds a b l) where
-  first-is : held a ≡ a
-  first-is = held-is a (let f = n .first in omega arith)
+  first-is : handed a ≡ a
+  first-is = handed-is a (let f = n .first in omega arith)
 
-  second-is : held b ≡ b
-  second-is = held-is b (let f = n .second in omega arith)
+  second-is : handed b ≡ b
+  second-is = handed-is b (let f = n .second in omega arith)
 
-  lift-is : held l ≡ l
-  lift-is = held-is l (let f = n .lift in omega arith)
+  lift-is : handed l ≡ l
+  lift-is = handed-is l (let f = n .lift in omega arith)
 
   -- a+b
   ends-few : natAbs (a +ℤ b) ≤ 131072
   ends-few = let s = size-sum a b in let f = n .first in let g = n .second in omega arith
 
-  pub ends-fit : SFits w32 (held a +ℤ held b)
+  pub ends-fit : SFits w32 (handed a +ℤ handed b)
   ends-fit = rw (first-is, second-is) (size-fits (a +ℤ b) (let few = ends-few in omega arith))
 
-  ends-are : held (held a +ℤ held b) ≡ a +ℤ b
+  ends-are : handed (handed a +ℤ handed b) ≡ a +ℤ b
   ends-are = toZ-ofZ {w = w32} ends-fit ∙ rw (first-is, second-is)
 
   -- 2l
   twice-few : natAbs (pos 2 *ℤ l) ≤ 8192
   twice-few = let s = size-twice l in let f = n .lift in omega arith
 
-  pub twice-fits : SFits w32 (pos 2 *ℤ held l)
+  pub twice-fits : SFits w32 (pos 2 *ℤ handed l)
   twice-fits = rw lift-is (size-fits (pos 2 *ℤ l) (let few = twice-few in omega arith))
 
-  twice-is : held (pos 2 *ℤ held l) ≡ pos 2 *ℤ l
+  twice-is : handed (pos 2 *ℤ handed l) ≡ pos 2 *ℤ l
   twice-is = toZ-ofZ {w = w32} twice-fits ∙ rw lift-is
 
   -- a+b+2l
@@ -73,10 +69,10 @@ module _ {a b l : ℤ} (n : NearEnds a b l) where
       let few = ends-few in
       omega arith
 
-  pub over-fits : SFits w32 (held (held a +ℤ held b) +ℤ held (pos 2 *ℤ held l))
+  pub over-fits : SFits w32 (handed (handed a +ℤ handed b) +ℤ handed (pos 2 *ℤ handed l))
   over-fits = rw (ends-are, twice-is) (size-fits (a +ℤ b +ℤ pos 2 *ℤ l) over-few)
 
-  over-is : held (held (held a +ℤ held b) +ℤ held (pos 2 *ℤ held l)) ≡ a +ℤ b +ℤ pos 2 *ℤ l
+  over-is : handed (handed (handed a +ℤ handed b) +ℤ handed (pos 2 *ℤ handed l)) ≡ a +ℤ b +ℤ pos 2 *ℤ l
   over-is = toZ-ofZ {w = w32} over-fits ∙ rw (ends-are, twice-is)
 
   -- a+b-2l
@@ -88,33 +84,33 @@ module _ {a b l : ℤ} (n : NearEnds a b l) where
       let few = ends-few in
       omega arith
 
-  pub under-fits : SFits w32 (held (held a +ℤ held b) -ℤ held (pos 2 *ℤ held l))
+  pub under-fits : SFits w32 (handed (handed a +ℤ handed b) -ℤ handed (pos 2 *ℤ handed l))
   under-fits = rw (ends-are, twice-is) (size-fits (a +ℤ b -ℤ pos 2 *ℤ l) under-few)
 
-  under-is : held (held (held a +ℤ held b) -ℤ held (pos 2 *ℤ held l)) ≡ a +ℤ b -ℤ pos 2 *ℤ l
+  under-is : handed (handed (handed a +ℤ handed b) -ℤ handed (pos 2 *ℤ handed l)) ≡ a +ℤ b -ℤ pos 2 *ℤ l
   under-is = toZ-ofZ {w = w32} under-fits ∙ rw (ends-are, twice-is)
 
   -- what the float is made of is small enough
-  pub over-small : natAbs (held (held (held a +ℤ held b) +ℤ held (pos 2 *ℤ held l))) ≤ largest
+  pub over-small : natAbs (handed (handed (handed a +ℤ handed b) +ℤ handed (pos 2 *ℤ handed l))) ≤ largest
   over-small = rw over-is over-few
 
-  pub under-small : natAbs (held (held (held a +ℤ held b) -ℤ held (pos 2 *ℤ held l))) ≤ largest
+  pub under-small : natAbs (handed (handed (handed a +ℤ handed b) -ℤ handed (pos 2 *ℤ handed l))) ≤ largest
   under-small = rw under-is under-few
 
-  pub flat-small : natAbs (held (held a +ℤ held b)) ≤ largest
+  pub flat-small : natAbs (handed (handed a +ℤ handed b)) ≤ largest
   flat-small = rw ends-are (let few = ends-few in omega arith)
 
   -- the three ways to pass
   module _ {letter : ℕ} {r : Float} where
-    pub coordinate-over : letter ≡ over → r ≡ over32 (held (held (held a +ℤ held b) +ℤ held (pos 2 *ℤ held l))) → r ≡ over32 (thirtySeconds letter a b l)
+    pub coordinate-over : letter ≡ over → r ≡ over32 (handed (handed (handed a +ℤ handed b) +ℤ handed (pos 2 *ℤ handed l))) → r ≡ over32 (thirtySeconds letter a b l)
     unfolding thirtySeconds
     coordinate-over e f = f ∙ ap over32 over-is ∙ rw (eq-eqb letter over e)
 
-    pub coordinate-under : letter ≢ over → letter ≡ under → r ≡ over32 (held (held (held a +ℤ held b) -ℤ held (pos 2 *ℤ held l))) → r ≡ over32 (thirtySeconds letter a b l)
+    pub coordinate-under : letter ≢ over → letter ≡ under → r ≡ over32 (handed (handed (handed a +ℤ handed b) -ℤ handed (pos 2 *ℤ handed l))) → r ≡ over32 (thirtySeconds letter a b l)
     unfolding thirtySeconds
     coordinate-under m e f = f ∙ ap over32 under-is ∙ rw (ne-eqb letter over m, eq-eqb letter under e)
 
-    pub coordinate-flat : letter ≢ over → letter ≢ under → r ≡ over32 (held (held a +ℤ held b)) → r ≡ over32 (thirtySeconds letter a b l)
+    pub coordinate-flat : letter ≢ over → letter ≢ under → r ≡ over32 (handed (handed a +ℤ handed b)) → r ≡ over32 (thirtySeconds letter a b l)
     unfolding thirtySeconds
     coordinate-flat m e f = f ∙ ap over32 ends-are ∙ rw (ne-eqb letter over m, ne-eqb letter under e)
 
@@ -130,10 +126,10 @@ coordinate-few letter n = elim (truth (eqb letter over)) [
 ]
 
 -- a lent word that is handed on keeps its value
-pub near-held : {a b l : ℤ} → NearEnds a b l → NearEnds (held a) (held b) (held l)
-near-held n = rw (first-is n, second-is n, lift-is n) n
+pub near-handed : {a b l : ℤ} → NearEnds a b l → NearEnds (handed a) (handed b) (handed l)
+near-handed n = rw (first-is n, second-is n, lift-is n) n
 
-coordinate-read : (letter : ℕ) {a b l : ℤ} {r : Float} → NearEnds a b l → r ≡ over32 (thirtySeconds letter (held a) (held b) (held l)) → r ≡ over32 (thirtySeconds letter a b l)
+coordinate-read : (letter : ℕ) {a b l : ℤ} {r : Float} → NearEnds a b l → r ≡ over32 (thirtySeconds letter (handed a) (handed b) (handed l)) → r ≡ over32 (thirtySeconds letter a b l)
 coordinate-read letter n e = e ∙ rw (first-is n, second-is n, lift-is n)
 
 -- the words of a point, which begin at i, j and k, are in range
@@ -151,7 +147,7 @@ pub record Readable (points lifts : List ℤ) (i j k : ℕ) : Type 0 where
 
 -- the coordinate at three places, of words as the machine has them
 abbrev pub readAt : ℕ → List ℤ → List ℤ → ℕ → ℕ → ℕ → Float
-readAt letter points lifts i j k = over32 (thirtySeconds letter (held (sixteenths points i)) (held (sixteenths points j)) (held (sixteenths lifts k)))
+readAt letter points lifts i j k = over32 (thirtySeconds letter (handed (sixteenths points i)) (handed (sixteenths points j)) (handed (sixteenths lifts k)))
 
 pub point-made : (letter : ℕ) {points lifts : List ℤ} {i j k : ℕ} {x y z : Float} → NearThree points lifts i j k → x ≡ readAt letter points lifts i j k
     → y ≡ readAt letter points lifts (i + 1) (j + 1) (k + 1) → z ≡ readAt letter points lifts (i + 2) (j + 2) (k + 2)

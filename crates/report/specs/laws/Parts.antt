@@ -11,13 +11,14 @@ use lib.IntN.{ℤ, pos}
 use lib.ListN.{length, getD, drop, length-append}
 use lib.Seq.{sets, getD-append-add}
 use mir.Syntax.{w32}
-use mir.Val.{SFits, toZ, ofZ}
+use mir.Val.{SFits, ofZ}
 use mir.Facts.{toZ-ofZ}
 use Rattle.orbits.specs.Count.{more}
 use Rattle.orbits.specs.laws.Count.{count-le}
 use Rattle.table.specs.Layout.{vertices, edges}
 use Rattle.table.specs.Rotation.{Rotation, Lawful}
 use Rattle.table.specs.laws.Output.{sets-front}
+use Rattle.table.specs.laws.Signed.{handed}
 use Rattle.tracing.specs.Listing.{gather, faces, faceCount}
 use Rattle.tracing.specs.laws.Listing.{gather-one, gather-none, gather-append}
 use Rattle.tracing.specs.Met.{countIn}
@@ -60,23 +61,19 @@ pub record RowAt (R : Rotation) (words : List ℤ) (i r : ℕ) : Type 0 where
 abbrev pub LineOf : List ℤ → ℕ → ℕ → ℕ → List ℕ → ℕ → List ℕ → Type 0
 LineOf words i from at out n out′ = (R : Rotation) (r : ℕ) → RowAt R words i r → Wrote 40 from at out (partLine R r) n out′
 
--- a word of a row, as it is handed on
-abbrev held : ℤ → ℤ
-held z = toZ w32 (ofZ w32 z)
-
 module _ {R : Rotation} {words : List ℤ} {i r : ℕ} (k : RowAt R words i r) where
-  pub vertex-text : space ∷ integer (held (getD words i (pos 0))) ≡ space ∷ decimal r
+  pub vertex-text : space ∷ integer (handed (getD words i (pos 0))) ≡ space ∷ decimal r
   unfolding integer
   vertex-text =
       let h = k .low in
       let fits : SFits w32 (pos r) = record { sfits = omega arith } in
       rw (k .vertex, toZ-ofZ fits)
 
-  pub euler-text : space ∷ integer (held (getD words (i + 4) (pos 0))) ≡ space ∷ integer (partEuler R r)
+  pub euler-text : space ∷ integer (handed (getD words (i + 4) (pos 0))) ≡ space ∷ integer (partEuler R r)
   euler-text = rw (k .euler, toZ-ofZ (k .fits))
 
-  pub mark-held : held (getD words (i + 5) (pos 0)) ≡ flagOf (orientable R r)
-  mark-held = rw (k .mark) (toZ-ofZ (flag-fits (orientable R r)))
+  pub mark-handed : handed (getD words (i + 5) (pos 0)) ≡ flagOf (orientable R r)
+  mark-handed = rw (k .mark) (toZ-ofZ (flag-fits (orientable R r)))
 
 -- where the rows of the parts stand
 

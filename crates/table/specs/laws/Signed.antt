@@ -7,7 +7,13 @@ use native.Mathlib.Decide.{decLt}
 use mathlib.Core.Path.{_≡_, refl, sym, _∙_, ap}
 use lib.IntN.{ℤ, pos, negsuc, negℤ, natAbs, subℕ, _+ℤ_, _-ℤ_, _*ℤ_}
 use lib.Signed.{mag}
+use mir.Syntax.{w32}
+use mir.Val.{toZ, ofZ}
 use borrow.Author.Tests.{lt-ltb, le-ltb}
+
+-- z, as a word of 32 bits hands it on
+abbrev pub handed : ℤ → ℤ
+handed z = toZ w32 (ofZ w32 z)
 
 -- z is a − b
 pub data Difference (a b : ℕ) (z : ℤ) : Type 0 where

@@ -1,5 +1,5 @@
 -- `piece::point_at` meets its contract: three coordinates, each of lent words that are there and in range.
-use Rattle.pieces.specs.laws.Coordinate.{near-held, point-made}
+use Rattle.pieces.specs.laws.Coordinate.{near-handed, point-made}
 use borrow.Author.Needs.{needs}
 use Rattle.pieces.proofs.piece.point_at.Statement.{statement}
 use Rattle.pieces.proofs.piece.point_at.Tie as tie
@@ -23,7 +23,7 @@ shared-slice-copy-out-coordinate-3 : tie.Need-shared-slice-copy-out-coordinate-3
 shared-slice-copy-out-coordinate-3 c = search needs
 
 coordinate-requires : tie.Need-coordinate-requires
-coordinate-requires c κs = near-held (c .before .before .before .pre .near .near-x)
+coordinate-requires c κs = near-handed (c .before .before .before .pre .near .near-x)
 
 add-coordinate : tie.Need-add-coordinate
 add-coordinate c = search needs
@@ -53,7 +53,7 @@ shared-slice-copy-out-coordinate-6 : tie.Need-shared-slice-copy-out-coordinate-6
 shared-slice-copy-out-coordinate-6 c = search needs
 
 coordinate-requires-2 : tie.Need-coordinate-requires-2
-coordinate-requires-2 c κs = near-held (c .before .before .before .before .before .before .before .pre .near .near-y)
+coordinate-requires-2 c κs = near-handed (c .before .before .before .before .before .before .before .pre .near .near-y)
 
 add-coordinate-4 : tie.Need-add-coordinate-4
 add-coordinate-4 c = search needs
@@ -83,7 +83,7 @@ shared-slice-copy-out-coordinate-9 : tie.Need-shared-slice-copy-out-coordinate-9
 shared-slice-copy-out-coordinate-9 c = search needs
 
 coordinate-requires-3 : tie.Need-coordinate-requires-3
-coordinate-requires-3 c κs = near-held (c .before .before .before .before .before .before .before .before .before .before .before .pre .near .near-z)
+coordinate-requires-3 c κs = near-handed (c .before .before .before .before .before .before .before .before .before .before .before .pre .near .near-z)
 
 returns : tie.Need-returns
 returns c =

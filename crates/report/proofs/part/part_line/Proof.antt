@@ -1,6 +1,6 @@
 -- `part::part_line` meets its contract: the word and three fields, one after the other.
 use Rattle.surface.specs.Labels.{orientable}
-use Rattle.report.specs.laws.Parts.{vertex-text, euler-text, mark-held}
+use Rattle.report.specs.laws.Parts.{vertex-text, euler-text, mark-handed}
 use Rattle.lines.specs.laws.Wrote.{short, wrote-then, wrote-as, wrote-most}
 use Rattle.lines.specs.Lines.{partText}
 use mathlib.Core.List.{[], _∷_}
@@ -72,7 +72,7 @@ returns c =
     let bytes = back .before .before .before .before .before .before .before .before .before .bytes in
     let side = back .before .before .before .before .before .before .before .before .before .before .before .before .side in
     λ R r k.
-    let mark = wrote-as (short 1 (byte2 .ensures) (omega arith)) (ap (λ x. x ∷ []) (side .ensures (orientable R r) (mark-held k))) in
+    let mark = wrote-as (short 1 (byte2 .ensures) (omega arith)) (ap (λ x. x ∷ []) (side .ensures (orientable R r) (mark-handed k))) in
     let vertex = wrote-then (short 4 (bytes .ensures) (omega arith)) (wrote-as (signed-field .ensures) (vertex-text k)) in
     let euler = wrote-then vertex (wrote-as (signed-field2 .ensures) (euler-text k)) in
     let line = wrote-then (wrote-then euler (wrote-then (short 1 (byte .ensures) (omega arith)) mark)) (short 1 (c .before .before .byte3 .ensures) (omega arith)) in

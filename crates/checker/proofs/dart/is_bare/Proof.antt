@@ -1,4 +1,4 @@
--- `table::dart::is_bare` meets its contract. Are the three words of a dart that is not live 65,535.
+-- `dart::is_bare` meets its contract. Are the three words of a dart that is not live 65,535.
 use mathlib.Core.Path.{refl}
 use Rattle.table.specs.laws.Rotation.{holds, fails}
 use borrow.Author.Needs.{needs}

@@ -1,4 +1,4 @@
--- `table::dart::is_linked` meets its contract. Does a live dart leave a vertex, and do "next" and "previous" undo each other at it, at one vertex.
+-- `dart::is_linked` meets its contract. Does a live dart leave a vertex, and do "next" and "previous" undo each other at it, at one vertex.
 use mathlib.Core.Path.{refl}
 use native.Mathlib.Omega.{arith}
 use Rattle.table.specs.laws.Rotation.{holds, fails}

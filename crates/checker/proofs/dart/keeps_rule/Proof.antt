@@ -1,4 +1,4 @@
--- `table::dart::keeps_rule` meets its contract. Does dart d keep its rules, by what its edge's word w says.
+-- `dart::keeps_rule` meets its contract. Does dart d keep its rules, by what its edge's word w says.
 use Rattle.table.specs.laws.Darts.{rule-dead, rule-live}
 use Rattle.table.specs.laws.Rotation.{case-map, fails}
 use native.Mathlib.Omega.{arith}

@@ -1,4 +1,4 @@
--- `table::dart::live_darts` meets its contract. The number of live darts, if each dart keeps its rules. The loop keeps `RuledBelow`, and `darts - d` falls.
+-- `dart::live_darts` meets its contract. The number of live darts, if each dart keeps its rules. The loop keeps `RuledBelow`, and `darts - d` falls.
 use Rattle.table.specs.laws.Darts.{passed-few, RuledBelow, passed-none, passed-live, passed-dead, passed-all, passed-broken}
 use borrow.Author.Tests.{not-true, not-false}
 use mathlib.Core.Path.{refl}

@@ -1,4 +1,4 @@
--- `table::vertex::cycle` meets its contract. The number of darts on the cycle of w, or 0 where a smaller dart is on it. The loop keeps `Round`, and `darts - n` falls.
+-- `vertex::cycle` meets its contract. The number of darts on the cycle of w, or 0 where a smaller dart is on it. The loop keeps `Round`, and `darts - n` falls.
 use Rattle.table.specs.laws.Cycle.{Round, round-none, round-more, round-short, round-all, round-lower}
 use Rattle.table.specs.Layout.{darts}
 use mir.Facts.{fits-16-64}

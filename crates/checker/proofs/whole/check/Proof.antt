@@ -1,4 +1,4 @@
--- `table::whole::check` meets its contract. The check, as a call: 0 for a good table, and torn for every other slice.
+-- `whole::check` meets its contract. The check, as a call: 0 for a good table, and torn for every other slice.
 use Rattle.table.specs.Answers.{unless}
 use Rattle.table.specs.declared.answer.Answer.the-variants.{Done, Declined}
 use Rattle.table.specs.declared.answer.Refusal.the-variants.{Torn}

@@ -1,4 +1,4 @@
--- `table::whole::is_good` meets its contract. Is t a good table. Keeps no array, and reads each word a few times at most.
+-- `whole::is_good` meets its contract. Is t a good table. Keeps no array, and reads each word a few times at most.
 use Rattle.table.specs.laws.Check.{good-yes, good-no}
 use Rattle.table.specs.laws.Vertices.{counted-good, good-counted}
 use Rattle.table.specs.laws.Counting.{counts-broken, counts-of}

@@ -1,4 +1,4 @@
--- `edits::apply::apply` meets its contract. Does the edit, or declines it. Answers the new face count.
+-- `apply::apply` meets its contract. Does the edit, or declines it. Answers the new face count.
 use Rattle.edits.specs.laws.Edits.{same-edit, same-insertion, same-turn}
 use borrow.Author.Needs.{needs}
 use Rattle.editor.proofs.apply.apply.Statement.{statement}

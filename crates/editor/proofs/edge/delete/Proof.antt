@@ -1,4 +1,4 @@
--- `edits::edge::delete` meets its contract. Takes edge e out.
+-- `edge::delete` meets its contract. Takes edge e out.
 use Rattle.edits.specs.laws.Ready.{ready-second}
 use Rattle.edits.specs.laws.Edge.{delete-last}
 use denote.Ref.{now}

@@ -1,4 +1,4 @@
--- `edits::edge::delete_edge` meets its contract. Deletes edge e. Answers the new face count.
+-- `edge::delete_edge` meets its contract. Deletes edge e. Answers the new face count.
 use Rattle.edits.specs.laws.WrittenGood.{delete-good, may-delete-ready}
 use Rattle.edits.specs.declared.edit.Edit.the-variants.{DeleteEdge}
 use Rattle.edits.specs.laws.Edits.{went-through, was-declined}

@@ -1,4 +1,4 @@
--- `edits::edge::first_corner` meets its contract. The corner of the first dart, once the second is in.
+-- `edge::first_corner` meets its contract. The corner of the first dart, once the second is in.
 use borrow.Author.Tests.{eq-eqb, ne-eqb}
 use borrow.Author.Needs.{needs}
 use Rattle.editor.proofs.edge.first_corner.Statement.{statement}

@@ -1,4 +1,4 @@
--- `edits::edge::insert_edge` meets its contract. Inserts edge e with turns k: dart 2e into corner c1, 2e+1 into c2. Answers the new face count.
+-- `edge::insert_edge` meets its contract. Inserts edge e with turns k: dart 2e into corner c1, 2e+1 into c2. Answers the new face count.
 use Rattle.edits.specs.laws.WrittenGood.{insert-good, may-insert-ready}
 use Rattle.edits.specs.declared.edit.Edit.the-variants.{InsertEdge}
 use Rattle.edits.specs.laws.Edits.{went-through, was-declined}

@@ -1,4 +1,4 @@
--- `edits::edge::turn_edge` meets its contract. Turns edge e by an amount. Answers the new face count.
+-- `edge::turn_edge` meets its contract. Turns edge e by an amount. Answers the new face count.
 use Rattle.edits.specs.laws.WrittenGood.{turn-good}
 use Rattle.edits.specs.declared.edit.Edit.the-variants.{TurnEdge}
 use Rattle.edits.specs.laws.Edits.{went-through, was-declined}

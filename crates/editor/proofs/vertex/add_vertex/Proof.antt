@@ -1,4 +1,4 @@
--- `edits::vertex::add_vertex` meets its contract. Adds vertex v. Answers the new face count.
+-- `vertex::add_vertex` meets its contract. Adds vertex v. Answers the new face count.
 use Rattle.edits.specs.laws.WrittenGood.{add-good}
 use Rattle.edits.specs.declared.edit.Edit.the-variants.{AddVertex}
 use Rattle.edits.specs.laws.Edits.{went-through, was-declined}

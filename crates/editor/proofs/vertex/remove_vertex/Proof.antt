@@ -1,4 +1,4 @@
--- `edits::vertex::remove_vertex` meets its contract. Removes the isolated vertex v. Answers the new face count.
+-- `vertex::remove_vertex` meets its contract. Removes the isolated vertex v. Answers the new face count.
 use Rattle.edits.specs.laws.WrittenGood.{remove-good}
 use Rattle.edits.specs.declared.edit.Edit.the-variants.{RemoveVertex}
 use Rattle.edits.specs.laws.Edits.{went-through, was-declined}

@@ -1,4 +1,4 @@
--- `edits::splice::cut` meets its contract. Lets n come next after p, and takes x out.
+-- `splice::cut` meets its contract. Lets n come next after p, and takes x out.
 use lib.ListN.{length-set}
 use native.Mathlib.Omega.{arith}
 use borrow.Author.Needs.{needs}

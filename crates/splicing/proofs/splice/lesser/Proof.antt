@@ -1,4 +1,4 @@
--- `edits::splice::lesser` meets its contract. The smaller of a vertex's word and a dart.
+-- `splice::lesser` meets its contract. The smaller of a vertex's word and a dart.
 use borrow.Author.Tests.{lt-ltb, le-ltb}
 use borrow.Author.Needs.{needs}
 use Rattle.splicing.proofs.splice.lesser.Statement.{statement}

@@ -1,4 +1,4 @@
--- `edits::splice::link` meets its contract. Puts dart x into corner c.
+-- `splice::link` meets its contract. Puts dart x into corner c.
 use Rattle.edits.specs.laws.Edge.{dart-link, link-past}
 use denote.Ref.{now}
 use mir.Facts.{fits-16-64}

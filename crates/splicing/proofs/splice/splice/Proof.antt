@@ -1,4 +1,4 @@
--- `edits::splice::splice` meets its contract. Puts x between p and d at vertex v, whose word becomes w.
+-- `splice::splice` meets its contract. Puts x between p and d at vertex v, whose word becomes w.
 use lib.ListN.{length-set}
 use native.Mathlib.Omega.{arith}
 use borrow.Author.Needs.{needs}

@@ -1,4 +1,4 @@
--- `edits::splice::successor` meets its contract. The word of vertex v once dart x is out, where it was w. The loop keeps `Seeking`, and `darts - d` falls.
+-- `splice::successor` meets its contract. The word of vertex v once dart x is out, where it was w. The loop keeps `Seeking`, and `darts - d` falls.
 use Rattle.edits.specs.laws.Unlink.{Seeking, seeking-none, seeking-more, seeking-here, seeking-all}
 use Rattle.table.specs.Layout.{darts}
 use borrow.Author.Tests.{eq-eqb, ne-eqb}

@@ -1,4 +1,4 @@
--- `edits::splice::unlink` meets its contract. Takes dart x out of its vertex's cycle.
+-- `splice::unlink` meets its contract. Takes dart x out of its vertex's cycle.
 use Rattle.edits.specs.laws.Unlink.{unlink-last}
 use denote.Ref.{now}
 use borrow.Author.Needs.{needs}

@@ -1,4 +1,4 @@
--- `table::answer::code` meets its contract. The answer as C gets it: the number, or the refusal's code.
+-- `answer::code` meets its contract. The answer as C gets it: the number, or the refusal's code.
 use native.Mathlib.Omega.{arith}
 use Rattle.table.specs.laws.Answers.{handed-on}
 use Rattle.table.specs.Answers.{codeOf}

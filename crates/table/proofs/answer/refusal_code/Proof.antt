@@ -1,4 +1,4 @@
--- `table::answer::refusal_code` meets its contract: a refusal's number is small, so that minus it fits.
+-- `answer::refusal_code` meets its contract: a refusal's number is small, so that minus it fits.
 use Rattle.table.specs.laws.Answers.{number-fits, minus-fits, minus-is}
 use borrow.Author.Needs.{needs}
 use Rattle.table.proofs.answer.refusal_code.Statement.{statement}

@@ -1,4 +1,4 @@
--- `edits::turns::turned_word` meets its contract. The word of an edge of word w once it is turned by an amount, or 0 if its turns would pass 99 either way.
+-- `turns::turned_word` meets its contract. The word of an edge of word w once it is turned by an amount, or 0 if its turns would pass 99 either way.
 use lib.IntN.{_+ℤ_, natAbs}
 use Rattle.edits.specs.laws.Turns.{word-over, word-in, word-fits, amount-fits, sum-fits, settle-word, settle-amount, settle, in-range, overturned-low, overturned-high, hundred-fits, settle-hundred}
 use Rattle.edits.specs.Turns.{turnsIn}

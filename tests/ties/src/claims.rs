@@ -16,8 +16,9 @@ const INTERFACE: &str = "crates/planner/src/lib.rt";
 const GRAMMAR: &str = "How to read it";
 /// The section of the README whose numbered list is the reading order.
 const READING_ORDER: &str = "Reading on";
-/// The head of the first column of the claims' table of the C interface.
+/// The head of the first column of the claims' table of the C interface, and that of its column of must-fail edits.
 const CALLS: &str = "Call";
+const RULED_OUT: &str = "Rules out";
 /// The head of the README's column of names that stand in the row's crate.
 const KEY_STATEMENTS: &str = "Key statements";
 
@@ -41,7 +42,7 @@ fn in_claims(tree: &Tree) -> Vec<String> {
                 citations.read(block);
                 rows.insert(cell.first.trim_matches('`').to_string());
             }
-            Some(cell) if cell.first_head == CALLS => {
+            Some(cell) if cell.first_head == CALLS && cell.head != RULED_OUT => {
                 let call = cell.first.trim_matches('`');
                 read_expressions(&mut citations, block, interface.iter().find(|function| function.name == call));
             }

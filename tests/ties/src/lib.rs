@@ -1,7 +1,8 @@
 //! What ties the documents and the C header to the code. `claims` checks the citations of docs/CLAIMS.md and of the README;
-//! `rooms` that what is believed names no law; `matching` compares include/planner.h with the exported signatures. The others read the files: `antt` the specs, `rattle`
-//! the sources, `header` the C header, `markdown` the documents, `citations` what a document cites; `tree` finds the files.
-//! The tests in tests/ run both on small made-up trees (`small`) with one fault each.
+//! `rooms` that what is believed names no law; `tried` that a wrong program of every public function is a must-fail edit; `matching`
+//! compares include/planner.h with the exported signatures. The others read the files: `antt` the specs, `rattle` the sources, `header`
+//! the C header, `markdown` the documents, `citations` what a document cites; `tree` finds the files.
+//! The tests in tests/ run these on small made-up trees (`small`) with one fault each.
 
 pub mod antt;
 pub mod citations;
@@ -13,6 +14,7 @@ pub mod rattle;
 pub mod rooms;
 pub mod small;
 pub mod tree;
+pub mod tried;
 
 use std::process::ExitCode;
 

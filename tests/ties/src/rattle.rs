@@ -9,6 +9,8 @@ pub struct Function {
     pub answer: String,
     /// The declaration without its body: signature and contract.
     pub text: String,
+    /// The lines between the body's braces.
+    pub body: String,
 }
 
 pub struct Struct {
@@ -29,8 +31,9 @@ pub fn functions(text: &str) -> Vec<Function> {
     for (i, line) in lines.iter().enumerate() {
         if let Some(at) = function_at(line) {
             let text = declaration(&lines[i..]);
+            let body = body(&lines[i + text.lines().count()..]);
             let exported = line.contains("extern \"C\"") && i > 0 && lines[i - 1].trim() == "#[no_mangle]";
-            found.push(read_function(&text, &line[at..], exported));
+            found.push(Function { body, ..read_function(&text, &line[at..], exported) });
         }
     }
     found
@@ -56,17 +59,28 @@ fn declaration(lines: &[&str]) -> String {
     text
 }
 
+/// The lines up to the brace at a line's start, which closes the body.
+fn body(lines: &[&str]) -> String {
+    lines.iter().take_while(|line| **line != "}").flat_map(|line| [line, "\n"]).collect()
+}
+
 fn read_function(text: &str, from_name: &str, exported: bool) -> Function {
     let name: String = from_name.chars().take_while(|c| c.is_alphanumeric() || *c == '_').collect();
     let rest = text.split_once(&format!("fn {name}")).map_or("", |(_, rest)| rest);
     let (arguments, after) = rest.split_once('(').and_then(|(_, rest)| rest.split_once(')')).unwrap_or(("", ""));
     let answer = after.trim_start().strip_prefix("->").unwrap_or("").split_whitespace().next().unwrap_or("");
-    Function { name, exported, arguments: pairs(arguments), answer: answer.to_string(), text: text.to_string() }
+    let (answer, text) = (answer.to_string(), text.to_string());
+    Function { name, exported, arguments: pairs(arguments), answer, text, body: String::new() }
 }
 
 impl Function {
     pub fn has_contract(&self) -> bool {
         self.text.contains("ensures {")
+    }
+
+    /// Can be called from outside, and asks nothing of who does.
+    pub fn is_open(&self) -> bool {
+        self.text.trim_start().starts_with("pub") && !self.text.contains("requires {")
     }
 }
 

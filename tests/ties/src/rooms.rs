@@ -40,11 +40,10 @@ fn in_source(tree: &Tree, path: &str) -> Vec<String> {
     let laws = imported_laws(&tree.read(path).unwrap_or_default());
     let mut faults = Vec::new();
     for function in tree.functions(path).unwrap_or_default() {
-        let contract = &function.text;
-        if !contract.trim_start().starts_with("pub") || contract.contains("requires {") {
+        if !function.is_open() {
             continue;
         }
-        for law in laws.iter().filter(|law| names(contract, law)) {
+        for law in laws.iter().filter(|law| names(&function.text, law)) {
             faults.push(format!("{path}: the contract of {} names `{law}`, which stands in laws/", function.name));
         }
     }

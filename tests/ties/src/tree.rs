@@ -85,11 +85,16 @@ impl Tree {
         files.iter().filter_map(|file| self.functions(&format!("crates/{name}/src/{file}.rt"))).flatten().collect()
     }
 
+    /// The names of a crate's must-fail edits.
+    pub fn edits_of(&self, name: &str) -> BTreeSet<String> {
+        self.listed(&format!("crates/{name}/must-fail"), ".edit")
+    }
+
     /// Every must-fail edit, as crate/name.
     pub fn edits(&self) -> BTreeSet<String> {
         let crates = self.listed("crates", "");
         let edits = |name: &String| {
-            let files = self.listed(&format!("crates/{name}/must-fail"), ".edit");
+            let files = self.edits_of(name);
             files.into_iter().map(|file| format!("{name}/{file}")).collect::<Vec<_>>()
         };
         crates.iter().flat_map(edits).collect()

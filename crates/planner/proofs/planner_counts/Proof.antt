@@ -16,7 +16,9 @@ same-length : tie.Need-same-length
 same-length c = search needs
 
 returns : tie.Need-returns
-returns c = (handed-on (c .code .ok) (c .code .ensures ∙ ap codeOf (c .before .before .counts .ensures .0)), c .before .before .counts .ensures .1)
+returns c =
+    let counts = c .before .before .counts in
+    (handed-on (c .code .ok) (c .code .ensures ∙ ap codeOf (counts .ensures .0)), counts .ensures .1)
 
 pub planner-counts-spec : {M : Type 1} → statement M
 planner-counts-spec = tie.close (tie.spec counts-requires code-requires same-length returns)

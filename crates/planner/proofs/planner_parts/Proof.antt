@@ -16,7 +16,9 @@ same-length : tie.Need-same-length
 same-length c = search needs
 
 returns : tie.Need-returns
-returns c = (handed-on (c .code .ok) (c .code .ensures ∙ ap codeOf (c .before .before .parts .ensures .0)), c .before .before .parts .ensures .1)
+returns c =
+    let parts = c .before .before .parts in
+    (handed-on (c .code .ok) (c .code .ensures ∙ ap codeOf (parts .ensures .0)), parts .ensures .1)
 
 pub planner-parts-spec : {M : Type 1} → statement M
 planner-parts-spec = tie.close (tie.spec parts-requires code-requires same-length returns)

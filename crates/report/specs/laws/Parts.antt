@@ -13,7 +13,6 @@ use lib.Seq.{sets, getD-append-add}
 use mir.Syntax.{w32}
 use mir.Val.{SFits, ofZ}
 use mir.Facts.{toZ-ofZ}
-use Rattle.orbits.specs.Count.{more}
 use Rattle.orbits.specs.laws.Count.{count-le}
 use Rattle.table.specs.Layout.{vertices, edges}
 use Rattle.table.specs.Rotation.{Rotation, Lawful}
@@ -21,8 +20,7 @@ use Rattle.table.specs.laws.Output.{sets-front}
 use Rattle.table.specs.laws.Signed.{handed}
 use Rattle.tracing.specs.Listing.{gather, faces, faceCount}
 use Rattle.tracing.specs.laws.Listing.{gather-one, gather-none, gather-append}
-use Rattle.tracing.specs.Met.{countIn}
-use Rattle.tracing.specs.laws.Has.{has-head, has-right}
+use Rattle.tracing.specs.laws.Has.{has-head, has-right, countIn-few}
 use Rattle.surface.specs.Counts.{verticesIn, edgesIn, walksIn, cornerVertex}
 use Rattle.surface.specs.Parts.{root?, parts}
 use Rattle.surface.specs.laws.Parts.{root-there}
@@ -77,15 +75,6 @@ module _ {R : Rotation} {words : List ℤ} {i r : ℕ} (k : RowAt R words i r) w
 
 -- where the rows of the parts stand
 
-countIn-few : (q : ℕ → Bool) (l : List ℕ) → countIn q l ≤ length l
-unfolding countIn
-countIn-few q [] = omega arith
-countIn-few q (x ∷ l) = one (q x) (countIn-few q l)
-  where
-    one : (b : Bool) {n m : ℕ} → n ≤ m → more b n ≤ suc m
-    one true h = omega arith
-    one false h = omega arith
-
 part-fits : {R : Rotation} → Lawful R → (r : ℕ) → SFits w32 (partEuler R r)
 unfolding partEuler verticesIn edgesIn walksIn faceCount
 part-fits {R} L r =
@@ -121,8 +110,11 @@ module _ {R : Rotation} (L : Lawful R) (words room : List ℤ) (stored : words �
       fits = part-fits L r;
     }
 
+parts-few : (R : Rotation) → length (parts R) ≤ vertices
+parts-few R = let c = count-le (root? R) vertices in rw (parts-count R) c
+
 pub rows-few : (R : Rotation) → length (rows R vertices) ≤ 6 * vertices
-rows-few R = let c = count-le (root? R) vertices in rw (rows-length R, parts-count R) (omega arith)
+rows-few R = let c = parts-few R in rw (rows-length R) (omega arith)
 
 -- the loop: the lines of the parts before word i are written
 pub record Parting (R : Rotation) (from at i end : ℕ) (out₀ out : List ℕ) : Type 0 where
@@ -162,9 +154,6 @@ module _ {R : Rotation} (L : Lawful R) {n : ℕ} {room words : List ℤ} (w : Wr
   unfolding rows parts
   enough = w .room
 
-  few : length (parts R) ≤ vertices
-  few = let c = count-le (root? R) vertices in rw (parts-count R) c
-
   module _ {from at i end : ℕ} {out₀ out : List ℕ} (k : Parting R from at i end out₀ out) where
     counted : length (k .done) + length (k .left) ≡ length (parts R)
     counted = sym (length-append (k .done) (k .left)) ∙ ap length (k .all)
@@ -172,7 +161,7 @@ module _ {R : Rotation} (L : Lawful R) {n : ℕ} {room words : List ℤ} (w : Wr
     pub parting-near : (i ≤ n) × (n ≤ 6 * vertices) × (end ≤ at + parts-most)
     parting-near =
         let a = counted in
-        let b = few in
+        let b = parts-few R in
         let s = size in
         let h = k .here in
         let e = k .wrote .near in
@@ -212,7 +201,7 @@ module _ {R : Rotation} (L : Lawful R) {n : ℕ} {room words : List ℤ} (w : Wr
     pub parting-all : n ≤ i → Wrote parts-most from at out₀ (gather (partLine R) (parts R)) end out
     parting-all l = elim (next (k .left)) [
       | none e ↦
-          let b = few in
+          let b = parts-few R in
           let all : k .done ≡ parts R = sym (append-nil (k .done)) ∙ ap (λ l. k .done ++ l) (sym e) ∙ k .all in
           let same = ap length all in
           wrote-most (wrote-as (k .wrote) (ap (gather (partLine R)) all)) parts-most (omega arith)

@@ -1,5 +1,5 @@
 -- Membership in a list of numbers, as a Boolean, and in what is gathered from a list.
-use Prim.Native.Nat.{ℕ, suc, _+_, _<_}
+use Prim.Native.Nat.{ℕ, suc, _+_, _<_, _≤_}
 use native.Mathlib.Omega.{arith}
 use native.Mathlib.Decide.{ℕ-discrete}
 use mathlib.Core.Path.{_≡_, refl, sym, _∙_, ap}
@@ -7,6 +7,7 @@ use mathlib.Core.Bool.{Bool, true, false}
 use mathlib.Core.List.{List, [], _∷_, _++_, map}
 use mathlib.Core.Logic.{_≢_}
 use lib.Dec.{eqb}
+use lib.ListN.{length}
 use borrow.Author.Tests.{eq-eqb, ne-eqb}
 use Rattle.orbits.specs.laws.Truth.{clash, false-unless}
 use Rattle.orbits.specs.Count.{more, count}
@@ -104,6 +105,15 @@ pub countIn-map : (q : ℕ → Bool) (f : ℕ → ℕ) (l : List ℕ) → countI
 unfolding countIn
 countIn-map q f [] = refl
 countIn-map q f (x ∷ l) = rw (countIn-map q f l)
+
+pub countIn-few : (q : ℕ → Bool) (l : List ℕ) → countIn q l ≤ length l
+unfolding countIn
+countIn-few q [] = omega arith
+countIn-few q (x ∷ l) = one (q x) (countIn-few q l)
+  where
+    one : (b : Bool) {n m : ℕ} → n ≤ m → more b n ≤ suc m
+    one true h = omega arith
+    one false h = omega arith
 
 -- a member of what a function makes of each
 pub record Image (f : ℕ → ℕ) (l : List ℕ) (c : ℕ) : Type 0 where

@@ -30,13 +30,10 @@ returns c =
 
 returns-2 : tie.Need-returns-2
 returns-2 c =
-    let new-edge′ = c .before .before .before .before .new-edge in
-    let enum-told′ = c .before .before .enum-told in
-    let turned-word′ = c .before .turned-word in
-    let new-edge = new-edge′ in
-    let enum-told = enum-told′ in
+    let new-edge = c .before .before .before .before .new-edge in
+    let enum-told = c .before .before .enum-told in
+    let turned-word = c .before .turned-word in
     let start = c .before .before .before .before .before .before in
-    let turned-word = turned-word′ in
     then-passes (sym (new-edge .ensures) ∙ enum-told .given .1)
     (room-is 100 (start .args .k) (amount-on 100 (start .args .k) (start .fits .k) (turned-word .ensures)) (c .room-for .ensures) ∙ ap fewTurns (hundred (start .args .k)))
 

@@ -52,48 +52,34 @@ shared-slice-read-if3 c =
 returns-3 : tie.Need-returns-3
 unfolding newEdge
 returns-3 c =
-    let is-good′ = c .before .before .before .before .before .is-good in
-    let if1′ = c .before .before .before .before .if1 in
-    let are-names′ = c .before .before .before .are-names in
-    let if2′ = c .before .before .if2 in
+    let is-good = c .before .before .before .before .before .is-good in
+    let if1 = c .before .before .before .before .if1 in
+    let are-names = c .before .before .before .are-names in
+    let if2 = c .before .before .if2 in
     let start = c .before .before .before .before .before .before .before in
-    let is-good = is-good′ in
-    let if1 = if1′ in
-    let are-names = are-names′ in
-    let if2 = if2′ in
     simp
     (seen-good (now (start .args .t)) (is-good .ensures) (if1 .left) .0, sym (are-names .ensures) ∙ not-false _ (if2 .left), ne-eqb _ _ (c .if3 .taken))
 
 are-present-requires : tie.Need-are-present-requires
 are-present-requires c κs =
-    let is-good′ = c .before .before .before .before .before .is-good in
-    let if1′ = c .before .before .before .before .if1 in
-    let are-names′ = c .before .before .before .are-names in
-    let if2′ = c .before .before .if2 in
-    let are-names = are-names′ in
-    let if2 = if2′ in
+    let is-good = c .before .before .before .before .before .is-good in
+    let if1 = c .before .before .before .before .if1 in
+    let are-names = c .before .before .before .are-names in
+    let if2 = c .before .before .if2 in
     let start = c .before .before .before .before .before .before .before in
-    let is-good = is-good′ in
-    let if1 = if1′ in
     let n = names-are (start .args .e) (start .args .c1) (start .args .c2) (sym (are-names .ensures) ∙ not-false _ (if2 .left)) in
     (seen-good (now (start .args .t)) (is-good .ensures) (if1 .left) .1, n .first, n .second)
 
 returns-4 : tie.Need-returns-4
 unfolding newEdge
 returns-4 c =
-    let is-good′ = c .before .before .before .before .before .before .before .is-good in
-    let if1′ = c .before .before .before .before .before .before .if1 in
-    let are-names′ = c .before .before .before .before .before .are-names in
-    let if2′ = c .before .before .before .before .if2 in
-    let if3′ = c .before .before .if3 in
-    let are-present′ = c .before .are-present in
+    let is-good = c .before .before .before .before .before .before .before .is-good in
+    let if1 = c .before .before .before .before .before .before .if1 in
+    let are-names = c .before .before .before .before .before .are-names in
+    let if2 = c .before .before .before .before .if2 in
+    let if3 = c .before .before .if3 in
+    let are-present = c .before .are-present in
     let start = c .before .before .before .before .before .before .before .before .before in
-    let is-good = is-good′ in
-    let if1 = if1′ in
-    let are-names = are-names′ in
-    let if2 = if2′ in
-    let if3 = if3′ in
-    let are-present = are-present′ in
     simp (
       seen-good (now (start .args .t)) (is-good .ensures) (if1 .left) .0,
       sym (are-names .ensures) ∙ not-false _ (if2 .left),
@@ -104,19 +90,13 @@ returns-4 c =
 returns-5 : tie.Need-returns-5
 unfolding newEdge
 returns-5 c =
-    let is-good′ = c .before .before .before .before .before .before .before .is-good in
-    let if1′ = c .before .before .before .before .before .before .if1 in
-    let are-names′ = c .before .before .before .before .before .are-names in
-    let if2′ = c .before .before .before .before .if2 in
-    let if3′ = c .before .before .if3 in
-    let are-present′ = c .before .are-present in
+    let is-good = c .before .before .before .before .before .before .before .is-good in
+    let if1 = c .before .before .before .before .before .before .if1 in
+    let are-names = c .before .before .before .before .before .are-names in
+    let if2 = c .before .before .before .before .if2 in
+    let if3 = c .before .before .if3 in
+    let are-present = c .before .are-present in
     let start = c .before .before .before .before .before .before .before .before .before in
-    let is-good = is-good′ in
-    let if1 = if1′ in
-    let are-names = are-names′ in
-    let if2 = if2′ in
-    let if3 = if3′ in
-    let are-present = are-present′ in
     simp (
       seen-good (now (start .args .t)) (is-good .ensures) (if1 .left) .0,
       sym (are-names .ensures) ∙ not-false _ (if2 .left),

@@ -1,0 +1,41 @@
+//! Whether wrong programs are tried, on a small tree: nothing is found where all is well, and a function without one is.
+
+use ties::small::{assert_faults, Small};
+use ties::tried::faults;
+
+const SUMS: &str = "crates/sums/src/sums.rt";
+const EDIT: &str = "crates/sums/must-fail/two_for_one.edit";
+
+const FILES: [(&str, &str); 2] = [
+    (
+        SUMS,
+        "pub fn one() -> u16\n    ensures { λ r. ⌜ r ≡ 1 ⌝ }\n{\n    1 + 0\n}\n\n\
+         pub fn inner(n: u16) -> u16\n    requires { ⌜ n < 9 ⌝ }\n    ensures { λ r. ⌜ r ≡ n ⌝ }\n{\n    n\n}\n\n\
+         fn own() -> u16\n    ensures { λ r. ⌜ r ≡ 7 ⌝ }\n{\n    7\n}\n",
+    ),
+    (EDIT, "file: src/sums.rt\nold:     1 + 0\nnew:     2 + 0\n"),
+];
+
+const UNTRIED: [&str; 1] = ["no must-fail edit changes the body of one"];
+
+fn after(name: &str, path: &str, old: &str, new: &str, expected: &[&str]) {
+    assert_faults(&faults(&Small::new(name, &FILES).change(path, old, new).tree()), expected);
+}
+
+#[test]
+fn nothing_where_all_is_well() {
+    assert_faults(&faults(&Small::new("tried", &FILES).tree()), &[]);
+}
+
+#[test]
+fn a_function_without_an_edit() {
+    assert_faults(&faults(&Small::new("untried", &FILES).remove(EDIT).tree()), &UNTRIED);
+    after("public", SUMS, "fn own()", "pub fn own()", &["the body of own"]);
+}
+
+#[test]
+fn an_edit_elsewhere() {
+    after("statement", EDIT, "old:     1 + 0", "old:     ensures { λ r. ⌜ r ≡ 1 ⌝ }", &UNTRIED);
+    after("callee", EDIT, "old:     1 + 0", "old:     7", &UNTRIED);
+    after("file", EDIT, "src/sums.rt", "src/other.rt", &UNTRIED);
+}

@@ -117,7 +117,8 @@ pub extern "C" fn planner_plain(words: &[u16]) -> i64
 // Writes the letters of the ribbon through the step of dart and type, in the order of travel from it.
 #[no_mangle]
 pub extern "C" fn planner_letters(words: &[u16], dart: u16, kind: u16, out: &mut [u8]) -> i64
-    ensures { λ r. ⌜ (r ≡ codeOf (lettersOf (now (words .entry)) dart kind (length (now (out .entry))))) × (now (out .exit) ≡ lettersOut (now (words .entry)) dart kind (now (out .entry))) ⌝ }
+    ensures { λ r. ⌜ (r ≡ codeOf (lettersOf (now (words .entry)) dart kind (length (now (out .entry)))))
+        × (now (out .exit) ≡ lettersOut (now (words .entry)) dart kind (now (out .entry))) ⌝ }
 {
     code(letters::call::letters(words, dart, kind, out))
 }

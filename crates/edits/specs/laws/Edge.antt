@@ -131,7 +131,8 @@ module _ (t : List ℕ) (L : ℕ → Bool) (H : Held t L) (e w : ℕ) (h : e < e
   ]
 
 -- the last of the writes
-pub insert-last : (t u v : List ℕ) (e c₁ c₂ c w : ℕ) → u ≡ link t (2 * e + 1) c₂ → c ≡ firstCorner e c₁ c₂ → v ≡ link u (2 * e) c → setEdge v e w ≡ inserted t e c₁ c₂ w
+pub insert-last : (t u v : List ℕ) (e c₁ c₂ c w : ℕ) → u ≡ link t (2 * e + 1) c₂ → c ≡ firstCorner e c₁ c₂
+    → v ≡ link u (2 * e) c → setEdge v e w ≡ inserted t e c₁ c₂ w
 insert-last t u v e c₁ c₂ c w p q r = ap (λ x. setEdge x e w) (r ∙ ap (λ x. link x (2 * e) c) p ∙ ap (link (link t (2 * e + 1) c₂) (2 * e)) q)
 
 pub delete-last : (t u v : List ℕ) (e : ℕ) → u ≡ unlink t (2 * e) → v ≡ unlink u (2 * e + 1) → setEdge v e 0 ≡ deleted t e

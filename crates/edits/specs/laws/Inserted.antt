@@ -199,7 +199,8 @@ module _ (t : List ℕ) (g : Good t) (e c₁ c₂ w : ℕ) (h : e < edges) (off 
 
   -- dart 2e leads to the corner's dart, or to itself
   data Leads : Type 0 where
-    on-to : nextIn full more (2 * e) ≡ firstCorner e c₁ c₂ → leaves full (2 * e) ≡ leaves half (firstCorner e c₁ c₂) → plus (live? t) (2 * e + 1) (firstCorner e c₁ c₂) ≡ true → Leads
+    on-to : nextIn full more (2 * e) ≡ firstCorner e c₁ c₂ → leaves full (2 * e) ≡ leaves half (firstCorner e c₁ c₂)
+        → plus (live? t) (2 * e + 1) (firstCorner e c₁ c₂) ≡ true → Leads
     to-itself : (v : ℕ) → nextIn full more (2 * e) ≡ 2 * e → leaves full (2 * e) ≡ v → firstCorner e c₁ c₂ ≡ loneAt + v → Leads
 
   first-leads : Leads

@@ -398,7 +398,12 @@ module _ (t : List ℕ) (v x : ℕ) where
   pub seeking-more : (d : ℕ) → Seeking t v x d → d < darts → leaves t d ≢ v → Seeking t v x (d + 1)
   seeking-more d s h n =
       let k : darts - d ≡ suc (darts - (d + 1)) = omega arith in
-      record { from = omega (arith, s .from); low = omega arith; same = s .same ∙ ap (seek t v d) k ∙ seek-on t v d (darts - (d + 1)) n ∙ ap (λ j. seek t v j (darts - (d + 1))) (sym (add-one d)) }
+      record {
+        from = omega (arith, s .from);
+        low = omega arith;
+        same = s .same ∙ ap (seek t v d) k ∙ seek-on t v d (darts - (d + 1)) n
+            ∙ ap (λ j. seek t v j (darts - (d + 1))) (sym (add-one d));
+      }
 
   pub seeking-here : (d : ℕ) → Seeking t v x d → d < darts → leaves t d ≡ v → d ≡ seek t v x (darts - x)
   seeking-here d s h e =

@@ -167,7 +167,8 @@ room-is w a {x} e q = q ∙ elim (truth (overturned (turnsIn w +ℤ a))) [
 
 -- turns and amounts that are handed on keep their values
 module _ (t : List ℕ) where
-  pub insert-on : (e c₁ c₂ : ℕ) (k : ℤ) {r v : Verdict} → SFits w16 k → r ≡ verdict t (InsertEdge e c₁ c₂ (toZ w16 (ofZ w16 k))) → r ≡ v → verdict t (InsertEdge e c₁ c₂ k) ≡ v
+  pub insert-on : (e c₁ c₂ : ℕ) (k : ℤ) {r v : Verdict} → SFits w16 k
+      → r ≡ verdict t (InsertEdge e c₁ c₂ (toZ w16 (ofZ w16 k))) → r ≡ v → verdict t (InsertEdge e c₁ c₂ k) ≡ v
   insert-on e c₁ c₂ k f p q = ap (λ z. verdict t (InsertEdge e c₁ c₂ z)) (sym (toZ-ofZ {w = w16} f)) ∙ sym p ∙ q
 
   pub turn-on : (e : ℕ) (a : ℤ) {r v : Verdict} → SFits w16 a → r ≡ verdict t (TurnEdge e (toZ w16 (ofZ w16 a))) → r ≡ v → verdict t (TurnEdge e a) ≡ v

@@ -82,11 +82,13 @@ step-more : {t : List ℕ} {s from at here end r : ℕ} {out₀ out out′ : Lis
     → Wrote (142 * (k .so-far + 1)) from at out₀ (gather (stepText t) (iterates (step (rotation t)) s (k .so-far + 1))) r out′
 step-more k w = wrote-most (wrote-as (wrote-then (k .wrote) w) (steps-more (k .walking))) (142 * (k .so-far + 1)) (omega arith)
 
-pub stepping-more : {t : List ℕ} {s from at here end r next : ℕ} {out₀ out out′ : List ℕ} → StepsWriting t s from at here end out₀ out → Wrote 142 from end out (stepText t here) r out′
+pub stepping-more : {t : List ℕ} {s from at here end r next : ℕ} {out₀ out out′ : List ℕ}
+    → StepsWriting t s from at here end out₀ out → Wrote 142 from end out (stepText t here) r out′
     → next ≡ step (rotation t) here → next ≢ s → StepsWriting t s from at next r out₀ out′
 stepping-more k w e b = record { so-far = k .so-far + 1; walking = walking-more (k .walking) e b; wrote = step-more k w }
 
-pub stepping-all : {t : List ℕ} {s from at here end r next : ℕ} {out₀ out out′ : List ℕ} → StepsWriting t s from at here end out₀ out → Wrote 142 from end out (stepText t here) r out′
+pub stepping-all : {t : List ℕ} {s from at here end r next : ℕ} {out₀ out out′ : List ℕ}
+    → StepsWriting t s from at here end out₀ out → Wrote 142 from end out (stepText t here) r out′
     → next ≡ step (rotation t) here → next ≡ s → Wrote steps-most from at out₀ (gather (stepText t) (walk (rotation t) s)) r out′
 stepping-all k w e b =
     let few = walking-few (k .walking) in

@@ -255,7 +255,14 @@ ending-more {t} {first = first} {v = v} {i = i} k h p =
     let one = p .few in
     let size = length-map (alones R v) loneCorner in
     let text : loneLines t first v ++ numbered (walkLine t) i (map loneCorner (lone R v)) ≡ loneLines t first (v + 1) =
-    rw (add-one, alones-suc R v, map-append loneCorner (alones R v) (lone R v), numbered-append (walkLine t) first (map loneCorner (alones R v)) (map loneCorner (lone R v)), size, ← k .index) refl in
+    rw (
+      add-one,
+      alones-suc R v,
+      map-append loneCorner (alones R v) (lone R v),
+      numbered-append (walkLine t) first (map loneCorner (alones R v)) (map loneCorner (lone R v)),
+      size,
+      ← k .index,
+    ) refl in
     record {
       low = omega arith;
       index = let a = p .index in let b = k .index in rw (add-one, alones-suc R v, length-append) (omega arith);

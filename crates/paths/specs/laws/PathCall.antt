@@ -159,7 +159,8 @@ module _ {t : List ℕ} {points lifts : List ℤ} {s : ℕ} {kinds : List ℕ} {
 
 module _ (t : List ℕ) (d k : ℕ) (points lifts : List ℤ) (kinds : List ℕ) (coords : List Float) {n : Named} (e : n ≡ namedStep t d k) where
   pub path-refused : {r : Refusal} → n ≡ Refused r
-      → (Declined r ≡ pathAnswer t d k points lifts (length kinds) (length coords)) × (kinds ≡ kindsOut t d k points lifts kinds coords) × (coords ≡ coordsOut t d k points lifts kinds coords)
+      → (Declined r ≡ pathAnswer t d k points lifts (length kinds) (length coords))
+      × (kinds ≡ kindsOut t d k points lifts kinds coords) × (coords ≡ coordsOut t d k points lifts kinds coords)
   path-refused f = rw (← e, f) (refl, refl, refl)
 
   pub path-left : {s : ℕ} {r : Answer} {kinds′ : List ℕ} {coords′ : List Float} → n ≡ There s → Left t points lifts s kinds coords r kinds′ coords′

@@ -106,7 +106,8 @@ module _ {a b l : ℤ} (n : NearEnds a b l) where
     unfolding thirtySeconds
     coordinate-over e f = f ∙ ap over32 over-is ∙ rw (eq-eqb letter over e)
 
-    pub coordinate-under : letter ≢ over → letter ≡ under → r ≡ over32 (handed (handed (handed a +ℤ handed b) -ℤ handed (pos 2 *ℤ handed l))) → r ≡ over32 (thirtySeconds letter a b l)
+    pub coordinate-under : letter ≢ over → letter ≡ under
+        → r ≡ over32 (handed (handed (handed a +ℤ handed b) -ℤ handed (pos 2 *ℤ handed l))) → r ≡ over32 (thirtySeconds letter a b l)
     unfolding thirtySeconds
     coordinate-under m e f = f ∙ ap over32 under-is ∙ rw (ne-eqb letter over m, eq-eqb letter under e)
 

@@ -78,6 +78,7 @@ module _ (s : List ℕ) where
   unfolding firstRecord
   first-lone n e = rw (ne-eqb (length s) 0 n, eq-eqb (length s) 1 e)
 
-  pub first-marked : length s ≢ 0 → length s ≢ 1 → {w : ℕ} {k k′ : Marked} → w ≡ word s 0 → k ≡ markOf w → k ≡ k′ → {r : Found} → r ≡ markedRecord k′ s → r ≡ firstRecord s
+  pub first-marked : length s ≢ 0 → length s ≢ 1 → {w : ℕ} {k k′ : Marked} → w ≡ word s 0 → k ≡ markOf w → k ≡ k′
+      → {r : Found} → r ≡ markedRecord k′ s → r ≡ firstRecord s
   unfolding firstRecord
   first-marked n l {w} {k} {k′} e f g h = rw (ne-eqb (length s) 0 n, ne-eqb (length s) 1 l) (h ∙ ap (λ x. markedRecord x s) (sym g ∙ f ∙ ap markOf e))

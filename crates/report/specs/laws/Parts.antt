@@ -193,7 +193,8 @@ module _ {R : Rotation} (L : Lawful R) {n : ℕ} {room words : List ℤ} (w : Wr
             wrote =
                 rw (length-append (k .done) (r ∷ []))
                 (wrote-most
-                (wrote-as (wrote-then (k .wrote) (line R r row)) (ap (λ x. gather (partLine R) (k .done) ++ x) (sym (gather-one (partLine R) r)) ∙ sym (gather-append (partLine R) (k .done) (r ∷ []))))
+                (wrote-as (wrote-then (k .wrote) (line R r row)) (ap (λ x. gather (partLine R) (k .done) ++ x) (sym (gather-one (partLine R) r))
+                ∙ sym (gather-append (partLine R) (k .done) (r ∷ []))))
                 (40 * (length (k .done) + 1)) (omega arith));
           }
     ]

@@ -139,7 +139,8 @@ module _ {R R′ : Rotation} {e : ℕ} (L : Lawful R) (L′ : Lawful R′) (W : 
         I : Rattle.orbits.specs.Iterate.Inj places (trace R′)
         I = mirror-world (tracing-mirror R′ L′ (placesIn R′ Q) (placesIn-part L′ K′)) .perm
 
-        two-faces : ¬ Reach (trace R′) (ends .first) (ends .second) → ¬ Reach (trace R′) (ends .first) (flip R′ (ends .second)) → Face (trace R′) (flip R′) (ends .first) (ends .second) → ⊥
+        two-faces : ¬ Reach (trace R′) (ends .first) (ends .second) → ¬ Reach (trace R′) (ends .first) (flip R′ (ends .second))
+            → Face (trace R′) (flip R′) (ends .first) (ends .second) → ⊥
         two-faces n k (along s) = n s
         two-faces n k (mirrored s) = k s
 

@@ -98,7 +98,11 @@ module _ {R : Rotation} (L : Lawful R) where
           let l = ltb-true (label R (x i)) n (both-right (b i) _ s) in
           let e = eqb-true (label R (x i)) n (both-right (b i) _ t) in
           omega arith)
-          ∙ rw (below n, total-append (λ r. G (λ i. b i && inPart R r (x i))) (partsBelow R n) (only (root? R n) n), total-only (λ r. G (λ i. b i && inPart R r (x i))) (root? R n) n (root-only n))
+          ∙ rw (
+            below n,
+            total-append (λ r. G (λ i. b i && inPart R r (x i))) (partsBelow R n) (only (root? R n) n),
+            total-only (λ r. G (λ i. b i && inPart R r (x i))) (root? R n) n (root-only n),
+          )
 
       pub additive : G b ≡ total (λ r. G (λ i. b i && inPart R r (x i))) (parts R)
       unfolding parts

@@ -31,7 +31,8 @@ pub record Front (a out₀ : List ℕ) (start at : ℕ) (out : List ℕ) : Type 
 pub front-none : (out : List ℕ) (start : ℕ) → Front [] out start start out
 front-none out start = record { end = omega arith; size = refl; words = refl }
 
-pub front-more : {a out₀ : List ℕ} {start at : ℕ} {out : List ℕ} (b : List ℕ) {r : ℕ} {out′ : List ℕ} → Front a out₀ start at out → r ≡ at + length b → out′ ≡ sets out at b
+pub front-more : {a out₀ : List ℕ} {start at : ℕ} {out : List ℕ} (b : List ℕ) {r : ℕ} {out′ : List ℕ}
+    → Front a out₀ start at out → r ≡ at + length b → out′ ≡ sets out at b
     → Front (a ++ b) out₀ start r out′
 front-more {a} {out₀} {start} {at} {out} b k e w =
     let end = k .end in

@@ -75,7 +75,9 @@ spelling-room {rest = rest} k h =
 
 last-digit : (digits : List ℕ) (i d : ℕ) → i < length digits → drop i (set digits i d) ≡ d ∷ drop (suc i) digits
 last-digit digits i d h =
-    drop-cons (set digits i d) i 0 (rw length-set h) ∙ ap (λ x. x ∷ drop (suc i) (set digits i d)) (getD-set-same digits i d 0 h) ∙ ap (λ l. d ∷ l) (drop-set-lt (suc i) digits i d (omega arith))
+    drop-cons (set digits i d) i 0 (rw length-set h)
+    ∙ ap (λ x. x ∷ drop (suc i) (set digits i d)) (getD-set-same digits i d 0 h)
+    ∙ ap (λ l. d ∷ l) (drop-set-lt (suc i) digits i d (omega arith))
 
 pub spelling-more : {n i rest d : ℕ} {digits : List ℕ} → Spelling n i rest digits → 10 ≤ rest → d ≡ digit (rest % 10)
     → Spelling n (i - 1) (rest / 10) (set digits i d)

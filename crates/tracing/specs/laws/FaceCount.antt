@@ -98,7 +98,8 @@ all-pass q [] h = refl
 all-pass q (x ∷ l) h = rw (h x (has-here x l), all-pass q l (λ c e. h c (has-tail c x l e)))
 
 module _ (R : Rotation) (L : Lawful R) where
-  named-apart : (P : ℕ → Bool) → Part R P → (i j : ℕ) → i < (darts + vertices) → j < (darts + vertices) → NamesWalk R P i → NamesWalk R P j → Face (trace R) (flip R) (2 * i) (2 * j) → i ≡ j
+  named-apart : (P : ℕ → Bool) → Part R P → (i j : ℕ) → i < (darts + vertices) → j < (darts + vertices)
+      → NamesWalk R P i → NamesWalk R P j → Face (trace R) (flip R) (2 * i) (2 * j) → i ≡ j
   named-apart P K i j h l (dart-named a s p) (dart-named b t q) f = starts-one R L i j a b s t f
   named-apart P K i j h l (dart-named a s p) (lone-named b t q) f = absurd (lone-apart R L i j a b f)
   named-apart P K i j h l (lone-named a s p) (dart-named b t q) f =

@@ -284,7 +284,8 @@ module _ {M : Type 1} (𝓤 : URA M) (H : Heap 𝓤) (A : Atoms 𝓤) (W : Given
         use1 W (‵ (cellAt fullShare (Y.the-row .mir) (Y′.lowered y ∷ []) l₇ 0)) (W .laws .at-raw fullShare Y′.mir l₇ 0 (Y′.lowered y)) $
         use2 W (‵ (mem Y.the-row .lies y l₇ 0)) (laid 𝓤 H A W Y.the-row y l₇ 0 (Y′.lowered y ∷ [])) $
         lft-new ! tt (λ μ. move ! (1 ∷ []) $
-        use1 W (later (some (λ (δ′ : GName). ‵ (MutRef (named 3) (μ ∷ []) Y.the-row .own (tally-at l₇ δ′) (vptr l₇ 0 ∷ [])) ⊛ ‵ (flent (μ ∷ []) (Body (mem Y.the-row) l₇ 0 δ′)))))
+        use1 W (later (some (λ (δ′ : GName). ‵ (MutRef (named 3) (μ ∷ []) Y.the-row .own (tally-at l₇ δ′) (vptr l₇ 0 ∷ []))
+        ⊛ ‵ (flent (μ ∷ []) (Body (mem Y.the-row) l₇ 0 δ′)))))
         (lends-ref 𝓤 H A W Y.the-row (named 3) (μ ∷ []) y l₇ 0) $ await ! tt $ pick ! (λ δ′. split ! $
         -- [the tally's reference; the lender's part; its token; the reader's; the lender's part; its token; the way back; the half token;
         -- _14; …; the lengths'; …]
@@ -295,7 +296,8 @@ module _ {M : Type 1} (𝓤 : URA M) (H : Heap 𝓤) (A : Atoms 𝓤) (W : Given
         calls-at ! fm (StepC 𝓤 H A at-mem run) known (to ν μ l₆ l₇ δ δ′)
         (and-then ! (load ! (from ! (stop !)) (look ! 14 refl)) (and-then ! (load ! (from ! (stop !)) (look ! 22 refl))
         (and-then ! (load ! (from ! (stop !)) (look ! 12 refl)) (no-more !)))) (λ u.
-        use1 W (later (some (λ (r : Answer). ((‵ (flft (ν ∷ κ₀) (PosShare·right q₀)) ⊛ ‵ (flft κ₀ (PosShare·left q₀)) ⊛ ‵ (flft κ₁ q₁) ⊛ ‵ (flft (μ ∷ []) fullShare) ⊛ ‵ ftrue)
+        use1 W (later (some (λ (r : Answer). ((‵ (flft (ν ∷ κ₀) (PosShare·right q₀)) ⊛ ‵ (flft κ₀ (PosShare·left q₀))
+        ⊛ ‵ (flft κ₁ q₁) ⊛ ‵ (flft (μ ∷ []) fullShare) ⊛ ‵ ftrue)
         ⊛ ‵ (E.the-row .own r (u ∷ []))) ⊛ raw (Ensured ν μ l₆ l₇ δ δ′ r)))) (id⊢ 𝓤 _) $ await ! tt $ pick ! (λ r.
         -- what `step` ensures, at the two last values
         split ! $ move ! (1 ∷ []) $

@@ -7,12 +7,12 @@ const CLAIMS: &str = "docs/CLAIMS.md";
 const README: &str = "README.md";
 const GOOD: &str = "crates/table/specs/Good.antt";
 
-const FILES: [(&str, &str); 9] = [
+const FILES: [(&str, &str); 10] = [
     (
         CLAIMS,
         "# Claims\n\n## How to read it\n\n`anything/Goes` here, *and here*.\n\n## The C interface\n\n\
-         | Call | Answer | Slice at exit |\n|---|---|---|\n\
-         | `planner_check` | `codeOf (checkOf t out)` | `checked t ..`, lent as `&[u16]` |\n\n\
+         | Call | Answer | Slice at exit | Rules out |\n|---|---|---|---|\n\
+         | `planner_check` | `codeOf (checkOf t out)` | `checked t ..`, lent as `&[u16]` | *planner/another_call* |\n\n\
          The contract (`crates/planner/src/lib.rt`) of `planner_check`, by `good-case`, for crate `table`.\n\n\
          ## Demand 1\n\n| Sentence | Statement |\n|---|---|\n\
          | \"a \\| b\" | `table/Good` `Good` (as it says), `.size`, `good-case`\n\
@@ -40,6 +40,7 @@ const FILES: [(&str, &str); 9] = [
          fn empty(t: &[u16]) -> bool\n    ensures { λ r. ⌜ r ⌝ }\n{\n    true\n}\n\nfn silent() -> bool {\n    true\n}\n",
     ),
     ("crates/table/must-fail/wrong_number.edit", "file: src/whole.rt\n"),
+    ("crates/planner/must-fail/another_call.edit", "file: src/lib.rt\n"),
     (
         "crates/planner/src/lib.rt",
         "#[no_mangle]\npub extern \"C\" fn planner_check(words: &[u16], out: &mut [u16]) -> i64\n\
@@ -167,6 +168,8 @@ fn a_must_fail_edit() {
     assert_faults(&faults(&more.tree()), &["the must-fail edit table/another is not named"]);
     let less = whole("gone").remove("crates/table/must-fail/wrong_number.edit");
     assert_faults(&faults(&less.tree()), &["there is no must-fail edit *table/wrong_number*"]);
+    let less = whole("call").remove("crates/planner/must-fail/another_call.edit");
+    assert_faults(&faults(&less.tree()), &["there is no must-fail edit *planner/another_call*"]);
 }
 
 #[test]

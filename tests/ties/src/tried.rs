@@ -13,7 +13,10 @@ pub fn faults(tree: &Tree) -> Vec<String> {
             for function in tree.functions(&format!("crates/{name}/{source}")).unwrap_or_default() {
                 let changes = |(of, old): &(String, String)| *of == source && function.body.contains(old.as_str());
                 if function.is_open() && !changed.iter().any(changes) {
-                    faults.push(format!("crates/{name}/{source}: no must-fail edit changes the body of {}", function.name));
+                    faults.push(format!(
+                        "crates/{name}/{source}: no must-fail edit changes the body of {}",
+                        function.name
+                    ));
                 }
             }
         }

@@ -1,5 +1,6 @@
 /* The calls of the planner against plain C (plain.c): the same tables, the same arguments, one run. Before a call is timed, both
-   sides' answers and outputs are compared. Prints a table for docs/BENCHMARK.md: microseconds a call, medians, and their ratio. */
+   sides' answers and outputs are compared. Prints a table for docs/BENCHMARK.md: microseconds a call, medians, and their ratio.
+   bench/against builds it with OLDER: then the other side is an older build of the planner, under plain.h's names. */
 
 #define _POSIX_C_SOURCE 199309L
 
@@ -10,6 +11,10 @@
 #include <stdlib.h>
 #include <string.h>
 #include <time.h>
+
+#ifndef OLDER
+#define OLDER 0
+#endif
 
 enum { WORDS = PLANNER_TABLE_WORDS, OUT = 4096, LETTERS = 2048 * 99, ROUNDS = 21 };
 
@@ -29,8 +34,8 @@ struct output {
 };
 static struct output ours, theirs;
 
-/* The names that the edits use: a free vertex, a free edge, a live one. */
-static uint16_t free_vertex, free_edge, live_edge;
+/* The names that the edits use: a free vertex, a free edge (those below it are live), a live one, and one that moves on. */
+static uint16_t free_vertex, free_edge, live_edge, moving_edge;
 
 static uint32_t random_state = 1;
 
@@ -72,36 +77,29 @@ static int64_t their_walk_step(void) {
     return (100 * ends + tally.overs) * 2 * PLANNER_DARTS + 2 * reader.dart + reader.type;
 }
 
-/* Edits come in pairs, the second of which undoes the first. */
-static int64_t our_vertex(void) {
-    int64_t a = planner_add_vertex(table, WORDS, free_vertex);
-    return 10000 * a + planner_remove_vertex(table, WORDS, free_vertex);
+/* Two edits on each side, the second of which undoes the first. Their answers in one number, or -1 if one of them was declined; an older
+   build may answer without the rule. */
+static int64_t both(int64_t a, int64_t b) {
+    if (a < 0 || b < 0) {
+        return -1;
+    }
+    return OLDER ? PLANNER_FACES(a) * 4294967296 + PLANNER_FACES(b) : a * 4294967296 + b;
 }
 
-static int64_t their_vertex(void) {
-    int64_t a = plain_add_vertex(table, WORDS, free_vertex);
-    return 10000 * a + plain_remove_vertex(table, WORDS, free_vertex);
-}
+#define PAIR(name, first, first_arguments, second, second_arguments)                                                    \
+    static int64_t our_##name(void) {                                                                                  \
+        int64_t a = planner_##first first_arguments;                                                                   \
+        return both(a, planner_##second second_arguments);                                                             \
+    }                                                                                                                  \
+    static int64_t their_##name(void) {                                                                                \
+        int64_t a = plain_##first first_arguments;                                                                     \
+        return both(a, plain_##second second_arguments);                                                               \
+    }
 
-static int64_t our_edge(void) {
-    int64_t a = planner_insert_edge(table, WORDS, free_edge, 0, 1, 1);
-    return 10000 * a + planner_delete_edge(table, WORDS, free_edge);
-}
-
-static int64_t their_edge(void) {
-    int64_t a = plain_insert_edge(table, WORDS, free_edge, 0, 1, 1);
-    return 10000 * a + plain_delete_edge(table, WORDS, free_edge);
-}
-
-static int64_t our_turn(void) {
-    int64_t a = planner_turn_edge(table, WORDS, live_edge, 1);
-    return 10000 * a + planner_turn_edge(table, WORDS, live_edge, -1);
-}
-
-static int64_t their_turn(void) {
-    int64_t a = plain_turn_edge(table, WORDS, live_edge, 1);
-    return 10000 * a + plain_turn_edge(table, WORDS, live_edge, -1);
-}
+PAIR(vertex, add_vertex, (table, WORDS, free_vertex), remove_vertex, (table, WORDS, free_vertex))
+PAIR(edge, insert_edge, (table, WORDS, free_edge, 0, 1, 1), delete_edge, (table, WORDS, free_edge))
+PAIR(turn, turn_edge, (table, WORDS, live_edge, 1), turn_edge, (table, WORDS, live_edge, -1))
+PAIR(each_turn, turn_edge, (table, WORDS, moving_edge, 1), turn_edge, (table, WORDS, moving_edge, -1))
 
 static const struct {
     const char *name;
@@ -117,6 +115,7 @@ static const struct {
     {"planner_add_vertex, planner_remove_vertex", our_vertex, their_vertex, 2},
     {"planner_insert_edge, planner_delete_edge", our_edge, their_edge, 2},
     {"planner_turn_edge", our_turn, their_turn, 2},
+    {"planner_turn_edge, edge after edge", our_each_turn, their_each_turn, 2},
     {"planner_alternates", our_alternates, their_alternates, 1},
     {"planner_plain", our_plain, their_plain, 1},
     {"planner_letters", our_letters, their_letters, 1},
@@ -206,11 +205,14 @@ static double now(void) {
     return (double)t.tv_sec + 1e-9 * (double)t.tv_nsec;
 }
 
-static double timed(int64_t (*call)(void), int times) {
+/* Seconds a call. The moving edge goes on after each, from the one of this number. */
+static double timed(int64_t (*call)(void), int times, int from) {
     double start = now();
     int i;
+    moving_edge = (uint16_t)(from % free_edge);
     for (i = 0; i < times; i++) {
         call();
+        moving_edge = (uint16_t)(moving_edge + 1 < free_edge ? moving_edge + 1 : 0);
     }
     return (now() - start) / times;
 }
@@ -242,11 +244,14 @@ static void compare(size_t row) {
 static void measure(size_t row, double *mine, double *other) {
     double a[ROUNDS], b[ROUNDS];
     int i, times;
-    compare(row);
-    times = (int)(2e-3 / timed(rows[row].theirs, 10)) + 1;
     for (i = 0; i < ROUNDS; i++) {
-        a[i] = timed(rows[row].ours, times);
-        b[i] = timed(rows[row].theirs, times);
+        moving_edge = (uint16_t)(i * free_edge / ROUNDS);
+        compare(row);
+    }
+    times = (int)(2e-3 / timed(rows[row].theirs, 10, 0)) + 1;
+    for (i = 0; i < ROUNDS; i++) {
+        a[i] = timed(rows[row].ours, times, i * times);
+        b[i] = timed(rows[row].theirs, times, i * times);
     }
     *mine = 1e6 * median(a) / rows[row].calls;
     *other = 1e6 * median(b) / rows[row].calls;
@@ -258,23 +263,25 @@ static const struct {
 } sizes[] = {{6, 3, 30}, {8, 7, 100}, {13, 12, 300}, {18, 17, 600}, {22, 23, 1023}};
 enum { SIZES = sizeof sizes / sizeof sizes[0] };
 
-/* The sizes whose ratios are printed: small, shell-sized, full. */
-static const size_t compared[] = {0, 2, 4};
-enum { COMPARED = sizeof compared / sizeof compared[0] };
-
 static double mine[ROWS][SIZES], other[ROWS][SIZES];
 
+/* Against plain C the ratios of every other size are printed: small, shell-sized, full. Against an older build those of all. */
 static void print_ratios(void) {
-    size_t row, i;
+    const size_t stride = OLDER ? 1 : 2;
+    size_t row, size;
     printf("| Call |");
-    for (i = 0; i < COMPARED; i++) {
-        printf(" %d edges: planner | C | ratio |", sizes[compared[i]].edges);
+    for (size = 0; size < SIZES; size += stride) {
+        printf(" %d edges: %s | ratio |", sizes[size].edges, OLDER ? "new | old" : "planner | C");
     }
-    printf("\n|---|---|---|---|---|---|---|---|---|---|\n");
+    printf("\n|---|");
+    for (size = 0; size < SIZES; size += stride) {
+        printf("---|---|---|");
+    }
+    printf("\n");
     for (row = 0; row < ROWS; row++) {
         printf("| `%s` |", rows[row].name);
-        for (i = 0; i < COMPARED; i++) {
-            double a = mine[row][compared[i]], b = other[row][compared[i]];
+        for (size = 0; size < SIZES; size += stride) {
+            double a = mine[row][size], b = other[row][size];
             printf(" %.2f | %.2f | %.2f |", a, b, a / b);
         }
         printf("\n");
@@ -308,6 +315,8 @@ int main(void) {
         }
     }
     print_ratios();
-    print_growth();
+    if (!OLDER) {
+        print_growth();
+    }
     return 0;
 }

@@ -1,4 +1,4 @@
-/* The rules of document 01 in plain C, for the benchmark: the calls of include/planner.h with the same checks, refusals and answers. */
+/* The rules of documents 01 and 02 in plain C, for the benchmark: the calls of include/planner.h with the same checks, refusals and answers. */
 #ifndef PLAIN_H
 #define PLAIN_H
 

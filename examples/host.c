@@ -1,7 +1,8 @@
 /*
- * A host to start from. It builds a small shell through the library, asks for its counts, and prints the ribbon-lengths
- * sheet, as CSV and as an aligned table: for each ribbon its steps, overs, unders, whether it alternates, and the length of
- * strip to cut, in millimetres; then the totals. Build it with -I include and libplanner.a.
+ * A host to start from. It builds a small shell through the library and prints a line for each edit: how many faces there are
+ * now, and why. Then it asks for the counts and prints the ribbon-lengths sheet, as CSV and as an aligned table: for each ribbon
+ * its steps, overs, unders, whether it alternates, and the length of strip to cut, in millimetres; then the totals. Build it
+ * with -I include and libplanner.a.
  */
 #include "planner.h"
 
@@ -37,16 +38,42 @@ static int64_t ask(int64_t answer, const char *what) {
     return answer;
 }
 
+/* Why there are more faces now, or fewer: the rule in an accepted edit's answer. */
+static const char *why(int64_t answer) {
+    switch (PLANNER_RULE(answer)) {
+    case PLANNER_RULE_A:
+        return "two faces became one";
+    case PLANNER_RULE_B1:
+        return "one face became two";
+    case PLANNER_RULE_B2:
+        return "one face stayed one";
+    case PLANNER_RULE_E:
+        return "an even number of turns: no face changed";
+    default: /* a pole has no rule */
+        return "a pole alone is a face";
+    }
+}
+
+/* The line of an edit: what it did, to the pole or strip of which number, and its answer. */
+static void print_edit(const char *what, int number, int64_t answer) {
+    char edit[32];
+    snprintf(edit, sizeof edit, "%s %d", what, number);
+    ask(answer, edit);
+    printf("%-12s %7d  %s\n", edit, (int)PLANNER_FACES(answer), why(answer));
+}
+
 static void build(void) {
     uint16_t i;
     ask(planner_empty(table, WORDS), "empty mesh");
+    printf("%-12s %7s  %s\n", "edit", "faces", "why");
     for (i = 0; i < POLES; i++) {
-        ask(planner_add_vertex(table, WORDS, i), "pole");
+        print_edit("add pole", i, planner_add_vertex(table, WORDS, i));
     }
     for (i = 0; i < STRIPS; i++) {
-        ask(planner_insert_edge(table, WORDS, i, strips[i].first, strips[i].second, 1), "strip");
+        print_edit("add strip", i, planner_insert_edge(table, WORDS, i, strips[i].first, strips[i].second, 1));
         lengths[i] = (uint32_t)(16.0 * strips[i].millimetres + 0.5);
     }
+    printf("\n");
 }
 
 static void print_counts(void) {

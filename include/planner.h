@@ -89,11 +89,25 @@ int64_t planner_counts(const uint16_t *table, size_t words, int32_t *out, size_t
 int64_t planner_parts(const uint16_t *table, size_t words, int32_t *out, size_t out_words);
 
 /*
- * The five edits. Each answers the new number of faces: walks that the listing of the edited table has.
+ * The five edits. Each answers the new number of faces: walks that the listing of the edited table has; insertion, deletion
+ * and turn answer the rule that they met besides (PLANNER_RULE).
  * A corner is named by the dart that ends it, counterclockwise, or is PLANNER_LONE_CORNER + v for the corner of
  * the isolated vertex v. Refusals are tested in the order in which they are listed.
  */
 #define PLANNER_LONE_CORNER 32768
+
+/*
+ * Why a face came or went: an accepted insertion, deletion or turn answers faces + 65536 * rule, the new number of faces and
+ * the rule, which is read on the table just before the edit. A vertex has no rule: its edits answer the number of faces alone,
+ * and PLANNER_RULE of that is 0. So the two macros take the answer of any of the five edits apart. They are for accepted edits
+ * only: a declined one answers minus the refusal's number, as every call does, so look for a negative answer first.
+ */
+#define PLANNER_FACES(answer) ((answer) & 0xFFFF)
+#define PLANNER_RULE(answer) (((answer) >> 16) & 0xFFFF)
+#define PLANNER_RULE_A 1  /* two faces became one */
+#define PLANNER_RULE_B1 2 /* one face became two */
+#define PLANNER_RULE_B2 3 /* one face stayed one */
+#define PLANNER_RULE_E 4  /* a turn by an even amount: the faces stayed */
 
 /* Adds vertex v, isolated. Declines: PLANNER_TORN, PLANNER_NO_SUCH_NAME, PLANNER_TAKEN. */
 int64_t planner_add_vertex(uint16_t *table, size_t words, uint16_t v);
@@ -104,17 +118,27 @@ int64_t planner_remove_vertex(uint16_t *table, size_t words, uint16_t v);
 /*
  * Inserts edge e with k turns: dart 2e goes into corner c1, then 2e+1 into c2, each just before the dart that
  * names the corner; with c1 = c2 the order is old, 2e, 2e+1, d.
+ * Rule: A if the corners are on different faces. On one face B1 if their types and k add to an even number, else B2; a
+ * corner's type is the one with which the listed walk meets it, 0 for an isolated vertex.
  * Declines: PLANNER_TORN; PLANNER_NO_SUCH_NAME (e, c1 or c2); PLANNER_TAKEN; PLANNER_ABSENT (c1 or c2);
  * PLANNER_OVERTURNED (k past 99 either way).
  */
 int64_t planner_insert_edge(uint16_t *table, size_t words, uint16_t e, uint16_t c1, uint16_t c2, int16_t k);
 
-/* Deletes edge e, whatever its turns. Declines: PLANNER_TORN, PLANNER_NO_SUCH_NAME, PLANNER_ABSENT. */
+/*
+ * Deletes edge e, whatever its turns.
+ * Rule: A if its two sides, the two listed steps on it, are on different faces. On one face B1 if they pass by both darts, B2
+ * if by the same dart twice.
+ * Declines: PLANNER_TORN, PLANNER_NO_SUCH_NAME, PLANNER_ABSENT.
+ */
 int64_t planner_delete_edge(uint16_t *table, size_t words, uint16_t e);
 
 /*
- * Turns edge e by an amount. Declines: PLANNER_TORN, PLANNER_NO_SUCH_NAME, PLANNER_ABSENT, PLANNER_OVERTURNED
- * (its turns would pass 99 either way).
+ * Turns edge e by an amount.
+ * Rule: E if the amount is even, 0 included. If it is odd, A if the edge's two sides are on different faces; on one face B1 if
+ * they pass by the same dart twice, B2 if by both darts.
+ * Declines: PLANNER_TORN, PLANNER_NO_SUCH_NAME, PLANNER_ABSENT, PLANNER_OVERTURNED (its turns would pass 99 either way, by an
+ * even amount too).
  */
 int64_t planner_turn_edge(uint16_t *table, size_t words, uint16_t e, int16_t amount);
 

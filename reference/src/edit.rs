@@ -1,11 +1,12 @@
-//! The five edits ("Edits"): a verdict, then a write, then the new face count by tracing the new table.
+//! The five edits ("Edits"): a verdict, then the rule met on the table as it is, then a write, then the new face count by
+//! tracing the new table.
 //!
-//! The change of the face count that document 01's rules call for is worked out apart from that, from the table just
-//! before the edit, and nothing here uses it: tests compare the two.
+//! The count does not come from the rule, nor the rule from the count: tests compare the two.
 
 use crate::check::check;
-use crate::faces::{corner, corner_is_there, face_count, Corner, Faces};
+use crate::faces::{corner, corner_is_there, face_count, Corner};
 use crate::refusal::{decline_if, Refusal};
+use crate::rule::{deletion_rule, insertion_rule, turn_rule, Rule};
 use crate::table::*;
 
 /// An edit with its arguments as a caller gives them: any words at all.
@@ -18,11 +19,19 @@ pub enum Edit {
     TurnEdge { e: u16, amount: i16 },
 }
 
-/// "Each accepted edit answers the new face count."
-pub fn edit(table: &mut [u16], edit: Edit) -> Result<usize, Refusal> {
+/// "Each accepted edit answers the new face count." "Insert, delete and turn now answer, besides the new face count, the
+/// rule met".
+#[derive(Clone, Copy, Debug, PartialEq, Eq)]
+pub struct Answer {
+    pub faces: usize,
+    pub rule: Option<Rule>,
+}
+
+pub fn edit(table: &mut [u16], edit: Edit) -> Result<Answer, Refusal> {
     verdict(table, edit)?;
+    let rule = rule_met(table, edit);
     write(table, edit);
-    Ok(face_count(table))
+    Ok(Answer { faces: face_count(table), rule })
 }
 
 /// Whether an edit is accepted, and if not, the first of the refusals that hold.
@@ -149,55 +158,23 @@ fn smallest_around(table: &[u16], start: Dart) -> Dart {
     smallest
 }
 
-/// The change of the face count that the rules call for, "read on the table just before that edit": an accepted
-/// addition of a vertex counts +1, a removal -1, "any other accepted edit the change given under 'Edits'".
+/// The rule of an edit whose verdict was good, "read on the table just before that edit". Vertices have none.
+pub fn rule_met(table: &[u16], edit: Edit) -> Option<Rule> {
+    let at = |c: u16| corner(c).expect("not malformed");
+    match edit {
+        Edit::AddVertex { .. } | Edit::RemoveVertex { .. } => None,
+        Edit::InsertEdge { c1, c2, k, .. } => Some(insertion_rule(table, at(c1), at(c2), k as i32)),
+        Edit::DeleteEdge { e } => Some(deletion_rule(table, e)),
+        Edit::TurnEdge { e, amount } => Some(turn_rule(table, e, amount)),
+    }
+}
+
+/// The change of the face count that is called for: "An accepted addition of a vertex counts +1, a removal -1, any other
+/// accepted edit the change given under 'Edits', read on the table just before that edit".
 pub fn face_change(table: &[u16], edit: Edit) -> i64 {
     match edit {
         Edit::AddVertex { .. } => 1,
         Edit::RemoveVertex { .. } => -1,
-        Edit::InsertEdge { c1, c2, k, .. } => insertion_change(table, c1, c2, k as i32),
-        Edit::DeleteEdge { e } => match seen_from(table, e) {
-            Sides::DifferentFaces => -1,
-            Sides::BothDarts => 1,
-            Sides::SameDartTwice => 0,
-        },
-        Edit::TurnEdge { amount, .. } if amount % 2 == 0 => 0,
-        Edit::TurnEdge { e, .. } => match seen_from(table, e) {
-            Sides::DifferentFaces => -1,
-            Sides::SameDartTwice => 1,
-            Sides::BothDarts => 0,
-        },
-    }
-}
-
-/// "corners on different faces, -1; on one face, +1 if their types and k add to an even number, else 0"
-fn insertion_change(table: &[u16], c1: u16, c2: u16, k: i32) -> i64 {
-    let faces = Faces::of(table);
-    let met = |c: u16| faces.met(corner(c).expect("not malformed"));
-    let (m1, m2) = (met(c1), met(c2));
-    if m1.face != m2.face {
-        -1
-    } else if (m1.t as i32 + m2.t as i32 + k) % 2 == 0 {
-        1
-    } else {
-        0
-    }
-}
-
-/// The three cases of the rules for deletion and turning.
-enum Sides {
-    DifferentFaces,
-    BothDarts,
-    SameDartTwice,
-}
-
-fn seen_from(table: &[u16], e: Edge) -> Sides {
-    let [a, b] = Faces::of(table).sides(e);
-    if a.face != b.face {
-        Sides::DifferentFaces
-    } else if a.step.dart != b.step.dart {
-        Sides::BothDarts
-    } else {
-        Sides::SameDartTwice
+        _ => rule_met(table, edit).expect("an edge's edit meets a rule").change(),
     }
 }

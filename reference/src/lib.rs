@@ -1,11 +1,12 @@
-//! The rotation table and its ribbons, in plain Rust: a second implementation, written from document 01 alone.
+//! The rotation table and its ribbons, in plain Rust: a second implementation, written from document 01 and from the
+//! requests of document 02 alone.
 //!
-//! It is meant to be read beside document 01, and to be compared with the library call by call. Where two ways
+//! It is meant to be read beside the documents, and to be compared with the library call by call. Where two ways
 //! were open, the more obvious one was taken: marks and lists in place of bounds, tracing anew in place of counting
 //! on. A table is a slice of words; a call answers, or declines with a numbered refusal and has changed nothing.
 //!
 //! From the bottom upward: `table` (the words), `check` (good or torn), `trace` (step and walk), `faces` (the listed
-//! walks, corners and sides), `listing` (their words), `edit` and `run` (the five edits), `counts` (parts, Euler
+//! walks, corners and sides), `listing` (their words), `rule`, `edit` and `run` (the five edits), `counts` (parts, Euler
 //! numbers), `weave` (over and under), `length`, `path` and `reader` (one ribbon), `job` (the program).
 //! `trial` makes tables, edits and damage from a seed, for tests.
 
@@ -19,6 +20,7 @@ pub mod listing;
 pub mod path;
 pub mod reader;
 pub mod refusal;
+pub mod rule;
 pub mod run;
 pub mod table;
 pub mod trace;

@@ -1,7 +1,7 @@
 //! Runs of edits: "any list, also the empty one, of the five edits with any arguments, declined ones included, over
 //! one table slice".
 
-use crate::edit::{edit, face_change, verdict, Edit};
+use crate::edit::{edit, face_change, verdict, Answer, Edit};
 use crate::faces::face_count;
 use crate::refusal::Refusal;
 
@@ -9,7 +9,7 @@ use crate::refusal::Refusal;
 /// for ("a declined one counts 0").
 pub struct Run {
     pub start_faces: usize,
-    pub answers: Vec<Result<usize, Refusal>>,
+    pub answers: Vec<Result<Answer, Refusal>>,
     pub changes: Vec<i64>,
 }
 

@@ -47,7 +47,7 @@ static void try_the_edits(void) {
     check(begin(0, 1) && vertex(0) == PLANNER_ISOLATED && vertex(1) == PLANNER_ISOLATED && vertex(2) == PLANNER_NOTHING,
           "vertices 0 and 1 are added, and no other");
     /* Dart 6 = 2*3 goes into c1, the corner of vertex 0; dart 7 into c2, that of vertex 1. Turns 2 are the word 102. */
-    check(insert(3, LONE + 0, LONE + 1, 2) == 1, "edge 3 joins two faces");
+    check(insert(3, LONE + 0, LONE + 1, 2) == 1 + A, "edge 3 joins two faces");
     check(leaves(6) == 0 && leaves(7) == 1 && vertex(0) == 6 && vertex(1) == 7, "dart 2e is at c1, dart 2e+1 at c2");
     check(edge(3) == 102 && edge(2) == 0, "edge 3 has two turns");
     /* e = 2 and k = 3; corner 6 is at vertex 0 and corner 7 at vertex 1. Dart 4 goes just before 6, dart 5 just before 7. */
@@ -71,17 +71,18 @@ static void try_the_counts(void) {
     static const int32_t five[] = {6, 7, 4, 2, 3};
     static const int32_t rows[] = {9, 5, 7, 3, 1, 0, 20, 1, 0, 1, 2, 1};
     int32_t out[12];
-    int fine = begin(9, 13) && insert(0, LONE + 9, LONE + 10, 0) == 4 && insert(1, 1, LONE + 11, 0) == 3 && insert(2, 3, LONE + 12, 0) == 2 &&
-               insert(3, 5, LONE + 13, 0) == 1;
+    int fine = begin(9, 13) && insert(0, LONE + 9, LONE + 10, 0) == 4 + A && insert(1, 1, LONE + 11, 0) == 3 + A &&
+               insert(2, 3, LONE + 12, 0) == 2 + A && insert(3, 5, LONE + 13, 0) == 1 + A;
     check(fine, "a chain of five vertices");
-    check(insert(4, 0, 0, 1) == 1 && insert(5, 0, 0, 0) == 2 && insert(6, 0, 0, 0) == 3, "three loops");
+    check(insert(4, 0, 0, 1) == 1 + B2 && insert(5, 0, 0, 0) == 2 + B1 && insert(6, 0, 0, 0) == 3 + B1, "three loops");
     check(planner_add_vertex(table, WORDS, 20) == 4, "a vertex alone");
     check(planner_counts(table, WORDS, out, 5) == 5 && memcmp(out, five, sizeof five) == 0, "V 6, E 7, F 4, 2 parts, Euler number 3");
     check(planner_parts(table, WORDS, out, 12) == 12 && memcmp(out, rows, sizeof rows) == 0, "vertex, V, E, F, Euler number, mark of each part");
 }
 
 /* Steps (0, 1) and (1, 0) on two ribbons. Loops 0 and 1 of one turn at vertex 0: around it stand 0, 3, 1, 2. Edge 2 of turns -2 goes from
-   corner 2 to vertex 1: 0, 3, 1, 4, 2.
+   corner 2 to vertex 1: 0, 3, 1, 4, 2. Loop 0 stays on one face, its one corner's type taken twice and one turn being odd; loop 1 splits it, its
+   corners having types 0 and 1; edge 2 joins vertex 1's face to another.
    From (0, 1): type 0, next after 1 is 4; (4, 0): type stays, next after 5 is 5; (5, 0): next after 4 is 2; (2, 0): type 1, before 3 is 0; (0, 1).
    From (1, 0): type 1, before 0 is 2; (2, 1): type 0, next after 3 is 1; (1, 0).
    Letters of (0, 1): U; (4, 0) with turns -2: U O; (5, 0): U O; (2, 0): O. Letters of (1, 0): O; (2, 1): U. */
@@ -91,7 +92,7 @@ static void try_dart_and_type(void) {
     uint8_t letters[6];
     uint16_t kinds[5];
     float coords[15];
-    check(begin(0, 1) && insert(0, LONE, LONE, 1) == 2 && insert(1, 0, 1, 1) == 3 && insert(2, 2, LONE + 1, -2) == 2, "two ribbons");
+    check(begin(0, 1) && insert(0, LONE, LONE, 1) == 2 + B2 && insert(1, 0, 1, 1) == 3 + B1 && insert(2, 2, LONE + 1, -2) == 2 + A, "two ribbons");
     check(planner_alternates(table, WORDS, 0, 1) == 0 && planner_alternates(table, WORDS, 1, 0) == 1, "alternates: dart and type");
     check(planner_letters(table, WORDS, 0, 1, letters, 6) == 6 && memcmp(letters, "UUOUOO", 6) == 0, "letters of dart 0, type 1");
     check(planner_letters(table, WORDS, 1, 0, letters, 6) == 2 && memcmp(letters, "OU", 2) == 0, "letters of dart 1, type 0");
@@ -110,7 +111,7 @@ static void try_dart_and_type(void) {
    (0, 0) type 1, before 1 is 2: O. (2, 1) before 3 is 4. (4, 1) type 0, next after 5 is 5: with negative turns O. (5, 0) type 1, before 4 is 3: U.
    (3, 1) before 2 is 1. (1, 1) type 0, next after 0 is 0: U. */
 static int build_the_chain(void) {
-    return begin(0, 3) && insert(0, LONE, LONE + 1, 1) == 3 && insert(1, 1, LONE + 2, 0) == 2 && insert(2, 3, LONE + 3, -1) == 1;
+    return begin(0, 3) && insert(0, LONE, LONE + 1, 1) == 3 + A && insert(1, 1, LONE + 2, 0) == 2 + A && insert(2, 3, LONE + 3, -1) == 1 + A;
 }
 
 /* Points and lifts, and kinds of a piece. In sixteenths, times 32: a+b+2l over, a+b-2l under, a+b flat.

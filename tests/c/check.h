@@ -1,8 +1,11 @@
-/* What the C tests share: a claim is tried, printed, and counted if it fails. */
+/* What the C tests share: a claim is tried, printed, and counted if it fails; and what each rule adds to the answer of an edit of an
+   edge, which is faces + 65536 * rule. */
 #ifndef CHECK_H
 #define CHECK_H
 
 #include <stdio.h>
+
+enum { A = 65536, B1 = 2 * 65536, B2 = 3 * 65536, E = 4 * 65536 };
 
 static int failures = 0;
 

@@ -34,7 +34,7 @@ static void try_the_printed_job(void) {
     size_t i;
     check(planner_empty(table, WORDS) == 0, "the empty mesh");
     check(planner_add_vertex(table, WORDS, 0) == 1, "one vertex has one face");
-    check(planner_insert_edge(table, WORDS, 0, 32768, 32768, 1) == 1, "a loop of turns 1 has one face");
+    check(planner_insert_edge(table, WORDS, 0, 32768, 32768, 1) == 1 + B2, "a loop of turns 1 has one face");
     keep();
     check(planner_turn_edge(table, WORDS, 1, 1) == -4 && kept(), "edge 1 is absent, and nothing is written");
     for (i = 0; i < OUT; i++) {
@@ -45,14 +45,16 @@ static void try_the_printed_job(void) {
     check(planner_listing(table, WORDS, out, 2) == -7, "two words are too short for it");
 }
 
+/* Around vertex 0 stand 0, 3, 1, 2. With edge 1 flat the walk is (0, 0), (3, 1), (1, 1), (3, 0), by dart 3 twice. With an odd number of turns
+   on it the walks are (0, 0), (3, 1) and (1, 0), (2, 1). Edge 0 alone has the walk (0, 0), (0, 1). */
 static void try_the_edits(void) {
-    check(planner_insert_edge(table, WORDS, 1, 0, 1, 0) == 1, "sample 4: one face");
-    check(planner_turn_edge(table, WORDS, 1, 1) == 2, "sample 5: two walks");
-    check(planner_turn_edge(table, WORDS, 1, 98) == 2, "an even amount changes no face");
+    check(planner_insert_edge(table, WORDS, 1, 0, 1, 0) == 1 + B2, "sample 4: one face");
+    check(planner_turn_edge(table, WORDS, 1, 1) == 2 + B1, "sample 5: two walks");
+    check(planner_turn_edge(table, WORDS, 1, 98) == 2 + E, "an even amount changes no face");
     check(planner_turn_edge(table, WORDS, 1, 1) == -6, "sample 6: turns 99, turn by 1");
-    check(planner_turn_edge(table, WORDS, 1, -198) == 2, "sample 6: by -198");
+    check(planner_turn_edge(table, WORDS, 1, -198) == 2 + E, "sample 6: by -198");
     check(planner_remove_vertex(table, WORDS, 0) == -5, "vertex 0 has an edge");
-    check(planner_delete_edge(table, WORDS, 1) == 1 && planner_delete_edge(table, WORDS, 0) == 1, "both deleted");
+    check(planner_delete_edge(table, WORDS, 1) == 1 + A && planner_delete_edge(table, WORDS, 0) == 1 + B2, "both deleted");
     check(planner_add_vertex(table, WORDS, 0) == -3, "vertex 0 is live");
     check(planner_remove_vertex(table, WORDS, 0) == 0, "and removed");
     keep();
@@ -61,8 +63,67 @@ static void try_the_edits(void) {
     check(planner_delete_edge(table, WORDS - 1, 0) == -1, "7,679 words are torn");
 }
 
+/* Two vertices and edge 0 with k turns between them: its walk is (0, 0), (1, k). */
+static int64_t bridge(int16_t k) {
+    planner_empty(table, WORDS);
+    planner_add_vertex(table, WORDS, 0);
+    planner_add_vertex(table, WORDS, 1);
+    return planner_insert_edge(table, WORDS, 0, 32768, 32769, k);
+}
+
+/* One vertex with the loop 0. Flat, its walks are (0, 0) and (1, 0). With one turn its walk is (0, 0), (0, 1), which meets corner 0 with type 0
+   and corner 1 with type 1. */
+static int64_t loop(int16_t k) {
+    planner_empty(table, WORDS);
+    planner_add_vertex(table, WORDS, 0);
+    return planner_insert_edge(table, WORDS, 0, 32768, 32768, k);
+}
+
+/* After a call that is accepted, a second edge between corners 0 and 1; edge 0 deleted; edge 0 turned. */
+static int64_t then_second(int64_t before, int16_t k) {
+    return before < 0 ? before : planner_insert_edge(table, WORDS, 1, 0, 1, k);
+}
+
+static int64_t then_deleted(int64_t before) {
+    return before < 0 ? before : planner_delete_edge(table, WORDS, 0);
+}
+
+static int64_t then_turned(int64_t before, int16_t amount) {
+    return before < 0 ? before : planner_turn_edge(table, WORDS, 0, amount);
+}
+
+static void try_the_rules(void) {
+    check(bridge(0) == 1 + A && bridge(1) == 1 + A, "sample 2: two vertices, two faces, become one");
+    check(loop(0) == 2 + B1, "sample 3, turns 0: one face becomes two");
+    check(loop(1) == 1 + B2, "sample 3, turns 1: one face stays one");
+    check(then_second(loop(1), 0) == 1 + B2, "sample 4: types 0 and 1 and no turn are odd");
+    check(then_second(loop(0), 0) == 1 + A, "sample 5: corners on the loop's two faces");
+    check(then_second(loop(1), 1) == 2 + B1 && then_second(loop(1), -1) == 2 + B1, "sample 5: types 0 and 1 and one turn are even");
+    check(then_deleted(loop(0)) == 1 + A, "deleted: its sides are on different faces");
+    check(then_deleted(bridge(0)) == 2 + B1 && then_deleted(bridge(1)) == 2 + B1, "deleted: its walk passes by both darts");
+    check(then_deleted(loop(1)) == 1 + B2, "deleted: its walk passes by dart 0 twice");
+    check(then_turned(loop(0), 1) == 1 + A, "turned: its sides are on different faces");
+    check(then_turned(loop(1), -1) == 2 + B1, "turned: its walk passes by dart 0 twice");
+    check(then_turned(bridge(0), 1) == 1 + B2 && then_turned(bridge(1), -3) == 1 + B2, "turned: its walk passes by both darts");
+    check(then_turned(loop(0), 2) == 2 + E && then_turned(loop(1), -2) == 1 + E && then_turned(bridge(1), 98) == 1 + E, "turned by an even amount");
+    check(then_turned(loop(0), 0) == 2 + E, "turned by 0");
+    check(then_turned(loop(98), 2) == -6 && then_turned(loop(0), -100) == -6, "6 is tested for even amounts too");
+}
+
+/* The answers by the header's names. */
+static void try_the_names(void) {
+    int64_t answer = then_turned(loop(1), 1);
+    check(PLANNER_FACES(answer) == 2 && PLANNER_RULE(answer) == PLANNER_RULE_B1, "two faces, by rule B1");
+    answer = planner_add_vertex(table, WORDS, 7);
+    check(PLANNER_FACES(answer) == 3 && PLANNER_RULE(answer) == 0, "an added vertex has no rule");
+    answer = planner_remove_vertex(table, WORDS, 7);
+    check(PLANNER_FACES(answer) == 2 && PLANNER_RULE(answer) == 0, "nor has a removed one");
+}
+
 int main(void) {
     try_the_printed_job();
     try_the_edits();
+    try_the_rules();
+    try_the_names();
     return verdict();
 }

@@ -92,8 +92,20 @@ static void try_check(void) {
     check(guards_are_whole(), "planner_check writes nothing outside the slice");
 }
 
+/* An answer is faces + 65536 * rule, rule 1 A, 2 B1, 3 B2, 4 E. No table has more than 1,536 faces: V-E+F is at most 2 in each part. */
+static void try_the_rules(void) {
+    const int64_t bare = 1536, even = 4 * 65536 + 1536;
+    check(PLANNER_RULE_A == 1 && PLANNER_RULE_B1 == 2 && PLANNER_RULE_B2 == 3 && PLANNER_RULE_E == 4, "1 A, 2 B1, 3 B2, 4 E");
+    check(PLANNER_FACES(even) == 1536 && PLANNER_RULE(even) == PLANNER_RULE_E, "faces and rule of an answer");
+    check(PLANNER_FACES(bare) == 1536 && PLANNER_RULE(bare) == 0, "a face count alone has rule 0");
+    check(PLANNER_FACES(65536) == 0 && PLANNER_RULE(65536) == PLANNER_RULE_A, "no face, rule A");
+    check(PLANNER_FACES(even != 0 ? 131077 : 1) == 5 && PLANNER_RULE(even != 0 ? 131077 : 1) == 2, "an expression as the argument");
+    check(2 * PLANNER_FACES(131077) == 10 && 2 * PLANNER_RULE(131077) == 4, "the macros within an expression");
+}
+
 int main(void) {
     try_empty();
     try_check();
+    try_the_rules();
     return verdict();
 }

@@ -5,17 +5,19 @@ use crate::edge::turn_edge;
 use crate::vertex::add_vertex;
 use crate::vertex::remove_vertex;
 use edits::edit::Edit;
-use table::answer::Answer;
+use edits::rule::Reply;
+use rules::reply::without_rule;
 ghost use mathlib.Core.Path.{_≡_};
-ghost use Rattle.edits.specs.Edits.{answer, edited};
+ghost use Rattle.edits.specs.Edits.{edited};
+ghost use Rattle.edits.specs.Rules.{reply};
 
-// Does the edit, or declines it. Answers the new face count.
-pub fn apply(t: &mut [u16], edit: Edit) -> Answer
-    ensures { λ r. ⌜ (r ≡ answer (now (t .entry)) edit) × (now (t .exit) ≡ edited (now (t .entry)) edit) ⌝ }
+// Does the edit, or declines it. Answers the new face count, and for an edge the rule met.
+pub fn apply(t: &mut [u16], edit: Edit) -> Reply
+    ensures { λ r. ⌜ (r ≡ reply (now (t .entry)) edit) × (now (t .exit) ≡ edited (now (t .entry)) edit) ⌝ }
 {
     match edit {
-        Edit::AddVertex(v) => add_vertex(t, v),
-        Edit::RemoveVertex(v) => remove_vertex(t, v),
+        Edit::AddVertex(v) => without_rule(add_vertex(t, v)),
+        Edit::RemoveVertex(v) => without_rule(remove_vertex(t, v)),
         Edit::InsertEdge {
             edge,
             first,

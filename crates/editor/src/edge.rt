@@ -1,18 +1,22 @@
 // Inserting, deleting and turning an edge.
 use edits::edit::Verdict;
+use edits::rule::Reply;
+use rules::deletion::delete_rule;
+use rules::insertion::insert_rule;
+use rules::reply::by_rule;
+use rules::turning::turn_rule;
 use splicing::splice::link;
 use splicing::splice::unlink;
-use table::answer::Answer;
 use table::layout::EDGE;
 use verdicts::turns::turned_word;
 use verdicts::verdict::delete_verdict;
 use verdicts::verdict::insert_verdict;
 use verdicts::verdict::turn_verdict;
-use walks::count::face_count;
 ghost use mathlib.Core.Path.{_≡_};
 ghost use Prim.Native.Nat.{_*_, _+_, _<_};
 ghost use Rattle.edits.specs.Edge.{firstCorner, inserted, deleted};
-ghost use Rattle.edits.specs.Edits.{answer, edited};
+ghost use Rattle.edits.specs.Edits.{edited};
+ghost use Rattle.edits.specs.Rules.{reply};
 ghost use Rattle.edits.specs.declared.edit.Edit.the-variants.{InsertEdge, DeleteEdge, TurnEdge};
 ghost use Rattle.edits.specs.laws.Ready.{InsertReady, DeleteReady};
 ghost use Rattle.table.specs.Layout.{edges};
@@ -39,16 +43,17 @@ fn first_corner(e: usize, c1: usize, c2: usize) -> usize
     c1
 }
 
-// Inserts edge e with turns k: dart 2e into corner c1, 2e+1 into c2. Answers the new face count.
-pub fn insert_edge(t: &mut [u16], e: u16, c1: u16, c2: u16, k: i16) -> Answer
-    ensures { λ r. ⌜ (r ≡ answer (now (t .entry)) (InsertEdge e c1 c2 k)) × (now (t .exit) ≡ edited (now (t .entry)) (InsertEdge e c1 c2 k)) ⌝ }
+// Inserts edge e with turns k: dart 2e into corner c1, 2e+1 into c2. Answers the new face count and the rule met.
+pub fn insert_edge(t: &mut [u16], e: u16, c1: u16, c2: u16, k: i16) -> Reply
+    ensures { λ r. ⌜ (r ≡ reply (now (t .entry)) (InsertEdge e c1 c2 k)) × (now (t .exit) ≡ edited (now (t .entry)) (InsertEdge e c1 c2 k)) ⌝ }
 {
     match insert_verdict(t, e, c1, c2, k) {
-        Verdict::Declines(r) => Answer::Declined(r),
+        Verdict::Declines(r) => Reply::Refused(r),
         Verdict::Passes => {
             let w = turned_word(100, k);
+            let ruling = insert_rule(t, c1, c2, w);
             insert(t, e as usize, c1 as usize, c2 as usize, w);
-            Answer::Done(face_count(t))
+            by_rule(ruling)
         }
     }
 }
@@ -63,29 +68,31 @@ fn delete(t: &mut [u16], e: usize)
     t[EDGE + e] = 0;
 }
 
-// Deletes edge e. Answers the new face count.
-pub fn delete_edge(t: &mut [u16], e: u16) -> Answer
-    ensures { λ r. ⌜ (r ≡ answer (now (t .entry)) (DeleteEdge e)) × (now (t .exit) ≡ edited (now (t .entry)) (DeleteEdge e)) ⌝ }
+// Deletes edge e. Answers the new face count and the rule met.
+pub fn delete_edge(t: &mut [u16], e: u16) -> Reply
+    ensures { λ r. ⌜ (r ≡ reply (now (t .entry)) (DeleteEdge e)) × (now (t .exit) ≡ edited (now (t .entry)) (DeleteEdge e)) ⌝ }
 {
     match delete_verdict(t, e) {
-        Verdict::Declines(r) => Answer::Declined(r),
+        Verdict::Declines(r) => Reply::Refused(r),
         Verdict::Passes => {
+            let ruling = delete_rule(t, e as usize);
             delete(t, e as usize);
-            Answer::Done(face_count(t))
+            by_rule(ruling)
         }
     }
 }
 
-// Turns edge e by an amount. Answers the new face count.
-pub fn turn_edge(t: &mut [u16], e: u16, amount: i16) -> Answer
-    ensures { λ r. ⌜ (r ≡ answer (now (t .entry)) (TurnEdge e amount)) × (now (t .exit) ≡ edited (now (t .entry)) (TurnEdge e amount)) ⌝ }
+// Turns edge e by an amount. Answers the new face count and the rule met.
+pub fn turn_edge(t: &mut [u16], e: u16, amount: i16) -> Reply
+    ensures { λ r. ⌜ (r ≡ reply (now (t .entry)) (TurnEdge e amount)) × (now (t .exit) ≡ edited (now (t .entry)) (TurnEdge e amount)) ⌝ }
 {
     match turn_verdict(t, e, amount) {
-        Verdict::Declines(r) => Answer::Declined(r),
+        Verdict::Declines(r) => Reply::Refused(r),
         Verdict::Passes => {
             let w = turned_word(t[EDGE + e as usize], amount);
+            let ruling = turn_rule(t, e as usize, w);
             t[EDGE + e as usize] = w;
-            Answer::Done(face_count(t))
+            by_rule(ruling)
         }
     }
 }

@@ -1,9 +1,12 @@
--- The theorems of this crate, document 01, "Edits". Each is proved by the law of its name.
+-- The theorems of this crate, document 01, "Edits", and document 02, request a. Each is proved by the law of its name.
 use Prim.Native.Nat.{ℕ, _+_, _*_}
 use mathlib.Core.Path.{_≡_}
 use mathlib.Core.List.{List}
+use mathlib.Core.Option.{some}
 use Rattle.table.specs.Good.{Good}
-use Rattle.edits.specs.Edits.{written, edited}
+use Rattle.edits.specs.Edits.{written, edited, answer}
+use Rattle.edits.specs.Rules.{ruleOf, ruleChange, reply, replyCode, facesRead, ruleRead, numberMet}
+use Rattle.edits.specs.declared.rule.Rule.{Rule}
 use Rattle.edits.specs.declared.edit.Edit.{Edit}
 use Rattle.edits.specs.declared.edit.Verdict.the-variants.{Passes, Declines}
 use Rattle.edits.specs.Verdicts.{verdict}
@@ -12,13 +15,15 @@ use Rattle.tracing.specs.Listing.{faceCount}
 use Rattle.surgery.specs.Change.{Changes}
 use Rattle.edits.specs.Changes.{change}
 use Rattle.table.specs.declared.answer.Refusal.{Refusal}
-use lib.IntN.{ℤ}
+use Rattle.table.specs.declared.answer.Answer.the-variants.{Done}
+use lib.IntN.{ℤ, pos}
 use Rattle.surgery.specs.Without.{Without}
 use Rattle.edits.specs.declared.edit.Edit.the-variants.{InsertEdge, DeleteEdge}
 use Rattle.surgery.specs.Sits.{Inserted}
 use Rattle.edits.specs.laws.WrittenGood as writtenGood
 use Rattle.edits.specs.laws.Changes as changes
 use Rattle.edits.specs.laws.Edits as edits
+use Rattle.edits.specs.laws.Rules as rules
 use Rattle.edits.specs.laws.Accepted as accepted
 
 -- the table that an accepted edit writes is good
@@ -29,6 +34,16 @@ written-good = writtenGood.written-good
 pub written-changes : (t : List ℕ) → (E : Edit) → verdict t E ≡ Passes
     → Changes (change t E) (faceCount (rotation t)) (faceCount (rotation (written t E)))
 written-changes = changes.written-changes
+
+-- document 02, request a: the face count changes by -1, +1, 0, 0 for A, B1, B2, E
+pub rule-changes : (t : List ℕ) (E : Edit) (r : Rule) → verdict t E ≡ Passes → ruleOf t E ≡ some r
+    → Changes (ruleChange r) (faceCount (rotation t)) (faceCount (rotation (written t E)))
+rule-changes = rules.rule-changes
+
+-- a host reads the face count and the rule in the number of an accepted edit
+pub reply-read : (t : List ℕ) (E : Edit) (n x : ℕ) → answer t E ≡ Done n → replyCode (reply t E) ≡ pos x
+    → (facesRead x ≡ n) × (ruleRead x ≡ numberMet (ruleOf t E))
+reply-read = rules.reply-read
 
 -- a declined edit leaves every word
 pub edited-declines : (t : List ℕ) (E : Edit) → (r : Refusal) → verdict t E ≡ Declines r → edited t E ≡ t

@@ -16,3 +16,4 @@ pub mod Edits
 pub mod RoundTrip
 pub mod Accepted
 pub mod Verdicts
+pub mod Rules

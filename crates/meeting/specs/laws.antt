@@ -1,3 +1,1 @@
-pub mod Meeting
-pub mod Search
-pub mod SidesFound
+pub mod Read

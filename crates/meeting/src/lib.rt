@@ -1,2 +1,2 @@
-// Whether two corners are on one face, and how the two sides of an edge lie: each by one walk.
+// How two corners meet and how the two sides of an edge lie, with the face count: by one trace of the faces.
 pub mod meeting;

@@ -2,6 +2,7 @@
 // A slice is a pointer and then its number of elements. `include/planner.h` declares the functions.
 use reader::standing::Standing;
 use reader::standing::step_call;
+use rules::reply::reply_code;
 use table::answer::code;
 use tally::tally::Tally;
 ghost use mathlib.Core.Path.{_≡_};
@@ -11,6 +12,7 @@ ghost use Rattle.table.specs.Check.{checkOf};
 ghost use Rattle.table.specs.Empty.{emptyOf, emptied};
 ghost use Rattle.tracing.specs.Call.{listAnswer, listOut};
 ghost use Rattle.edits.specs.Edits.{answer, edited};
+ghost use Rattle.edits.specs.Rules.{reply, replyCode};
 ghost use Rattle.surface.specs.Calls.{countsAnswer, countsOut, partsAnswer, partsOut};
 ghost use Rattle.weave.specs.Calls.{alternatesOf, plainOf, lettersOf, lettersOut};
 ghost use Rattle.lengths.specs.CutLength.{cutLengthOf};
@@ -58,28 +60,28 @@ pub extern "C" fn planner_remove_vertex(words: &mut [u16], v: u16) -> i64
     code(editor::vertex::remove_vertex(words, v))
 }
 
-// Inserts edge e with turns k: dart 2e into corner c1, then 2e+1 into c2.
+// Inserts edge e with turns k: dart 2e into corner c1, then 2e+1 into c2. Answers the face count and, above its 16 bits, the rule met.
 #[no_mangle]
 pub extern "C" fn planner_insert_edge(words: &mut [u16], e: u16, c1: u16, c2: u16, k: i16) -> i64
-    ensures { λ r. ⌜ (r ≡ codeOf (answer (now (words .entry)) (InsertEdge e c1 c2 k))) × (now (words .exit) ≡ edited (now (words .entry)) (InsertEdge e c1 c2 k)) ⌝ }
+    ensures { λ r. ⌜ (r ≡ replyCode (reply (now (words .entry)) (InsertEdge e c1 c2 k))) × (now (words .exit) ≡ edited (now (words .entry)) (InsertEdge e c1 c2 k)) ⌝ }
 {
-    code(editor::edge::insert_edge(words, e, c1, c2, k))
+    reply_code(editor::edge::insert_edge(words, e, c1, c2, k))
 }
 
-// Deletes edge e.
+// Deletes edge e. Answers the face count and, above its 16 bits, the rule met.
 #[no_mangle]
 pub extern "C" fn planner_delete_edge(words: &mut [u16], e: u16) -> i64
-    ensures { λ r. ⌜ (r ≡ codeOf (answer (now (words .entry)) (DeleteEdge e))) × (now (words .exit) ≡ edited (now (words .entry)) (DeleteEdge e)) ⌝ }
+    ensures { λ r. ⌜ (r ≡ replyCode (reply (now (words .entry)) (DeleteEdge e))) × (now (words .exit) ≡ edited (now (words .entry)) (DeleteEdge e)) ⌝ }
 {
-    code(editor::edge::delete_edge(words, e))
+    reply_code(editor::edge::delete_edge(words, e))
 }
 
-// Turns edge e by an amount.
+// Turns edge e by an amount. Answers the face count and, above its 16 bits, the rule met.
 #[no_mangle]
 pub extern "C" fn planner_turn_edge(words: &mut [u16], e: u16, amount: i16) -> i64
-    ensures { λ r. ⌜ (r ≡ codeOf (answer (now (words .entry)) (TurnEdge e amount))) × (now (words .exit) ≡ edited (now (words .entry)) (TurnEdge e amount)) ⌝ }
+    ensures { λ r. ⌜ (r ≡ replyCode (reply (now (words .entry)) (TurnEdge e amount))) × (now (words .exit) ≡ edited (now (words .entry)) (TurnEdge e amount)) ⌝ }
 {
-    code(editor::edge::turn_edge(words, e, amount))
+    reply_code(editor::edge::turn_edge(words, e, amount))
 }
 
 // Writes V, E, F, the number of parts and the Euler number, and answers five.

@@ -5,7 +5,7 @@ use crate::records::Stop;
 use crate::records::first_record;
 use editor::apply::apply;
 use edits::edit::Edit;
-use table::answer::Answer;
+use edits::rule::Reply;
 use table::answer::number_of;
 ghost use Prim.Native.Nat.{_≤_, _^_};
 ghost use mathlib.Core.Path.{_≡_};
@@ -35,8 +35,9 @@ fn run_record(t: &mut [u16], edit: Edit, n: u64, out: &mut [u8], at: usize) -> u
     ensures { λ r. ⌜ (now (t .exit) ≡ edited (now (t .entry)) edit) × Pasted 0 at (now (out .entry)) (editLine (now (t .entry)) n edit) r (now (out .exit)) ⌝ }
 {
     match apply(t, edit) {
-        Answer::Done(_) => at,
-        Answer::Declined(r) => no_line(out, at, n, number_of(r)),
+        Reply::Faces(_) => at,
+        Reply::ByRule(_, _) => at,
+        Reply::Refused(r) => no_line(out, at, n, number_of(r)),
     }
 }
 

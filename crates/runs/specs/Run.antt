@@ -7,7 +7,11 @@ use Rattle.tracing.specs.Listing.{faceCount}
 use Rattle.surgery.specs.Change.{Change, less, as-many, more}
 use Rattle.edits.specs.Edits.{edited}
 use Rattle.edits.specs.Changes.{change}
+use Rattle.edits.specs.Rules.{ruleChange, reply}
 use Rattle.edits.specs.declared.edit.Edit.{Edit}
+use Rattle.edits.specs.declared.edit.Edit.the-variants.{AddVertex, RemoveVertex, InsertEdge, DeleteEdge, TurnEdge}
+use Rattle.edits.specs.declared.rule.Reply.{Reply}
+use Rattle.edits.specs.declared.rule.Reply.the-variants.{Faces, ByRule, Refused}
 use Rattle.edits.specs.declared.edit.Verdict.{Verdict}
 use Rattle.edits.specs.declared.edit.Verdict.the-variants.{Passes, Declines}
 use Rattle.edits.specs.Verdicts.{verdict}
@@ -40,3 +44,21 @@ called t (E ∷ Es) = calls t E +ℤ called (edited t E) Es
 -- "Its start count is the number of listed walks before the run."
 abbrev pub faceNumber : List ℕ → ℤ
 faceNumber t = pos (faceCount (rotation t))
+
+-- what an edit's answer says of the faces, document 02, request a: a rule its change; a vertex added +1, one removed -1; a refusal 0
+abbrev pub vertexTells : Edit → ℤ
+vertexTells (AddVertex v) = number more
+vertexTells (RemoveVertex v) = number less
+vertexTells (InsertEdge e c₁ c₂ k) = pos 0
+vertexTells (DeleteEdge e) = pos 0
+vertexTells (TurnEdge e a) = pos 0
+
+abbrev pub tells : Edit → Reply → ℤ
+tells E (Faces n) = vertexTells E
+tells E (ByRule n r) = number (ruleChange r)
+tells E (Refused r) = pos 0
+
+-- what the answers of the whole run say
+unfoldable pub told : List ℕ → List Edit → ℤ
+told t [] = pos 0
+told t (E ∷ Es) = tells E (reply t E) +ℤ told (edited t E) Es

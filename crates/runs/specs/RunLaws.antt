@@ -5,6 +5,7 @@ use mathlib.Core.Path.{_≡_}
 use mathlib.Core.Bool.{true}
 use mathlib.Core.List.{List, [], _∷_, _++_}
 use mathlib.Core.Logic.{_↔_}
+use mathlib.Core.Option.{some}
 use lib.ListN.{length}
 use lib.IntN.{ℤ, pos, _+ℤ_}
 use Rattle.table.specs.Good.{Good}
@@ -13,10 +14,13 @@ use Rattle.table.specs.Rotation.{Rotation, rotation}
 use Rattle.table.specs.Output.{Accepted}
 use Rattle.table.specs.declared.answer.Answer.the-variants.{Done}
 use Rattle.tracing.specs.Met.{times, countIn, cornersOf, listedCorners, listedSteps, onEdge}
-use Rattle.tracing.specs.Listing.{has, faces, listing, bit}
+use Rattle.tracing.specs.Listing.{has, faces, faceCount, listing, bit}
 use Rattle.tracing.specs.Call.{listAnswer, listOut}
 use Rattle.tracing.specs.Corner.{Present}
+use Rattle.surgery.specs.Change.{Changes}
 use Rattle.edits.specs.Edits.{answer}
+use Rattle.edits.specs.Rules.{ruleOf, ruleChange, withRule, reply}
+use Rattle.edits.specs.declared.rule.Rule.{Rule}
 use Rattle.edits.specs.declared.edit.Edit.{Edit}
 use Rattle.surface.specs.Chain.{Chain, Orientable}
 use Rattle.surface.specs.Labels.{inPart, orientable}
@@ -27,7 +31,7 @@ use Rattle.surface.specs.Calls.{countsOf, countsAnswer, countsOut, partRows, pa
 use Rattle.weave.specs.Letters.{letters, alternates, plain}
 use Rattle.weave.specs.Calls.{lettersOf, lettersOut, alternatesOf, plainOf}
 use Rattle.weave.specs.Ribbon.{SameWay}
-use Rattle.runs.specs.Run.{run, called, faceNumber}
+use Rattle.runs.specs.Run.{run, called, told, faceNumber}
 
 module _ (t : List ℕ) (Es : List Edit) where
   -- "Walks, counts, orientable marks and letters are those of the table after the run": that table, and its rotation system
@@ -70,6 +74,13 @@ module _ (t : List ℕ) (Es : List Edit) where
     -- "and every accepted edit answered it": wherever in the run the edit stands
     pub answered : (front : List Edit) (E : Edit) (back : List Edit) → Es ≡ front ++ E ∷ back → (n : ℕ) → answer (run t front) E ≡ Done n
         → pos n ≡ faceNumber t +ℤ called t (front ++ (E ∷ []))
+    -- document 02, request a: with the count the edit answered the rule that its places on the table just before call for, and the rule
+    -- says how the count came of the one before
+    pub ruled : (front : List Edit) (E : Edit) (back : List Edit) → Es ≡ front ++ E ∷ back → (n : ℕ) → answer (run t front) E ≡ Done n
+        → (reply (run t front) E ≡ withRule (Done n) (ruleOf (run t front) E))
+        × ((r : Rule) → ruleOf (run t front) E ≡ some r → Changes (ruleChange r) (faceCount (rotation (run t front))) n)
+    -- so the face count is that at the start plus what the answered rules say
+    pub told-count : faceNumber after ≡ faceNumber t +ℤ told t Es
     -- "a ribbon alternates exactly if its turned edges all turn the same way": the ribbon through any step on a live dart
     pub alternation : (s : ℕ) → R .live (s / 2) ≡ true → (alternates after s ≡ true) ↔ SameWay after s
     -- "the calls for the listing, the counts and the letters, where accepted on it, answer exactly these"

@@ -9,11 +9,14 @@ use lib.IntN.{ℤ, pos, negℤ}
 use Rattle.table.specs.Layout.{darts, edgeWord}
 use Rattle.table.specs.Rotation.{Rotation, rotation}
 use Rattle.table.specs.Empty.{emptyTable}
-use Rattle.table.specs.Answers.{codeOf}
 use Rattle.tracing.specs.Walk.{walk}
 use Rattle.tracing.specs.Listing.{starts, loneCorner, faceCount}
 use Rattle.edits.specs.Turns.{turnsIn}
-use Rattle.edits.specs.Edits.{edited, answer}
+use Rattle.edits.specs.Edits.{edited}
+use Rattle.edits.specs.Rules.{reply, replyCode}
+use Rattle.edits.specs.declared.rule.Rule.{Rule}
+use Rattle.edits.specs.declared.rule.Rule.the-variants as rule
+use Rattle.edits.specs.declared.rule.Reply.the-variants.{ByRule}
 use Rattle.edits.specs.declared.edit.Edit.{Edit}
 use Rattle.edits.specs.declared.edit.Edit.the-variants.{AddVertex, InsertEdge, TurnEdge}
 use Rattle.surface.specs.Labels.{orientable}
@@ -50,10 +53,14 @@ Has t (Steps l) = walkLengths (rotation t) ≡ l
 Has t (Plain b) = plain t ≡ b
 Has t (Turns e z) = turnsIn (edgeWord t e) ≡ z
 
--- what a host gets from each edit of a run: the new face count, or minus the number of the refusal
+-- what a host gets from each edit of a run: the new face count, for an edge with the rule met, or minus the number of the refusal
 unfoldable pub answers : List ℕ → List Edit → List ℤ
 answers t [] = []
-answers t (E ∷ Es) = codeOf (answer t E) ∷ answers (edited t E) Es
+answers t (E ∷ Es) = replyCode (reply t E) ∷ answers (edited t E) Es
+
+-- F faces by a rule
+abbrev pub by : ℕ → Rule → ℤ
+by n r = replyCode (ByRule n r)
 
 -- the edits from the empty mesh, what each of them answers, and what holds after them
 pub record Sample : Type 0 where
@@ -97,20 +104,20 @@ samples =
     -- "one vertex: F 1, Euler 2"
     ∷ sample (AddVertex 0 ∷ []) (pos 1 ∷ []) (F 1 ∷ Euler (pos 2) ∷ [])
     -- 2. "two vertices, one edge, turns 0 or 1: F 1, Euler 2, orientable both times"
-    ∷ sample (oneEdge (pos 0)) (pos 1 ∷ pos 2 ∷ pos 1 ∷ []) (F 1 ∷ Euler (pos 2) ∷ Marks (true ∷ []) ∷ [])
-    ∷ sample (oneEdge (pos 1)) (pos 1 ∷ pos 2 ∷ pos 1 ∷ []) (F 1 ∷ Euler (pos 2) ∷ Marks (true ∷ []) ∷ [])
+    ∷ sample (oneEdge (pos 0)) (pos 1 ∷ pos 2 ∷ by 1 rule.A ∷ []) (F 1 ∷ Euler (pos 2) ∷ Marks (true ∷ []) ∷ [])
+    ∷ sample (oneEdge (pos 1)) (pos 1 ∷ pos 2 ∷ by 1 rule.A ∷ []) (F 1 ∷ Euler (pos 2) ∷ Marks (true ∷ []) ∷ [])
     -- 3. "one loop: turns 0, F 2, Euler 2; turns 1, F 1, Euler 1, n"
-    ∷ sample (oneLoop (pos 0)) (pos 1 ∷ pos 2 ∷ []) (F 2 ∷ Euler (pos 2) ∷ [])
-    ∷ sample (oneLoop (pos 1)) (pos 1 ∷ pos 1 ∷ []) (F 1 ∷ Euler (pos 1) ∷ Marks (false ∷ []) ∷ [])
+    ∷ sample (oneLoop (pos 0)) (pos 1 ∷ by 2 rule.B1 ∷ []) (F 2 ∷ Euler (pos 2) ∷ [])
+    ∷ sample (oneLoop (pos 1)) (pos 1 ∷ by 1 rule.B2 ∷ []) (F 1 ∷ Euler (pos 1) ∷ Marks (false ∷ []) ∷ [])
     -- 4. "loop of turns 1, then turns 0 between corners 0 and 1: F 1, Euler 0, n"
-    ∷ sample (twoLoops (pos 1) (pos 0)) (pos 1 ∷ pos 1 ∷ pos 1 ∷ []) (F 1 ∷ Euler (pos 0) ∷ Marks (false ∷ []) ∷ [])
+    ∷ sample (twoLoops (pos 1) (pos 0)) (pos 1 ∷ by 1 rule.B2 ∷ by 1 rule.B2 ∷ []) (F 1 ∷ Euler (pos 0) ∷ Marks (false ∷ []) ∷ [])
     -- 5. "the same with turns 0 twice: F 1, Euler 0, o"
-    ∷ sample (twoLoops (pos 0) (pos 0)) (pos 1 ∷ pos 2 ∷ pos 1 ∷ []) (F 1 ∷ Euler (pos 0) ∷ Marks (true ∷ []) ∷ [])
+    ∷ sample (twoLoops (pos 0) (pos 0)) (pos 1 ∷ by 2 rule.B1 ∷ by 1 rule.A ∷ []) (F 1 ∷ Euler (pos 0) ∷ Marks (true ∷ []) ∷ [])
     -- "both 1: two walks of two steps, Euler 1"
-    ∷ sample (twoLoops (pos 1) (pos 1)) (pos 1 ∷ pos 1 ∷ pos 2 ∷ []) (F 2 ∷ Steps (2 ∷ 2 ∷ []) ∷ Euler (pos 1) ∷ [])
+    ∷ sample (twoLoops (pos 1) (pos 1)) (pos 1 ∷ by 1 rule.B2 ∷ by 2 rule.B1 ∷ []) (F 2 ∷ Steps (2 ∷ 2 ∷ []) ∷ Euler (pos 1) ∷ [])
     -- "turns 1 and -1: mixed"
-    ∷ sample (twoLoops (pos 1) (negℤ (pos 1))) (pos 1 ∷ pos 1 ∷ pos 2 ∷ []) (Plain false ∷ [])
+    ∷ sample (twoLoops (pos 1) (negℤ (pos 1))) (pos 1 ∷ by 1 rule.B2 ∷ by 2 rule.B1 ∷ []) (Plain false ∷ [])
     -- 6. "turns 99, turn by 1: 6; by -198: -99"
-    ∷ sample (turnedLoop (pos 1)) (pos 1 ∷ pos 1 ∷ negℤ (pos 6) ∷ []) (Turns 0 (pos 99) ∷ [])
-    ∷ sample (turnedLoop (negℤ (pos 198))) (pos 1 ∷ pos 1 ∷ pos 1 ∷ []) (Turns 0 (negℤ (pos 99)) ∷ [])
+    ∷ sample (turnedLoop (pos 1)) (pos 1 ∷ by 1 rule.B2 ∷ negℤ (pos 6) ∷ []) (Turns 0 (pos 99) ∷ [])
+    ∷ sample (turnedLoop (negℤ (pos 198))) (pos 1 ∷ by 1 rule.B2 ∷ by 1 rule.E ∷ []) (Turns 0 (negℤ (pos 99)) ∷ [])
     ∷ []

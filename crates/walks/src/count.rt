@@ -58,7 +58,7 @@ pub fn look(t: &[u16], met: &mut [u8; DARTS], d: usize) -> Size
 }
 
 // The number of isolated vertices.
-fn isolated(t: &[u16]) -> u32
+pub fn isolated(t: &[u16]) -> u32
     requires { ⌜ Good (now t) ⌝ }
     ensures { λ n. ⌜ Lone (now (t .entry)) vertices n ⌝ }
 {

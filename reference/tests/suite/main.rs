@@ -1,4 +1,4 @@
-//! The reference tried against document 01 and document 000. Expected values are those that the documents print, or
+//! The reference tried against documents 01, 02 and 000. Expected values are those that the documents print, or
 //! that a second and slower way gives; none is copied from what the program answered.
 
 mod bands;
@@ -8,13 +8,16 @@ mod k4;
 mod reader;
 mod refusals;
 mod ribbons;
+mod rules;
 mod runs;
 mod samples;
 mod solids;
 mod wrong_readings;
 
-use reference::edit::{edit, Edit};
+use reference::edit::{edit, Answer, Edit};
 use reference::faces::{Faces, VERTEX_CORNER};
+use reference::refusal::Refusal;
+use reference::rule::Rule;
 use reference::table::empty_mesh;
 use reference::trace::Step;
 
@@ -41,6 +44,11 @@ pub fn turn(e: u16, amount: i16) -> Edit {
 /// The corner of an isolated vertex.
 pub fn around(v: u16) -> u16 {
     VERTEX_CORNER + v
+}
+
+/// What an accepted edit of an edge answers.
+pub fn met(faces: usize, rule: Rule) -> Result<Answer, Refusal> {
+    Ok(Answer { faces, rule: Some(rule) })
 }
 
 /// The table after edits from the empty mesh, each of which must be accepted.

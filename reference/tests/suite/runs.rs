@@ -50,7 +50,7 @@ fn every_clause_after_a_run() {
         for (answer, change) in run.answers.iter().zip(&run.changes) {
             faces += change;
             match answer {
-                Ok(answer) => assert_eq!(*answer as i64, faces, "the answer is what the rules call for"),
+                Ok(answer) => assert_eq!(answer.faces as i64, faces, "the answer is what the rules call for"),
                 Err(_) => assert_eq!(*change, 0),
             }
         }
@@ -128,6 +128,17 @@ fn the_empty_run() {
     assert_eq!(run.start_faces, boundary_circles(&table));
 }
 
+/// The letter that goes with a difference of two face counts.
+fn letter(change: Edit, difference: i64) -> Option<Rule> {
+    match change {
+        Edit::AddVertex { .. } | Edit::RemoveVertex { .. } => None,
+        Edit::TurnEdge { amount, .. } if amount % 2 == 0 => Some(Rule::E),
+        _ if difference == -1 => Some(Rule::A),
+        _ if difference == 1 => Some(Rule::B1),
+        _ => Some(Rule::B2),
+    }
+}
+
 #[test]
 fn the_change_at_each_edit_is_the_rules_and_every_rule_comes_up() {
     let mut random = Random::new(0xed17);
@@ -141,17 +152,23 @@ fn the_change_at_each_edit_is_the_rules_and_every_rule_comes_up() {
             if verdict(&table, change).is_ok() {
                 let called_for = face_change(&table, change);
                 let before = boundary_circles(&table) as i64;
-                assert_eq!(edit(&mut table, change).unwrap() as i64, before + called_for, "{change:?}");
-                assert_eq!(boundary_circles(&table) as i64, before + called_for, "{change:?}");
-                *seen.entry((kind(change), called_for)).or_insert(0) += 1;
+                let answer = edit(&mut table, change).unwrap();
+                let difference = boundary_circles(&table) as i64 - before;
+                assert_eq!(answer.faces as i64 - before, difference, "{change:?}");
+                assert_eq!(called_for, difference, "{change:?}");
+                assert_eq!(answer.rule, letter(change, difference), "{change:?}");
+                *seen.entry((kind(change), answer.rule, difference)).or_insert(0) += 1;
             }
         }
     }
-    let kinds = [("add", 1), ("remove", -1)];
-    let changes = ["insert", "delete", "turn"].iter().flat_map(|&k| [-1, 0, 1].map(|c| (k, c)));
-    for case in kinds.into_iter().chain(changes) {
-        assert!(seen.get(&case).is_some_and(|&times| times > 20), "{case:?} in {seen:?}");
+    let once = [("add", None, 1), ("remove", None, -1), ("turn", Some(Rule::E), 0)];
+    let rules = [(Rule::A, -1), (Rule::B1, 1), (Rule::B2, 0)];
+    let edges = ["insert", "delete", "turn"].iter().flat_map(|&k| rules.map(|(rule, change)| (k, Some(rule), change)));
+    let cases: Vec<_> = once.into_iter().chain(edges).collect();
+    for case in &cases {
+        assert!(seen.get(case).is_some_and(|&times| times > 20), "{case:?} in {seen:?}");
     }
+    assert_eq!(seen.len(), cases.len(), "and nothing else comes up");
 }
 
 #[test]

@@ -30,7 +30,7 @@ fn a_twisted_loop_is_not_orientable_though_it_is_on_no_simple_path() {
 #[test]
 fn an_insertion_within_a_face_need_not_split_it() {
     let mut table = made(&[add(0), insert(0, around(0), around(0), 1)]);
-    assert_eq!(edit(&mut table, insert(1, 0, 1, 0)), Ok(1));
+    assert_eq!(edit(&mut table, insert(1, 0, 1, 0)), met(1, Rule::B2));
 }
 
 #[test]

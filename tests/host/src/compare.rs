@@ -3,7 +3,7 @@
 use crate::guarded::Guarded;
 use crate::planner;
 use reference::edit::{edit, Edit};
-use reference::table::VERTICES;
+use reference::table::{empty_mesh, VERTICES};
 pub use reference::trial::edits::kind;
 use std::collections::BTreeMap;
 
@@ -20,6 +20,17 @@ impl Twins {
         Twins { lent: Guarded::new(table, GUARD), own: table.to_vec() }
     }
 
+    /// Vertices 0 and 1, and edge 0 with k turns between two of their corners, 32,768 and 32,769. As a loop at vertex 0 it leaves
+    /// vertex 1 a face of its own; flat, each of its darts has a face, (0, 0) and (1, 0); with an odd k the walk is (0, 0), (0, 1).
+    /// Between the two vertices its walk is (0, 0), (1, t), with t the parity of k.
+    pub fn with_edge(c1: u16, c2: u16, k: i16) -> Twins {
+        let mut twins = Twins::new(&empty_mesh());
+        for change in [Edit::AddVertex { v: 0 }, Edit::AddVertex { v: 1 }, Edit::InsertEdge { e: 0, c1, c2, k }] {
+            assert!(twins.edit(change) >= 0);
+        }
+        twins
+    }
+
     /// The words as they are now, in both hands.
     pub fn words(&self) -> &[u16] {
         &self.own
@@ -28,7 +39,7 @@ impl Twins {
     /// One edit in both hands; the answer, on which they agree.
     pub fn edit(&mut self, change: Edit) -> i64 {
         let before = if cfg!(debug_assertions) { self.own.clone() } else { Vec::new() };
-        let expected = planner::as_number(edit(&mut self.own, change));
+        let expected = planner::as_edit_number(edit(&mut self.own, change));
         let answer = planner::edit(self.lent.slice_mut(), change);
         assert_eq!(answer, expected, "{change:?}");
         if self.lent.slice() != self.own {
@@ -45,34 +56,38 @@ impl Twins {
     }
 }
 
-/// How often each kind of edit answered a face count (under 0) or each refusal (under its number).
+/// How often each kind of edit met each rule (under 1 to 4, 0 where it has none) or answered each refusal (under minus its
+/// number).
 #[derive(Default, Debug)]
 pub struct Seen(BTreeMap<(&'static str, i64), usize>);
 
 impl Seen {
     pub fn note(&mut self, change: Edit, answer: i64) {
-        *self.0.entry((kind(change), (-answer).max(0))).or_insert(0) += 1;
+        let outcome = if answer < 0 { answer } else { answer / 65_536 };
+        *self.0.entry((kind(change), outcome)).or_insert(0) += 1;
     }
 
-    /// Each of these came up at least so often. What can come up is under "When a call declines".
+    /// Each of these came up at least so often, and nothing else came up.
     pub fn assert_all(&self, kinds: &[&'static str], times: usize) {
         for &kind in kinds {
-            for &number in outcomes(kind) {
-                let seen = self.0.get(&(kind, number)).copied().unwrap_or(0);
-                assert!(seen >= times, "{kind} with {number}: {seen} times in {self:?}");
+            for &outcome in outcomes(kind) {
+                let seen = self.0.get(&(kind, outcome)).copied().unwrap_or(0);
+                assert!(seen >= times, "{kind} with {outcome}: {seen} times in {self:?}");
             }
         }
+        assert!(self.0.keys().all(|(kind, outcome)| outcomes(kind).contains(outcome)), "{self:?}");
     }
 }
 
-/// What an edit of a good table can answer: 0 stands for being accepted.
+/// What an edit of a good table can come to: its rules, as they stand under "Edits", and its refusals, as they stand under
+/// "When a call declines".
 fn outcomes(kind: &str) -> &'static [i64] {
     match kind {
-        "add" => &[0, 2, 3],
-        "remove" => &[0, 2, 4, 5],
-        "insert" => &[0, 2, 3, 4, 6],
-        "delete" => &[0, 2, 4],
-        _ => &[0, 2, 4, 6],
+        "add" => &[0, -2, -3],
+        "remove" => &[0, -2, -4, -5],
+        "insert" => &[1, 2, 3, -2, -3, -4, -6],
+        "delete" => &[1, 2, 3, -2, -4],
+        _ => &[1, 2, 3, 4, -2, -4, -6],
     }
 }
 

@@ -1,8 +1,9 @@
 //! The calls of include/planner.h, each in a safe function. A slice is a pointer and its length in elements; the
 //! answer is 0 or more, or minus the number of the refusal.
 
-use reference::edit::Edit;
+use reference::edit::{Answer, Edit};
 use reference::refusal::Refusal;
+use reference::rule::Rule;
 
 mod c {
     extern "C" {
@@ -85,6 +86,24 @@ pub fn as_number(answer: Result<usize, Refusal>) -> i64 {
         Ok(answer) => answer as i64,
         Err(refusal) => -i64::from(refusal.number()),
     }
+}
+
+/// What each rule adds to an edit's answer: it is faces + 65536 * rule.
+pub const A: i64 = 65_536;
+pub const B1: i64 = 2 * 65_536;
+pub const B2: i64 = 3 * 65_536;
+pub const E: i64 = 4 * 65_536;
+
+/// What an edit of the reference answers, as the C interface says it; a vertex has no rule.
+pub fn as_edit_number(answer: Result<Answer, Refusal>) -> i64 {
+    let added = match answer.map(|answer| answer.rule) {
+        Ok(Some(Rule::A)) => A,
+        Ok(Some(Rule::B1)) => B1,
+        Ok(Some(Rule::B2)) => B2,
+        Ok(Some(Rule::E)) => E,
+        Ok(None) | Err(_) => 0,
+    };
+    as_number(answer.map(|answer| answer.faces)) + added
 }
 
 pub fn empty(table: &mut [u16]) -> i64 {

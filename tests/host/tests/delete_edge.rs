@@ -1,23 +1,33 @@
-//! planner_delete_edge: 2, 4, else the table without the edge and the face count after its rule.
+//! planner_delete_edge: 2, 4, else the table without the edge, the face count after its rule, and the rule.
 
-use host::compare::Twins;
+use host::compare::{Seen, Twins};
+use host::planner::{A, B1, B2};
 use reference::edit::Edit;
 use reference::table::{live_edges, EDGES};
 use reference::trial::random::Random;
 use reference::trial::tables::random_table;
 
 #[test]
+fn each_rule() {
+    let deleted = |c1, c2, k| Twins::with_edge(c1, c2, k).edit(Edit::DeleteEdge { e: 0 });
+    assert_eq!(deleted(32_768, 32_768, 0), 2 + A, "its sides are on different faces");
+    assert_eq!(deleted(32_768, 32_769, 0), 2 + B1, "its walk passes by both darts");
+    assert_eq!(deleted(32_768, 32_769, 1), 2 + B1, "its walk passes by both darts");
+    assert_eq!(deleted(32_768, 32_768, 1), 2 + B2, "its walk passes by dart 0 twice");
+}
+
+#[test]
 fn every_name_on_random_tables() {
     let mut random = Random::new(0xd1);
-    let mut seen = [0; 5];
+    let mut seen = Seen::default();
     for _ in 0..12 {
         let table = random_table(&mut random);
         for e in (0..EDGES as u16 + 2).chain([2_048, 32_768, 65_534, 65_535]) {
-            let answer = Twins::new(&table).edit(Edit::DeleteEdge { e });
-            seen[(-answer).max(0) as usize] += 1;
+            let change = Edit::DeleteEdge { e };
+            seen.note(change, Twins::new(&table).edit(change));
         }
     }
-    assert!(seen[0] > 500 && seen[2] > 50 && seen[4] > 500, "{seen:?}");
+    seen.assert_all(&["delete"], 50);
 }
 
 #[test]

@@ -53,7 +53,7 @@ odd-sum (negsuc a) (negsuc b) = omega arith
 odd-word : (z : ℤ) → wordFor z % 2 ≡ natAbs z % 2
 odd-word z = let e = odd-sum z (pos 100) in omega arith
 
-odd-turned : (w : ℕ) (a : ℤ) → overturned (turnsIn w +ℤ a) ≡ false → turnedWord w a % 2 ≡ (w + natAbs a) % 2
+pub odd-turned : (w : ℕ) (a : ℤ) → overturned (turnsIn w +ℤ a) ≡ false → turnedWord w a % 2 ≡ (w + natAbs a) % 2
 odd-turned w a f =
     let p = odd-word (turnsIn w +ℤ a) in
     let q = odd-sum (turnsIn w) a in

@@ -7,7 +7,6 @@ use mir.Syntax.{w16}
 use mir.Val.{SFits, toZ, ofZ}
 use mir.Facts.{toZ-ofZ}
 use Rattle.table.specs.Rotation.{rotation}
-use Rattle.table.specs.declared.answer.Answer.{Answer}
 use Rattle.table.specs.declared.answer.Answer.the-variants.{Done, Declined}
 use Rattle.table.specs.declared.answer.Refusal.{Refusal}
 use Rattle.tracing.specs.Listing.{faceCount}
@@ -15,7 +14,9 @@ use Rattle.edits.specs.declared.edit.Edit.{Edit}
 use Rattle.edits.specs.declared.edit.Edit.the-variants.{InsertEdge, TurnEdge}
 use Rattle.edits.specs.declared.edit.Verdict.the-variants.{Passes, Declines}
 use Rattle.edits.specs.Verdicts.{verdict}
+use Rattle.edits.specs.declared.rule.Reply.{Reply}
 use Rattle.edits.specs.Edits.{written, edited, answer}
+use Rattle.edits.specs.Rules.{reply}
 
 module _ (t : List ℕ) (E : Edit) where
   pub edited-passes : verdict t E ≡ Passes → edited t E ≡ written t E
@@ -42,14 +43,14 @@ module _ (t : List ℕ) (E : Edit) where
   was-declined r p = (sym (answer-declines r p), sym (edited-declines r p))
 
 -- an edit that is told by its parts
-pub same-edit : (t u : List ℕ) (E F : Edit) (r : Answer) → E ≡ F → (r ≡ answer t F) × (u ≡ edited t F) → (r ≡ answer t E) × (u ≡ edited t E)
+pub same-edit : (t u : List ℕ) (E F : Edit) (r : Reply) → E ≡ F → (r ≡ reply t F) × (u ≡ edited t F) → (r ≡ reply t E) × (u ≡ edited t E)
 same-edit t u E F r e p = rw e p
 
 -- turns and amounts that are handed on keep their values
-pub same-insertion : (t u : List ℕ) (E : Edit) (r : Answer) (e c₁ c₂ : ℕ) (k : ℤ) → SFits w16 k → E ≡ InsertEdge e c₁ c₂ k
-    → (r ≡ answer t (InsertEdge e c₁ c₂ (toZ w16 (ofZ w16 k)))) × (u ≡ edited t (InsertEdge e c₁ c₂ (toZ w16 (ofZ w16 k)))) → (r ≡ answer t E) × (u ≡ edited t E)
+pub same-insertion : (t u : List ℕ) (E : Edit) (r : Reply) (e c₁ c₂ : ℕ) (k : ℤ) → SFits w16 k → E ≡ InsertEdge e c₁ c₂ k
+    → (r ≡ reply t (InsertEdge e c₁ c₂ (toZ w16 (ofZ w16 k)))) × (u ≡ edited t (InsertEdge e c₁ c₂ (toZ w16 (ofZ w16 k)))) → (r ≡ reply t E) × (u ≡ edited t E)
 same-insertion t u E r e c₁ c₂ k f p q = same-edit t u E _ r (p ∙ ap (InsertEdge e c₁ c₂) (sym (toZ-ofZ {w = w16} f))) q
 
-pub same-turn : (t u : List ℕ) (E : Edit) (r : Answer) (e : ℕ) (a : ℤ) → SFits w16 a → E ≡ TurnEdge e a
-    → (r ≡ answer t (TurnEdge e (toZ w16 (ofZ w16 a)))) × (u ≡ edited t (TurnEdge e (toZ w16 (ofZ w16 a)))) → (r ≡ answer t E) × (u ≡ edited t E)
+pub same-turn : (t u : List ℕ) (E : Edit) (r : Reply) (e : ℕ) (a : ℤ) → SFits w16 a → E ≡ TurnEdge e a
+    → (r ≡ reply t (TurnEdge e (toZ w16 (ofZ w16 a)))) × (u ≡ edited t (TurnEdge e (toZ w16 (ofZ w16 a)))) → (r ≡ reply t E) × (u ≡ edited t E)
 same-turn t u E r e a f p q = same-edit t u E _ r (p ∙ ap (TurnEdge e) (sym (toZ-ofZ {w = w16} f))) q

@@ -17,12 +17,8 @@ use Rattle.table.specs.Rotation.{Rotation, Lawful, rotation, there?, live?}
 use Rattle.table.specs.laws.Rotation.{there-yes, there-word, live-yes, yes-live}
 use Rattle.orbits.specs.laws.Truth.{Truth, truth, holds, fails, both, false-unless}
 use Rattle.orbits.specs.Count.{count, more}
-use Rattle.orbits.specs.laws.Count.{count-le}
-use Rattle.orbits.specs.laws.Classes.{classes-le}
-use Rattle.orbits.specs.Faces.{faced, faceClasses}
-use Rattle.tracing.specs.laws.Place.{places, trace, flip, on}
 use Rattle.tracing.specs.Listing.{faceCount, only, bit}
-use Rattle.tracing.specs.laws.FaceCount.{face-count}
+use Rattle.tracing.specs.laws.FaceCount.{faces-low}
 use mir.Syntax.{w32}
 use mir.Val.{SFits, toZ, ofZ}
 use mir.Facts.{toZ-ofZ}
@@ -117,14 +113,6 @@ six-each R (r ∷ l) = let rest = six-each R l in rw (length-append (row R r) (r
 pub rows-length : (R : Rotation) → length (rows R vertices) ≡ 6 * length (parts R)
 unfolding rows parts
 rows-length R = six-each R (parts R)
-
-pub faces-low : {R : Rotation} → Lawful R → faceCount R ≤ places
-unfolding faceClasses
-faces-low {R} L =
-    let a = classes-le (faced (trace R) (flip R) places) places (on R) in
-    let b = count-le (on R) places in
-    let c = face-count R L in
-    omega arith
 
 -- V, E, F, the parts and V-E+F
 pub record MeshCounts (R : Rotation) (v e f p : ℕ) (x : ℤ) : Type 0 where

@@ -1,6 +1,6 @@
 -- `planner::planner_insert_edge` meets its contract. Inserts edge e with turns k: dart 2e into corner c1, then 2e+1 into c2.
 use mathlib.Core.Path.{_∙_, ap, refl}
-use Rattle.table.specs.Answers.{codeOf}
+use Rattle.edits.specs.Rules.{replyCode}
 use Rattle.table.specs.laws.Answers.{handed-on}
 use Rattle.edits.specs.laws.Edits.{same-insertion}
 use borrow.Author.Needs.{needs}
@@ -10,8 +10,8 @@ use Rattle.planner.proofs.planner_insert_edge.Tie as tie
 insert-edge-requires : tie.Need-insert-edge-requires
 insert-edge-requires c κs = search needs
 
-code-requires : tie.Need-code-requires
-code-requires c κs = search needs
+reply-code-requires : tie.Need-reply-code-requires
+reply-code-requires c κs = search needs
 
 same-length : tie.Need-same-length
 same-length c = search needs
@@ -21,8 +21,8 @@ returns c =
     let start = c .before .before .before .before .before .before in
     let insert-edge = c .before .before .before .insert-edge in
     let q = same-insertion _ _ _ _ (start .args .e) (start .args .c1) (start .args .c2) (start .args .k) (start .fits .k) refl (insert-edge .ensures) in
-    (handed-on (c .code .ok) (c .code .ensures ∙ ap codeOf (q .0)), q .1)
+    (handed-on (c .reply-code .ok) (c .reply-code .ensures ∙ ap replyCode (q .0)), q .1)
 
 pub planner-insert-edge-spec : {M : Type 1} → statement M
 planner-insert-edge-spec =
-    tie.close (tie.spec insert-edge-requires code-requires same-length returns)
+    tie.close (tie.spec insert-edge-requires reply-code-requires same-length returns)

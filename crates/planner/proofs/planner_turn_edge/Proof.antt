@@ -1,6 +1,6 @@
 -- `planner::planner_turn_edge` meets its contract. Turns edge e by an amount.
 use mathlib.Core.Path.{_∙_, ap, refl}
-use Rattle.table.specs.Answers.{codeOf}
+use Rattle.edits.specs.Rules.{replyCode}
 use Rattle.table.specs.laws.Answers.{handed-on}
 use Rattle.edits.specs.laws.Edits.{same-turn}
 use borrow.Author.Needs.{needs}
@@ -10,8 +10,8 @@ use Rattle.planner.proofs.planner_turn_edge.Tie as tie
 turn-edge-requires : tie.Need-turn-edge-requires
 turn-edge-requires c κs = search needs
 
-code-requires : tie.Need-code-requires
-code-requires c κs = search needs
+reply-code-requires : tie.Need-reply-code-requires
+reply-code-requires c κs = search needs
 
 same-length : tie.Need-same-length
 same-length c = search needs
@@ -21,7 +21,7 @@ returns c =
     let start = c .before .before .before .before .before .before in
     let turn-edge = c .before .before .before .turn-edge in
     let q = same-turn _ _ _ _ (start .args .e) (start .args .amount) (start .fits .amount) refl (turn-edge .ensures) in
-    (handed-on (c .code .ok) (c .code .ensures ∙ ap codeOf (q .0)), q .1)
+    (handed-on (c .reply-code .ok) (c .reply-code .ensures ∙ ap replyCode (q .0)), q .1)
 
 pub planner-turn-edge-spec : {M : Type 1} → statement M
-planner-turn-edge-spec = tie.close (tie.spec turn-edge-requires code-requires same-length returns)
+planner-turn-edge-spec = tie.close (tie.spec turn-edge-requires reply-code-requires same-length returns)

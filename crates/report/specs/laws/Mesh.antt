@@ -17,7 +17,8 @@ use Rattle.tracing.specs.Listing.{faceCount}
 use Rattle.surface.specs.Counts.{vertexCount}
 use Rattle.surface.specs.Signed.{meshEuler}
 use Rattle.tallies.specs.laws.EulerWord.{euler-sfits}
-use Rattle.measure.specs.laws.Mesh.{MeshCounts, faces-low}
+use Rattle.measure.specs.laws.Mesh.{MeshCounts}
+use Rattle.tracing.specs.laws.FaceCount.{faces-low}
 use Rattle.weave.specs.Letters.{plain}
 use Rattle.lines.specs.Lines.{space, newline, meshText, meshLine, kind-word, weave-word, weaveLine}
 use Rattle.tracing.specs.Met.{edgeCount}

@@ -30,7 +30,8 @@ use Rattle.surface.specs.Signed.{partEuler}
 use Rattle.surface.specs.Labels.{inPart, orientable}
 use Rattle.tallies.specs.laws.EulerWord.{euler-sfits}
 use Rattle.measure.specs.laws.Rows.{Written, rows-append, flag-fits}
-use Rattle.measure.specs.laws.Mesh.{six-each, rows-length, faces-low, parts-count}
+use Rattle.measure.specs.laws.Mesh.{six-each, rows-length, parts-count}
+use Rattle.tracing.specs.laws.FaceCount.{faces-low}
 use Rattle.text.specs.Decimal.{decimal, integer}
 use Rattle.lines.specs.Lines.{space, side, partLine}
 use Rattle.lines.specs.laws.Wrote.{Wrote, wrote-none, wrote-then, wrote-as, wrote-most, parts-most}

@@ -2,8 +2,9 @@
 -- The laws of one edit, by induction along the run; the laws of good tables, at the table after it.
 use Prim.Native.Nat.{ℕ}
 use native.Mathlib.Omega.{arith}
-use mathlib.Core.Path.{_≡_, refl, sym, _∙_, ap}
+use mathlib.Core.Path.{_≡_, refl, sym, _∙_, ap, ap₂}
 use mathlib.Core.List.{List, [], _∷_, _++_}
+use mathlib.Core.Option.{some}
 use lib.IntN.{pos, _+ℤ_, +ℤ-idr, +ℤ-assoc}
 use Rattle.table.specs.Good.{Good}
 use Rattle.table.specs.Rotation.{Rotation, Lawful, rotation}
@@ -14,7 +15,7 @@ use Rattle.table.specs.laws.Empty.{empty-good}
 use Rattle.table.specs.laws.Output.{output-accepted}
 use Rattle.table.specs.laws.Signed.{difference, below, above}
 use Rattle.table.specs.declared.answer.Answer.the-variants.{Done, Declined}
-use Rattle.tracing.specs.Listing.{listing}
+use Rattle.tracing.specs.Listing.{faceCount, listing}
 use Rattle.tracing.specs.laws.Met.{present-once, absent-never}
 use Rattle.tracing.specs.laws.Edges.{edge-twice}
 use Rattle.walks.specs.laws.Stands.{stands-low}
@@ -24,7 +25,11 @@ use Rattle.edits.specs.laws.Edits.{edited-passes, edited-declines, answer-passe
 use Rattle.edits.specs.laws.WrittenGood.{written-good}
 use Rattle.edits.specs.Changes.{change}
 use Rattle.edits.specs.laws.Changes.{written-changes}
+use Rattle.edits.specs.Rules.{ruleOf, ruleChange, withRule, reply}
+use Rattle.edits.specs.laws.Rules.{rule-change, rule-changes}
+use Rattle.edits.specs.declared.rule.Rule.{Rule}
 use Rattle.edits.specs.declared.edit.Edit.{Edit}
+use Rattle.edits.specs.declared.edit.Edit.the-variants.{AddVertex, RemoveVertex, InsertEdge, DeleteEdge, TurnEdge}
 use Rattle.edits.specs.declared.edit.Verdict.{Verdict}
 use Rattle.edits.specs.declared.edit.Verdict.the-variants.{Passes, Declines}
 use Rattle.surface.specs.laws.Labels.{orientable-marks}
@@ -33,7 +38,7 @@ use Rattle.surface.specs.laws.Tables.{table-parts, table-sum}
 use Rattle.surface.specs.Calls.{countsOf, partRows}
 use Rattle.weave.specs.laws.Calls.{letters-accepted, alternates-accepted, plain-accepted}
 use Rattle.weave.specs.laws.Ribbon.{alternates-iff}
-use Rattle.runs.specs.Run.{run, number, calls, called, faceNumber}
+use Rattle.runs.specs.Run.{run, number, calls, called, tells, told, faceNumber}
 use Rattle.runs.specs.laws.Run.{run-append, run-one}
 use Rattle.runs.specs.RunLaws.{RunLaws}
 use Rattle.edits.specs.Verdicts.{verdict}
@@ -46,6 +51,12 @@ data Judged (v : Verdict) : Type 0 where
 judged : (v : Verdict) → Judged v
 judged Passes = passed refl
 judged (Declines r) = declined r refl
+
+same : {n m : ℕ} → Done n ≡ Done m → n ≡ m
+same e = cc
+
+never : {n : ℕ} {r : _} → Done n ≡ Declined r → ⊥
+never e = let z : _≡_ {A = ℕ} 0 1 = cc in omega arith
 
 -- one edit
 
@@ -71,18 +82,39 @@ edited-count t E g = elim (judged (verdict t E)) [
   | declined r p ↦ rw (edited-declines t E r p, p) (sym (+ℤ-idr (faceNumber t)))
 ]
 
+-- what an edit's answer says is what its rule calls for
+tells-calls : (t : List ℕ) (E : Edit) → tells E (reply t E) ≡ calls t E
+unfolding calls reply
+tells-calls t E = elim (judged (verdict t E)) [
+  | passed p ↦ rw (answer-passes t E p, p) (by E _)
+  | declined r p ↦ rw (answer-declines t E r p, p)
+]
+  where
+    by : (E : Edit) (n : ℕ) → tells E (withRule (Done n) (ruleOf t E)) ≡ number (change t E)
+    by (AddVertex v) n = refl
+    by (RemoveVertex v) n = refl
+    by (InsertEdge e c₁ c₂ k) n = ap number (rule-change t (InsertEdge e c₁ c₂ k) _ refl)
+    by (DeleteEdge e) n = ap number (rule-change t (DeleteEdge e) _ refl)
+    by (TurnEdge e a) n = ap number (rule-change t (TurnEdge e a) _ refl)
+
+-- and the rule says how the answered number came of the one before
+answered-rule : (t : List ℕ) (E : Edit) (n : ℕ) → answer t E ≡ Done n
+    → (reply t E ≡ withRule (Done n) (ruleOf t E)) × ((r : Rule) → ruleOf t E ≡ some r → Changes (ruleChange r) (faceCount (rotation t)) n)
+unfolding reply
+answered-rule t E n a = (
+  rw a,
+  λ r q. elim (judged (verdict t E)) [
+    | passed p ↦ rw (same (sym a ∙ answer-passes t E p)) (rule-changes t E r p q)
+    | declined s p ↦ absurd (never (sym a ∙ answer-declines t E s p))
+  ],
+)
+
 -- an edit that answers a number went through, and the number is the new face count
 pub answered-count : (t : List ℕ) (E : Edit) (n : ℕ) → answer t E ≡ Done n → pos n ≡ faceNumber (edited t E)
 answered-count t E n a = elim (judged (verdict t E)) [
   | passed p ↦ rw (edited-passes t E p) (ap pos (same (sym a ∙ answer-passes t E p)))
   | declined r p ↦ absurd (never (sym a ∙ answer-declines t E r p))
 ]
-  where
-    same : {m : ℕ} → Done n ≡ Done m → n ≡ m
-    same e = cc
-
-    never : {r : _} → Done n ≡ Declined r → ⊥
-    never e = let z : _≡_ {A = ℕ} 0 1 = cc in omega arith
 
 -- the whole run
 
@@ -98,6 +130,11 @@ run-count t (E ∷ Es) g =
     run-count (edited t E) Es (edited-good t E g)
     ∙ ap (λ z. z +ℤ called (edited t E) Es) (edited-count t E g)
     ∙ +ℤ-assoc (faceNumber t) (calls t E) (called (edited t E) Es)
+
+pub told-called : (t : List ℕ) (Es : List Edit) → told t Es ≡ called t Es
+unfolding told called
+told-called t [] = refl
+told-called t (E ∷ Es) = ap₂ _+ℤ_ (tells-calls t E) (told-called (edited t E) Es)
 
 pub run-laws : (t : List ℕ) → Good t → (Es : List Edit) → RunLaws t Es
 run-laws t g Es = record {
@@ -120,6 +157,8 @@ run-laws t g Es = record {
       answered-count (run t front) E n a
       ∙ ap faceNumber (sym (run-append t front (E ∷ []) ∙ run-one (run t front) E))
       ∙ run-count t (front ++ (E ∷ [])) g;
+  ruled = λ front E back e n a. answered-rule (run t front) E n a;
+  told-count = run-count t Es g ∙ ap (λ z. faceNumber t +ℤ z) (sym (told-called t Es));
   alternation = λ s h. alternates-iff (run t Es) after s (stands-low (record { good = after; live = h }));
   listing-call = λ out. output-accepted (run t Es) (listing R) out;
   counts-call = λ out. output-accepted (run t Es) (countsOf R) out;

@@ -1,9 +1,10 @@
 -- Runs of edits on sparse tables: as `run` and its answers on the table itself.
---     verdictOn, editedOn, answerOn     one edit;     runOn, answersOn     a run
+--     verdictOn, editedOn, answerOn, ruleOn, replyOn     one edit;     runOn, answersOn     a run
 use Prim.Native.Nat.{ℕ, _+_}
 use mathlib.Core.Path.{_≡_, refl, _∙_, ap, ap₂}
 use mathlib.Core.Bool.{not, Bool, _&&_}
 use mathlib.Core.List.{List, [], _∷_}
+use mathlib.Core.Option.{Option, none, some}
 use lib.Dec.{eqb, ltb}
 use lib.ListN.{getD}
 use lib.IntN.{ℤ, _+ℤ_}
@@ -11,7 +12,7 @@ use Rattle.table.specs.Layout.{vertices, edges, nothing, edgeAt, vertexAt}
 use Rattle.table.specs.Rotation.{rotation}
 use Rattle.table.specs.Good.{Good}
 use Rattle.table.specs.laws.Check.{good-yes}
-use Rattle.table.specs.Answers.{codeOf, unless}
+use Rattle.table.specs.Answers.{unless}
 use Rattle.table.specs.declared.answer.Answer.{Answer}
 use Rattle.table.specs.declared.answer.Answer.the-variants.{Done, Declined}
 use Rattle.table.specs.declared.answer.Refusal.the-variants.{NoSuchName, Taken, Absent}
@@ -21,6 +22,11 @@ use Rattle.edits.specs.Turns.{turnsIn}
 use Rattle.edits.specs.Verdicts.{verdict, andThen, isolation, fewTurns, newVertex, oldVertex, newEdge, oldEdge}
 use Rattle.edits.specs.Edits.{edited, answer}
 use Rattle.edits.specs.laws.Edits.{edited-passes, edited-declines, answer-passes, answer-declines}
+use Rattle.surgery.specs.Change.{insertion, deletion, turning}
+use Rattle.edits.specs.Changes.{oddness}
+use Rattle.edits.specs.Rules.{ruleFor, turnRule, ruleOf, withRule, reply, replyCode}
+use Rattle.edits.specs.declared.rule.Rule.{Rule}
+use Rattle.edits.specs.declared.rule.Reply.{Reply}
 use Rattle.edits.specs.declared.edit.Edit.{Edit}
 use Rattle.edits.specs.declared.edit.Edit.the-variants.{AddVertex, RemoveVertex, InsertEdge, DeleteEdge, TurnEdge}
 use Rattle.edits.specs.declared.edit.Verdict.{Verdict}
@@ -29,7 +35,7 @@ use Rattle.runs.specs.Run.{run}
 use Rattle.runs.specs.laws.Theorem.{edited-good}
 use Rattle.samples.specs.Samples.{answers}
 use Rattle.samples.specs.laws.Sparse.{Writes, tableOf, read, put-read}
-use Rattle.samples.specs.laws.SparseMesh.{rotationBy, rotation-by, facesOn, faces-read}
+use Rattle.samples.specs.laws.SparseMesh.{rotationBy, rotation-by, facesOn, faces-read, meetingOn, sidesOn, meeting-read, sides-read}
 use Rattle.samples.specs.laws.Writing.{writtenOn, written-on}
 use Rattle.table.specs.declared.answer.Refusal.{Refusal}
 
@@ -79,6 +85,25 @@ editedOn ws E = writesBy (verdictOn ws E) (writtenOn ws E) ws
 unfoldable pub answerOn : Writes → Edit → Answer
 answerOn ws E = answeredBy (verdictOn ws E) (facesOn (writtenOn ws E))
 
+-- the rule of an edit, and its answer with it
+unfoldable pub ruleOn : Writes → Edit → Option Rule
+ruleOn ws (AddVertex v) = none
+ruleOn ws (RemoveVertex v) = none
+ruleOn ws (InsertEdge e c₁ c₂ k) = some (ruleFor (insertion (meetingOn ws c₁ c₂) (oddness k)))
+ruleOn ws (DeleteEdge e) = some (ruleFor (deletion (sidesOn ws e)))
+ruleOn ws (TurnEdge e a) = some (turnRule (oddness a) (turning (sidesOn ws e)))
+
+unfoldable pub replyOn : Writes → Edit → Reply
+replyOn ws E = withRule (answerOn ws E) (ruleOn ws E)
+
+rule-on : (ws : Writes) (E : Edit) → ruleOf (tableOf ws) E ≡ ruleOn ws E
+unfolding ruleOn
+rule-on ws (AddVertex v) = refl
+rule-on ws (RemoveVertex v) = refl
+rule-on ws (InsertEdge e c₁ c₂ k) = ap (λ m. some (ruleFor (insertion m (oddness k)))) (meeting-read ws c₁ c₂)
+rule-on ws (DeleteEdge e) = ap (λ s. some (ruleFor (deletion s))) (sides-read ws e)
+rule-on ws (TurnEdge e a) = ap (λ s. some (turnRule (oddness a) (turning s))) (sides-read ws e)
+
 module _ (ws : Writes) (E : Edit) (g : Good (tableOf ws)) where
   verdict-on : verdict (tableOf ws) E ≡ verdictOn ws E
   unfolding verdictOn
@@ -100,6 +125,10 @@ module _ (ws : Writes) (E : Edit) (g : Good (tableOf ws)) where
       by Passes e = answer-passes (tableOf ws) E e ∙ ap (λ t. Done (faceCount (rotation t))) (written-on ws E) ∙ ap Done (faces-read (writtenOn ws E))
       by (Declines r) e = answer-declines (tableOf ws) E r e
 
+  reply-on : reply (tableOf ws) E ≡ replyOn ws E
+  unfolding reply replyOn
+  reply-on = ap₂ withRule answer-on (rule-on ws E)
+
   good-on : Good (tableOf (editedOn ws E))
   good-on = rw edited-on at (edited-good (tableOf ws) E g)
 
@@ -109,7 +138,7 @@ runOn ws (E ∷ Es) = runOn (editedOn ws E) Es
 
 unfoldable pub answersOn : Writes → List Edit → List ℤ
 answersOn ws [] = []
-answersOn ws (E ∷ Es) = codeOf (answerOn ws E) ∷ answersOn (editedOn ws E) Es
+answersOn ws (E ∷ Es) = replyCode (replyOn ws E) ∷ answersOn (editedOn ws E) Es
 
 pub run-on : (ws : Writes) (Es : List Edit) → Good (tableOf ws) → run (tableOf ws) Es ≡ tableOf (runOn ws Es)
 unfolding run runOn
@@ -120,4 +149,4 @@ pub answers-on : (ws : Writes) (Es : List Edit) → Good (tableOf ws) → answer
 unfolding answers answersOn
 answers-on ws [] g = refl
 answers-on ws (E ∷ Es) g =
-    ap₂ (λ a l. codeOf a ∷ l) (answer-on ws E g) (ap (λ t. answers t Es) (edited-on ws E g) ∙ answers-on (editedOn ws E) Es (good-on ws E g))
+    ap₂ (λ r l. replyCode r ∷ l) (reply-on ws E g) (ap (λ t. answers t Es) (edited-on ws E g) ∙ answers-on (editedOn ws E) Es (good-on ws E g))

@@ -2,21 +2,26 @@
 -- and computes.
 --     Few                  no edge from m on is live, and no vertex from n on
 --     facesFew, eulerFew, marksFew, lengthsFew      the same as the definitions without "Few", by the law of the like name
+--     meetingFrom, sidesFrom                        how corners meet and sides lie, from the starts
 use Prim.Native.Nat.{ℕ, zero, suc, _*_, _≤_}
 use native.Mathlib.Omega.{arith}
 use native.Mathlib.Decide.{ℕ-discrete}
 use mathlib.Core.Path.{_≡_, refl, sym, _∙_, ap, ap₂, fun-ext}
-use mathlib.Core.Bool.{Bool, false, _&&_}
+use mathlib.Core.Bool.{Bool, true, false, _&&_}
 use mathlib.Core.List.{List, [], _++_, map, append-nil}
-use lib.Dec.{eqb}
+use lib.Dec.{eqb, ltb}
 use lib.ListN.{length}
 use lib.IntN.{ℤ}
 use Rattle.orbits.specs.Count.{count}
 use Rattle.orbits.specs.laws.Count.{count-short}
-use Rattle.table.specs.Layout.{edges, vertices, darts}
+use Rattle.table.specs.Layout.{edges, vertices, darts, loneAt}
 use Rattle.table.specs.Rotation.{Rotation}
 use Rattle.tracing.specs.Walk.{walk}
-use Rattle.tracing.specs.Listing.{only, starts, alones, loneCorner, faces, faceCount}
+use Rattle.tracing.specs.Listing.{only, gather, starts, alones, loneCorner, faces, faceCount}
+use Rattle.tracing.specs.Corner.{faceAmong, faceOf, typeAmong, typeOf, meetingBy, meetingOf}
+use Rattle.tracing.specs.Sides.{keep, sidesBy, sidesOf}
+use Rattle.tracing.specs.declared.meeting.Meeting.{Meeting}
+use Rattle.tracing.specs.declared.meeting.Sides.{Sides}
 use Rattle.tracing.specs.laws.Listing.{starts-suc, fresh-dead, alones-suc, lone-no}
 use Rattle.surface.specs.Links.{Spot, spot, links, liveEdges}
 use Rattle.surface.specs.Labels.{twisted, untwisted, spots, label, orientable}
@@ -24,7 +29,7 @@ use Rattle.surface.specs.Counts.{vertexCount}
 use Rattle.surface.specs.Parts.{root?, partsBelow, parts}
 use Rattle.surface.specs.Signed.{eulerOf, meshEuler}
 use Rattle.samples.specs.Samples.{walkLengths}
-use Rattle.tracing.specs.Met.{edgeCount}
+use Rattle.tracing.specs.Met.{edgeCount, listedSteps, onEdge}
 
 pub record Few (R : Rotation) (m n : ℕ) : Type 0 where
   pub edges-room : m ≤ edges
@@ -53,6 +58,19 @@ marksFew R m n = let s = spotsFew R m in map (λ r. eqb (count (twisted R s r) m
 
 unfoldable pub lengthsFew : Rotation → ℕ → List ℕ
 lengthsFew R m = map (λ d. length (walk R (2 * d))) (starts R (2 * m))
+
+-- how two corners meet, and how the sides of an edge lie, the listed walks having these starts
+unfoldable pub faceFrom : Rotation → List ℕ → ℕ → ℕ
+faceFrom R l c = elim (ltb c loneAt) [ true ↦ faceAmong R c l | false ↦ c ]
+
+unfoldable pub typeFrom : Rotation → List ℕ → ℕ → ℕ
+typeFrom R l c = elim (ltb c loneAt) [ true ↦ typeAmong R c (walk R (2 * faceFrom R l c)) | false ↦ 0 ]
+
+unfoldable pub meetingFrom : Rotation → List ℕ → ℕ → ℕ → Meeting
+meetingFrom R l c c′ = meetingBy (eqb (faceFrom R l c) (faceFrom R l c′)) (eqb (typeFrom R l c) (typeFrom R l c′))
+
+unfoldable pub sidesFrom : Rotation → List ℕ → ℕ → Sides
+sidesFrom R l e = sidesBy R (keep (onEdge e) (gather (λ a. walk R (2 * a)) l))
 
 -- what does not change from n on is the same at every number from there
 steady : {A : Type 0} (f : ℕ → A) (n : ℕ) → ((k : ℕ) → n ≤ k → f (suc k) ≡ f k) → (m : ℕ) → n ≤ m → f m ≡ f n
@@ -122,3 +140,11 @@ module _ {R : Rotation} {m n : ℕ} (W : Few R m n) where
   pub lengths-few : walkLengths R ≡ lengthsFew R m
   unfolding lengthsFew
   lengths-few = ap (map (λ d. length (walk R (2 * d)))) starts-few
+
+  pub meeting-few : (c c′ : ℕ) → meetingOf R c c′ ≡ meetingFrom R (starts R (2 * m)) c c′
+  unfolding meetingOf faceOf typeOf meetingFrom faceFrom typeFrom
+  meeting-few c c′ = ap (λ l. meetingFrom R l c c′) starts-few
+
+  pub sides-few : (e : ℕ) → sidesOf R e ≡ sidesFrom R (starts R (2 * m)) e
+  unfolding sidesOf listedSteps sidesFrom
+  sides-few e = ap (λ l. sidesFrom R l e) starts-few

@@ -2,6 +2,7 @@
 --     rotationBy           a rotation system, from a table's words
 --     few-read             only names up to the largest one written are live
 --     facesOn, eulerOn, marksOn, lengthsOn, plainOn      what the samples say of a table;     faces-read .. plain-read    that they are so
+--     meetingOn, sidesOn   what the rule of an edit is read from;     meeting-read, sides-read
 use Prim.Native.Nat.{ℕ, _+_, _*_, _/_, _%_, _<_, _≤_}
 use native.Mathlib.Omega.{arith}
 use native.Mathlib.Decide.{decLt}
@@ -16,13 +17,17 @@ use Rattle.table.specs.Layout.{words, vertices, darts, nothing, isolated, prevA
 use Rattle.table.specs.Rotation.{Rotation, rotation, live?, nextDart, prevDart, turnsOf, there?, alone?}
 use Rattle.tracing.specs.Walk.{walk}
 use Rattle.tracing.specs.Listing.{gather, starts, faceCount}
+use Rattle.tracing.specs.Corner.{meetingOf}
+use Rattle.tracing.specs.Sides.{sidesOf}
+use Rattle.tracing.specs.declared.meeting.Meeting.{Meeting}
+use Rattle.tracing.specs.declared.meeting.Sides.{Sides}
 use Rattle.surface.specs.Labels.{orientable}
 use Rattle.surface.specs.Parts.{parts}
 use Rattle.surface.specs.Signed.{meshEuler}
 use Rattle.weave.specs.Letters.{lettersOn, stepLetters, letters, alternating, alternates, every, plain}
 use Rattle.samples.specs.Samples.{walkLengths}
 use Rattle.samples.specs.laws.Sparse.{Writes, tableOf, read, put-read, span, span-room, span-past}
-use Rattle.samples.specs.laws.Few.{Few, facesFew, eulerFew, marksFew, lengthsFew, starts-few, faces-few, euler-few, marks-few, lengths-few}
+use Rattle.samples.specs.laws.Few.{Few, facesFew, eulerFew, marksFew, lengthsFew, meetingFrom, sidesFrom, starts-few, faces-few, euler-few, marks-few, lengths-few, meeting-few, sides-few}
 
 -- a table's rotation system, its word at i being g i
 abbrev liveBy : (ℕ → ℕ) → ℕ → Bool
@@ -76,6 +81,12 @@ lengthsOn ws = lengthsFew (rotationOn ws) (edgeSpan ws)
 
 unfoldable pub plainOn : Writes → Bool
 plainOn ws = plainBy (read ws) (rotationOn ws) (2 * edgeSpan ws)
+
+unfoldable pub meetingOn : Writes → ℕ → ℕ → Meeting
+meetingOn ws = meetingFrom (rotationOn ws) (starts (rotationOn ws) (2 * edgeSpan ws))
+
+unfoldable pub sidesOn : Writes → ℕ → Sides
+sidesOn ws = sidesFrom (rotationOn ws) (starts (rotationOn ws) (2 * edgeSpan ws))
 
 module _ (ws : Writes) where
   rotation-read : rotation (tableOf ws) ≡ rotationOn ws
@@ -134,3 +145,11 @@ module _ (ws : Writes) where
       ∙ ap (λ R. plainBy (λ i. getD (tableOf ws) i 0) R darts) rotation-read
       ∙ ap (λ g. plainBy g (rotationOn ws) darts) (put-read ws)
       ∙ ap (every (λ d. alternating (gather (λ s. lettersOn (read ws (edgeAt + edgeOf (s / 2))) (s % 2)) (walk (rotationOn ws) (2 * d))))) (starts-few few-read)
+
+  pub meeting-read : (c c′ : ℕ) → meetingOf (rotation (tableOf ws)) c c′ ≡ meetingOn ws c c′
+  unfolding meetingOn
+  meeting-read c c′ = ap (λ R. meetingOf R c c′) rotation-read ∙ meeting-few few-read c c′
+
+  pub sides-read : (e : ℕ) → sidesOf (rotation (tableOf ws)) e ≡ sidesOn ws e
+  unfolding sidesOn
+  sides-read e = ap (λ R. sidesOf R e) rotation-read ∙ sides-few few-read e

@@ -9,7 +9,8 @@ use Rattle.table.specs.laws.Empty.{empty-good}
 use Rattle.tracing.specs.Step.{stepType, around, step, corner}
 use Rattle.tracing.specs.Walk.{onward, walk, corners}
 use Rattle.tracing.specs.Listing.{has, gather, fresh, starts, lone, alones}
-use Rattle.tracing.specs.Corner.{wellFormed, present}
+use Rattle.tracing.specs.Corner.{wellFormed, present, faceAmong, typeAmong}
+use Rattle.tracing.specs.Sides.{keep, sidesBy}
 use Rattle.edits.specs.Turns.{turnsIn}
 use Rattle.surface.specs.Links.{spot, links, joinedBy, moved, liveEdges}
 use Rattle.surface.specs.Labels.{twisted, agrees}
@@ -17,10 +18,10 @@ use Rattle.surface.specs.Signed.{eulerOf}
 use Rattle.weave.specs.Letters.{crossings, letter, crossed, lettersOn, apart, alternating, every}
 use Rattle.samples.specs.Samples.{Fact, F, Euler, Marks, Steps, Plain, Turns, Has, All, Sample, Holds, samples}
 use Rattle.samples.specs.laws.Sparse.{Writes, tableOf, lookup, read, put-read, span}
-use Rattle.samples.specs.laws.Few.{facesFew, eulerFew, spotsFew, ownLabels, marksFew, lengthsFew}
-use Rattle.samples.specs.laws.SparseMesh.{plainBy, facesOn, eulerOn, marksOn, lengthsOn, plainOn, faces-read, euler-read, marks-read, lengths-read, plain-read}
+use Rattle.samples.specs.laws.Few.{facesFew, eulerFew, spotsFew, ownLabels, marksFew, lengthsFew, faceFrom, typeFrom, meetingFrom, sidesFrom}
+use Rattle.samples.specs.laws.SparseMesh.{plainBy, facesOn, eulerOn, marksOn, lengthsOn, plainOn, meetingOn, sidesOn, faces-read, euler-read, marks-read, lengths-read, plain-read}
 use Rattle.samples.specs.laws.Writing.{spliceOn, linkOn, writtenOn}
-use Rattle.samples.specs.laws.Editing.{verdictOn, editedOn, answerOn, runOn, answersOn, run-on, answers-on}
+use Rattle.samples.specs.laws.Editing.{verdictOn, editedOn, answerOn, ruleOn, replyOn, runOn, answersOn, run-on, answers-on}
 
 -- a fact, with what is found in a sparse table in place of what it says
 abbrev found : Writes → Fact → Fact
@@ -62,8 +63,9 @@ holds-computed s e =
     }
 
 pub samples-hold : All Holds samples
-unfolding runOn answersOn editedOn answerOn verdictOn writtenOn linkOn spliceOn facesOn eulerOn marksOn lengthsOn plainOn read lookup span
-    facesFew eulerFew spotsFew ownLabels marksFew lengthsFew plainBy wellFormed present
+unfolding runOn answersOn editedOn answerOn replyOn ruleOn verdictOn writtenOn linkOn spliceOn facesOn eulerOn marksOn lengthsOn plainOn meetingOn sidesOn read lookup span
+    facesFew eulerFew spotsFew ownLabels marksFew lengthsFew meetingFrom faceFrom typeFrom sidesFrom plainBy wellFormed present
+    faceAmong typeAmong keep sidesBy
     starts fresh has gather corners walk onward step stepType around corner alones lone count eulerOf spot links joinedBy moved liveEdges
     twisted agrees every alternating apart lettersOn crossed crossings letter
 samples-hold = all-map holds-computed samples (each-same computed samples refl)

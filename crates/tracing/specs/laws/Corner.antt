@@ -21,16 +21,16 @@ use Rattle.orbits.specs.laws.Mirror.{mirror-world, mirror-reach, no-self}
 use Rattle.orbits.specs.Faces.{Face, along, mirrored}
 use Rattle.orbits.specs.laws.Faces.{face-flip, face-trans}
 use Rattle.tracing.specs.declared.meeting.Meeting.the-variants.{Apart, SameType, OtherType}
-use Rattle.tracing.specs.Step.{steps, corner}
+use Rattle.tracing.specs.Step.{steps, corner, mirror}
 use Rattle.tracing.specs.laws.Step.{mirror-type}
 use Rattle.tracing.specs.laws.Place.{places, trace, flip, on, flip-step, on-step, on-still}
 use Rattle.tracing.specs.Walk.{walk, corners}
-use Rattle.tracing.specs.Listing.{has, starts}
+use Rattle.tracing.specs.Listing.{has, metBy, starts}
 use Rattle.tracing.specs.laws.Listing.{has-here}
-use Rattle.tracing.specs.laws.Has.{has-empty, has-cons, here, later, has-tail}
+use Rattle.tracing.specs.laws.Has.{has-empty, has-cons, here, later, has-tail, has-gather, has-map}
 use Rattle.tracing.specs.laws.Mirrored.{whole, mirrored as tracing-mirror}
-use Rattle.tracing.specs.laws.Meets.{at-corner, plain, turned, has-walk, has-corners, corners-has}
-use Rattle.tracing.specs.laws.Starts.{start?, has-start, start-has}
+use Rattle.tracing.specs.laws.Meets.{AtCorner, at-corner, plain, turned, has-walk, has-corners, corners-has}
+use Rattle.tracing.specs.laws.Starts.{start?, start-live, StartBelow, has-start, start-has}
 use Rattle.tracing.specs.laws.Cover.{covered, starts-one, lone-apart, lones-apart}
 use Rattle.tracing.specs.laws.FaceCount.{placeOf, place-dart, place-lone}
 use Rattle.tracing.specs.Corner.{present, faceAmong, faceOf, typeAmong, typeOf, meetingBy, meetingOf, Present, at-dart, at-lone}
@@ -256,25 +256,56 @@ module _ (R : Rotation) (L : Lawful R) where
     | no n ↦ apart (meeting-off R c c′ n (truth (eqb (typeOf R c) (typeOf R c′)))) (λ f. n (one-face c c′ p p′ f))
   ]
 
-  -- the three cases, the other way round
+  -- every corner of a dart is met by a listed walk
+  pub corner-met : (c : ℕ) → R .live c ≡ true → has c (metBy R (starts R darts)) ≡ true
+  corner-met c l =
+      let k = covered R L c l in
+      let low = k .low in
+      has-gather (λ d. corners R (2 * d)) (starts R darts) (k .at) c (start-has R darts (k .at) low (k .start))
+      (corners-has R L (2 * k .at) c (omega arith) (L .dart-low c l) (k .face))
 
-  pub meets-same : (c c′ : ℕ) → Present R c → Present R c′ → Reach (trace R) (placeOf c) (placeOf c′) → meetingOf R c c′ ≡ SameType
-  meets-same c c′ p p′ r = elim (meeting-case c c′ p p′) [
-    | same e s ↦ e
-    | opposite e s ↦ absurd (both-ways (placeOf c) (placeOf c′) (place-on c p) r s)
-    | apart e n ↦ absurd (n (along r))
-  ]
+  -- a listed walk's step at a corner tells its face and its type
+  pub face-by : (c a x : ℕ) → R .live c ≡ true → has a (starts R darts) ≡ true → has x (walk R (2 * a)) ≡ true → corner R x ≡ c
+      → (faceOf R c ≡ a) × (typeOf R c ≡ x % 2)
+  unfolding corners
+  face-by c a x l i j q = (is, type (typed-dart c low l) (at-corner R L c x q))
+    where
+      E : Mirror places (trace R) (flip R) (on R)
+      E = tracing-mirror R L (on R) (whole R L)
 
-  pub meets-other : (c c′ : ℕ) → Present R c → Present R c′ → Reach (trace R) (placeOf c) (flip R (placeOf c′)) → meetingOf R c c′ ≡ OtherType
-  meets-other c c′ p p′ r = elim (meeting-case c c′ p p′) [
-    | same e s ↦ absurd (both-ways (placeOf c) (placeOf c′) (place-on c p) s r)
-    | opposite e s ↦ e
-    | apart e n ↦ absurd (n (mirrored r))
-  ]
+      low : c < darts
+      low = L .dart-low c l
 
-  pub meets-apart : (c c′ : ℕ) → Present R c → Present R c′ → (Face (trace R) (flip R) (placeOf c) (placeOf c′) → ⊥) → meetingOf R c c′ ≡ Apart
-  meets-apart c c′ p p′ n = elim (meeting-case c c′ p p′) [
-    | same e s ↦ absurd (n (along s))
-    | opposite e s ↦ absurd (n (mirrored s))
-    | apart e m ↦ e
-  ]
+      b : StartBelow R darts a
+      b = has-start R darts a i
+
+      is : faceOf R c ≡ a
+      is =
+          let k = home c l in
+          let at-low = k .low in
+          let a-low = b .low in
+          let met = has-corners R L (2 * a) c (omega arith) low (rw q at (has-map (corner R) (walk R (2 * a)) x j)) in
+          let c-low = low in
+          let one = face-trans E (omega arith) (omega arith) met (face-flip E (omega arith) (omega arith) (k .face)) in
+          k .is ∙ sym (starts-one R L a (k .at) a-low at-low (b .start) (k .start) one)
+
+      from : placeOf (faceOf R c) ≡ 2 * a
+      from = let a-low = b .low in rw is (place-dart a (omega arith))
+
+      to : placeOf c ≡ 2 * c
+      to = place-dart c (omega (arith, low))
+
+      here : On places (on R) (2 * a)
+      here = let a-low = b .low in rw (place-dart a (omega arith)) at (place-on a (at-dart a-low (start-live R a (b .start))))
+
+      along-x : Reach (trace R) (2 * a) x
+      along-x = let a-low = b .low in has-walk R L (2 * a) x (omega arith) j
+
+      turn : flip R (2 * c) ≡ mirror R (2 * c)
+      turn = flip-step R (2 * c) (omega (arith, low))
+
+      type : Typed R c → AtCorner R c x → typeOf R c ≡ x % 2
+      type (type-zero z r) (plain y) = omega (arith, z, y)
+      type (type-zero z r) (turned y) = absurd (both-ways (2 * a) (2 * c) here (rw (from, to) at r) (rw turn (rw y at along-x)))
+      type (type-one z r) (plain y) = absurd (both-ways (2 * a) (2 * c) here (rw y at along-x) (rw (from, to) at r))
+      type (type-one z r) (turned y) = let odd = mirror-type R (2 * c) in omega (arith, z, y, odd)

@@ -13,10 +13,10 @@ use Rattle.table.specs.Layout.{vertices, darts, loneAt}
 use Rattle.table.specs.Rotation.{Rotation, Lawful}
 use Rattle.orbits.specs.laws.Truth.{both, both-left, both-right}
 use Rattle.orbits.specs.Count.{count, Partner}
-use Rattle.orbits.specs.laws.Count.{count-same, count-sum}
+use Rattle.orbits.specs.laws.Count.{count-same, count-sum, count-le}
 use Rattle.orbits.specs.laws.Reach.{reach-here}
-use Rattle.orbits.specs.laws.Classes.{reps-count}
-use Rattle.orbits.specs.Faces.{Face, along, mirrored, faceClasses}
+use Rattle.orbits.specs.laws.Classes.{reps-count, classes-le}
+use Rattle.orbits.specs.Faces.{Face, along, mirrored, faced, faceClasses}
 use Rattle.orbits.specs.laws.Faces.{face-flip, face-trans, face-partition, face-keeps}
 use Rattle.tracing.specs.Step.{steps, corner}
 use Rattle.tracing.specs.laws.Step.{type?, is-zero, is-one, corner-live}
@@ -169,3 +169,12 @@ module _ (R : Rotation) (L : Lawful R) where
   pub face-count : faceCount R ≡ faceClasses (trace R) (flip R) places (on R)
   unfolding faceCount facesIn
   face-count = sym (all-pass (λ c. on R (placeOf c)) (faces R) listed-on) ∙ faces-part (on R) (whole R L)
+
+-- no more faces than places
+pub faces-low : {R : Rotation} → Lawful R → faceCount R ≤ places
+unfolding faceClasses
+faces-low {R} L =
+    let a = classes-le (faced (trace R) (flip R) places) places (on R) in
+    let b = count-le (on R) places in
+    let c = face-count R L in
+    omega arith

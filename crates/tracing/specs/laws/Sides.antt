@@ -1,6 +1,6 @@
 -- How the two sides of an edge lie: on different faces, on one walk by both darts, or by the same dart twice, document 01, "Edits".
 -- With x = (2e, 0) and y = (2e+1, the turns' parity): by both darts exactly if y is on the orbit of x, by the same dart exactly if its mirror is.
-use Prim.Native.Nat.{ℕ, suc, _+_, _*_, _/_, _%_, _<_, _≤_}
+use Prim.Native.Nat.{ℕ, zero, suc, _+_, _*_, _/_, _%_, _<_, _≤_}
 use native.Mathlib.Omega.{arith}
 use native.Mathlib.Decide.{ℕ-discrete}
 use mathlib.Core.Path.{_≡_, refl, sym, _∙_, ap}
@@ -19,19 +19,24 @@ use Rattle.orbits.specs.laws.Reach.{reach-here, reach-trans, reach-sym, reach-i
 use Rattle.orbits.specs.Orbits.{On}
 use Rattle.orbits.specs.laws.Mirror.{mirror-world}
 use Rattle.orbits.specs.Faces.{Face, along, mirrored}
+use Rattle.tracing.specs.declared.meeting.Sides.{Sides}
 use Rattle.tracing.specs.declared.meeting.Sides.the-variants.{TwoFaces, BothDarts, SameDart}
-use Rattle.tracing.specs.Step.{steps, step, back}
-use Rattle.tracing.specs.laws.Step.{type?, is-zero, is-one, step-live, step-word, back-back, back-dart}
-use Rattle.tracing.specs.laws.Place.{places, trace, flip, on}
+use Rattle.tracing.specs.declared.meeting.Meeting.{Meeting}
+use Rattle.tracing.specs.declared.meeting.Meeting.the-variants.{Apart, SameType, OtherType}
+use Rattle.tracing.specs.Step.{steps, step, corner, mirror, back}
+use Rattle.tracing.specs.laws.Step.{type?, is-zero, is-one, step-live, step-word, mirror-type, back-back, back-dart, corner-live}
+use Rattle.tracing.specs.laws.Place.{places, trace, flip, on, flip-step, flip-flip}
 use Rattle.tracing.specs.Walk.{walk}
 use Rattle.tracing.specs.Listing.{has}
 use Rattle.tracing.specs.laws.Listing.{has-here}
 use Rattle.tracing.specs.laws.Has.{has-empty, has-cons, has-head, here, later, has-tail}
 use Rattle.tracing.specs.Met.{countIn, times, listedSteps, onEdge}
 use Rattle.tracing.specs.laws.Mirrored.{whole, mirrored as tracing-mirror}
-use Rattle.tracing.specs.laws.Meets.{has-walk, walk-has, trace-reach}
+use Rattle.tracing.specs.laws.Meets.{has-walk, walk-has, trace-reach, at-corner, plain, turned}
 use Rattle.tracing.specs.laws.Once.{step-on}
-use Rattle.tracing.specs.laws.Corner.{both-ways}
+use Rattle.tracing.specs.laws.Corner.{both-ways, meeting-case, same, opposite, apart}
+use Rattle.tracing.specs.laws.FaceCount.{placeOf, place-dart}
+use Rattle.tracing.specs.Corner.{at-dart, meetingOf}
 use Rattle.tracing.specs.laws.Twice.{sense, this, other, step-times, one-way}
 use Rattle.tracing.specs.laws.Edges.{edge-twice, back-edge}
 use Rattle.tracing.specs.laws.EdgeSteps.{four, itself, way-back, other-type, other-back, back-flip, again-all, across-all}
@@ -45,6 +50,14 @@ pub data SidesCase (R : Rotation) (e : ℕ) : Type 0 where
   both-darts : sidesOf R e ≡ BothDarts → Reach (trace R) (4 * e) (across R e) → SidesCase R e
   same-dart : sidesOf R e ≡ SameDart → Reach (trace R) (4 * e) (flip R (across R e)) → SidesCase R e
   two-faces : sidesOf R e ≡ TwoFaces → (Face (trace R) (flip R) (4 * e) (across R e) → ⊥) → SidesCase R e
+
+-- the same by how the corners of x and of y meet, y being of this type
+abbrev pub sidesMet : Meeting → ℕ → Sides
+sidesMet Apart k = TwoFaces
+sidesMet SameType zero = BothDarts
+sidesMet SameType (suc k) = SameDart
+sidesMet OtherType zero = SameDart
+sidesMet OtherType (suc k) = BothDarts
 
 -- laws of keep
 
@@ -324,3 +337,51 @@ module _ (R : Rotation) (L : Lawful R) where
     | same-dart q s ↦ absurd (n (mirrored s))
     | two-faces q m ↦ q
   ]
+
+  -- how the corners of the two sides meet tells how the sides lie: here c is the corner of `across`
+
+  sides-plain : (e c : ℕ) → R .live (2 * e) ≡ true → R .live c ≡ true → across R e ≡ 2 * c → sidesOf R e ≡ sidesMet (meetingOf R (2 * e) c) 0
+  sides-plain e c l m q =
+      let low = L .dart-low (2 * e) l in
+      let c-low = L .dart-low c m in
+      let from : placeOf (2 * e) ≡ 4 * e = place-dart (2 * e) (omega arith) ∙ omega arith in
+      let to : placeOf c ≡ across R e = place-dart c (omega arith) ∙ sym q in
+      elim (meeting-case R L (2 * e) c (at-dart low l) (at-dart c-low m)) [
+        | same z r ↦ rw z (sides-both e l (rw (from, to) at r))
+        | opposite z r ↦ rw z (sides-same e l (rw (from, to) at r))
+        | apart z n ↦ rw z (sides-two e l (λ f. n (rw (from, to) f)))
+      ]
+
+  sides-turned : (e c : ℕ) → R .live (2 * e) ≡ true → R .live c ≡ true → across R e ≡ mirror R (2 * c) → sidesOf R e ≡ sidesMet (meetingOf R (2 * e) c) 1
+  sides-turned e c l m q =
+      let low = L .dart-low (2 * e) l in
+      let c-low = L .dart-low c m in
+      let from : placeOf (2 * e) ≡ 4 * e = place-dart (2 * e) (omega arith) ∙ omega arith in
+      let to : placeOf c ≡ 2 * c = place-dart c (omega arith) in
+      let there : flip R (2 * c) ≡ across R e = flip-step R (2 * c) (omega arith) ∙ sym q in
+      let back : flip R (across R e) ≡ 2 * c = ap (flip R) (sym there) ∙ flip-flip R L (2 * c) in
+      elim (meeting-case R L (2 * e) c (at-dart low l) (at-dart c-low m)) [
+        | same z r ↦ rw z (sides-same e l (rw back (rw (from, to) at r)))
+        | opposite z r ↦ rw z (sides-both e l (rw (from, to, there) at r))
+        | apart z n ↦ rw z (sides-two e l (λ f. n (rw (from, to) (other-way there back f))))
+      ]
+    where
+      other-way : flip R (2 * c) ≡ across R e → flip R (across R e) ≡ 2 * c → Face (trace R) (flip R) (4 * e) (across R e) → Face (trace R) (flip R) (4 * e) (2 * c)
+      other-way t b (along r) = mirrored (rw t r)
+      other-way t b (mirrored r) = along (rw b at r)
+
+  pub sides-met : (e : ℕ) → R .live (2 * e) ≡ true → sidesOf R e ≡ sidesMet (meetingOf R (2 * e) (corner R (across R e))) (R .turns (2 * e) % 2)
+  sides-met e l =
+      let low = L .dart-low (2 * e) l in
+      let y-low = across-low e (omega arith) in
+      let other : across R e / 2 ≡ rev (2 * e) = omega arith in
+      let m : R .live (corner R (across R e)) ≡ true = corner-live R L (across R e) ∙ rw other (L .live-rev (2 * e) ∙ l) in
+      elim (at-corner R L (corner R (across R e)) (across R e) refl) [
+        | plain q ↦
+            let even : R .turns (2 * e) % 2 ≡ 0 = omega arith in
+            sides-plain e (corner R (across R e)) l m q ∙ ap (sidesMet (meetingOf R (2 * e) (corner R (across R e)))) (sym even)
+        | turned q ↦
+            let t = mirror-type R (2 * corner R (across R e)) in
+            let odd : R .turns (2 * e) % 2 ≡ 1 = omega (arith, q, t) in
+            sides-turned e (corner R (across R e)) l m q ∙ ap (sidesMet (meetingOf R (2 * e) (corner R (across R e)))) (sym odd)
+      ]

@@ -1,5 +1,7 @@
--- `apply::apply` meets its contract. Does the edit, or declines it. Answers the new face count.
+-- `apply::apply` meets its contract. Does the edit, or declines it. Answers the new face count, and for an edge the rule met.
 use Rattle.edits.specs.laws.Edits.{same-edit, same-insertion, same-turn}
+use Rattle.edits.specs.laws.Rules.{faces-alone}
+use mathlib.Core.Path.{refl}
 use borrow.Author.Needs.{needs}
 use Rattle.editor.proofs.apply.apply.Statement.{statement}
 use Rattle.editor.proofs.apply.apply.Tie as tie
@@ -10,11 +12,17 @@ enum-known-edit c = search needs
 add-vertex-requires : tie.Need-add-vertex-requires
 add-vertex-requires c κs = search needs
 
+without-rule-requires : tie.Need-without-rule-requires
+without-rule-requires c κs = search needs
+
 enum-known-edit-2 : tie.Need-enum-known-edit-2
 enum-known-edit-2 c = search needs
 
 remove-vertex-requires : tie.Need-remove-vertex-requires
 remove-vertex-requires c κs = search needs
+
+without-rule-requires-2 : tie.Need-without-rule-requires-2
+without-rule-requires-2 c κs = search needs
 
 enum-known-edit-3 : tie.Need-enum-known-edit-3
 enum-known-edit-3 c = search needs
@@ -38,13 +46,19 @@ same-length : tie.Need-same-length
 same-length c = search needs
 
 returns : tie.Need-returns
-returns c = same-edit _ _ _ _ _ (c .before .before .before .before .before .edit .given .1) (c .before .before .add-vertex .ensures)
+returns c =
+    let edit = c .before .before .before .before .before .before .edit in
+    let add-vertex = c .before .before .before .add-vertex in
+    same-edit _ _ _ _ _ (edit .given .1) (faces-alone _ _ refl (add-vertex .ensures .0) (c .without-rule .ensures), add-vertex .ensures .1)
 
 same-length-2 : tie.Need-same-length-2
 same-length-2 c = search needs
 
 returns-2 : tie.Need-returns-2
-returns-2 c = same-edit _ _ _ _ _ (c .before .before .before .before .before .edit2 .given .1) (c .before .before .remove-vertex .ensures)
+returns-2 c =
+    let edit2 = c .before .before .before .before .before .before .edit2 in
+    let remove-vertex = c .before .before .before .remove-vertex in
+    same-edit _ _ _ _ _ (edit2 .given .1) (faces-alone _ _ refl (remove-vertex .ensures .0) (c .without-rule2 .ensures), remove-vertex .ensures .1)
 
 same-length-3 : tie.Need-same-length-3
 same-length-3 c = search needs
@@ -80,8 +94,10 @@ apply-spec =
     (tie.spec
     enum-known-edit
     add-vertex-requires
+    without-rule-requires
     enum-known-edit-2
     remove-vertex-requires
+    without-rule-requires-2
     enum-known-edit-3
     insert-edge-requires
     enum-known-edit-4

@@ -1,13 +1,13 @@
--- `edge::insert_edge` meets its contract. Inserts edge e with turns k: dart 2e into corner c1, 2e+1 into c2. Answers the new face count.
-use Rattle.edits.specs.laws.WrittenGood.{insert-good, may-insert-ready}
+-- `edge::insert_edge` meets its contract. Inserts edge e with turns k: dart 2e into corner c1, 2e+1 into c2. Answers the new face count and the rule met.
+use Rattle.edits.specs.laws.WrittenGood.{may-insert-ready}
 use Rattle.edits.specs.declared.edit.Edit.the-variants.{InsertEdge}
-use Rattle.edits.specs.laws.Edits.{went-through, was-declined}
+use Rattle.edits.specs.laws.Rules.{insert-met, was-refused}
+use Rattle.rules.specs.laws.Rule.{insert-corners, rule-allows, ruled-reply}
 use Rattle.edits.specs.Edge.{inserted}
 use Rattle.edits.specs.laws.Turns.{amount-on}
 use Rattle.edits.specs.laws.Verdicts.{insert-on, may-insert}
-use Rattle.table.specs.Good.{Good}
 use denote.Ref.{now}
-use mathlib.Core.Path.{sym, ap, subst, _∙_}
+use mathlib.Core.Path.{ap, _∙_}
 use borrow.Author.Needs.{needs}
 use Rattle.editor.proofs.edge.insert_edge.Statement.{statement}
 use Rattle.editor.proofs.edge.insert_edge.Tie as tie
@@ -24,27 +24,37 @@ enum-told c = search needs
 turned-word-requires : tie.Need-turned-word-requires
 turned-word-requires c κs = search needs
 
-insert-requires : tie.Need-insert-requires
-insert-requires c κs =
+insert-rule-requires : tie.Need-insert-rule-requires
+insert-rule-requires c κs =
     let start = c .before .before .before .before .before .before .before in
     let insert-verdict = c .before .before .before .before .insert-verdict in
     let enum-told = c .before .before .enum-told in
     let t = now (start .args .t) in
+    let k = start .args .k in
+    insert-corners (may-insert t _ _ _ k (insert-on t _ _ _ k (start .fits .k) (insert-verdict .ensures) (enum-told .given .1)))
+
+insert-requires : tie.Need-insert-requires
+insert-requires c κs =
+    let start = c .before .before .before .before .before .before .before .before .before in
+    let insert-verdict = c .before .before .before .before .before .before .insert-verdict in
+    let enum-told = c .before .before .before .before .enum-told in
+    let t = now (start .args .t) in
     may-insert-ready t _ _ _ (start .args .k)
     (may-insert t _ _ _ (start .args .k) (insert-on t _ _ _ (start .args .k) (start .fits .k) (insert-verdict .ensures) (enum-told .given .1)))
 
-face-count-requires : tie.Need-face-count-requires
-face-count-requires c κs =
-    let start = c .before .before .before .before .before .before .before .before .before .before .before in
-    let insert-verdict = c .before .before .before .before .before .before .before .before .insert-verdict in
-    let enum-told = c .before .before .before .before .before .before .enum-told in
-    let turned-word = c .before .before .before .before .before .turned-word in
-    let insert = c .before .before .before .insert in
+by-rule-requires : tie.Need-by-rule-requires
+by-rule-requires c κs =
+    let start = c .before .before .before .before .before .before .before .before .before .before .before .before in
+    let insert-verdict = c .before .before .before .before .before .before .before .before .before .insert-verdict in
+    let enum-told = c .before .before .before .before .before .before .before .enum-told in
+    let turned-word = c .before .before .before .before .before .before .turned-word in
+    let insert-rule = c .before .before .before .before .insert-rule in
     let t = now (start .args .t) in
     let k = start .args .k in
-    let m = may-insert t _ _ _ k (insert-on t _ _ _ k (start .fits .k) (insert-verdict .ensures) (enum-told .given .1)) in
-    let e = insert .ensures ∙ ap (inserted t (start .args .e) (start .args .c1) (start .args .c2)) (amount-on 100 k (start .fits .k) (turned-word .ensures)) in
-    subst Good (sym e) (insert-good t _ _ _ k m)
+    let passes = insert-on t _ _ _ k (start .fits .k) (insert-verdict .ensures) (enum-told .given .1) in
+    let m = may-insert t _ _ _ k passes in
+    rule-allows t (InsertEdge (start .args .e) (start .args .c1) (start .args .c2) k) passes
+    (insert-met m (amount-on 100 k (start .fits .k) (turned-word .ensures)) (insert-rule .ensures .1)) (insert-rule .ensures .0) (m .good)
 
 same-length : tie.Need-same-length
 same-length c = search needs
@@ -56,7 +66,7 @@ returns c =
     let r = c .before .r in
     let t = now (start .args .t) in
     let k = start .args .k in
-    was-declined t (InsertEdge (start .args .e) (start .args .c1) (start .args .c2) k) _
+    was-refused t (InsertEdge (start .args .e) (start .args .c1) (start .args .c2) k) _
     (insert-on t _ _ _ k (start .fits .k) (insert-verdict .ensures) (r .given .1))
 
 same-length-2 : tie.Need-same-length-2
@@ -64,16 +74,19 @@ same-length-2 c = search needs
 
 returns-2 : tie.Need-returns-2
 returns-2 c =
-    let start = c .before .before .before .before .before .before .before .before .before .before .before .before in
-    let insert-verdict = c .before .before .before .before .before .before .before .before .before .insert-verdict in
-    let enum-told = c .before .before .before .before .before .before .before .enum-told in
-    let turned-word = c .before .before .before .before .before .before .turned-word in
-    let insert = c .before .before .before .before .insert in
+    let start = c .before .before .before .before .before .before .before .before .before .before .before .before .before in
+    let insert-verdict = c .before .before .before .before .before .before .before .before .before .before .insert-verdict in
+    let enum-told = c .before .before .before .before .before .before .before .before .enum-told in
+    let turned-word = c .before .before .before .before .before .before .before .turned-word in
+    let insert-rule = c .before .before .before .before .before .insert-rule in
+    let insert = c .before .before .before .insert in
     let t = now (start .args .t) in
     let k = start .args .k in
-    let e = insert .ensures ∙ ap (inserted t (start .args .e) (start .args .c1) (start .args .c2)) (amount-on 100 k (start .fits .k) (turned-word .ensures)) in
-    went-through t (InsertEdge (start .args .e) (start .args .c1) (start .args .c2) k) _ _
-    (insert-on t _ _ _ k (start .fits .k) (insert-verdict .ensures) (enum-told .given .1)) e (c .face-count .ensures)
+    let w = amount-on 100 k (start .fits .k) (turned-word .ensures) in
+    let e = insert .ensures ∙ ap (inserted t (start .args .e) (start .args .c1) (start .args .c2)) w in
+    let passes = insert-on t _ _ _ k (start .fits .k) (insert-verdict .ensures) (enum-told .given .1) in
+    ruled-reply t (InsertEdge (start .args .e) (start .args .c1) (start .args .c2) k) passes
+    (insert-met (may-insert t _ _ _ k passes) w (insert-rule .ensures .1)) (insert-rule .ensures .0) e (c .by-rule .ensures)
 
 pub insert-edge-spec : {M : Type 1} → statement M
 insert-edge-spec =
@@ -83,8 +96,9 @@ insert-edge-spec =
     enum-known-r
     enum-told
     turned-word-requires
+    insert-rule-requires
     insert-requires
-    face-count-requires
+    by-rule-requires
     same-length
     returns
     same-length-2

@@ -1,5 +1,6 @@
 -- `mesh::measure_mesh` meets its contract: labels, then the counts.
-use Rattle.measure.specs.laws.Mesh.{faces-low, mesh-counts}
+use Rattle.measure.specs.laws.Mesh.{mesh-counts}
+use Rattle.tracing.specs.laws.FaceCount.{faces-low}
 use Rattle.tallies.specs.laws.Tally.{labelled-keyed}
 use Rattle.table.specs.laws.Lawful.{good-lawful}
 use native.Mathlib.Omega.{arith}

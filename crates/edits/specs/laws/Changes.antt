@@ -2,7 +2,7 @@
 use Prim.Native.Nat.{ℕ, zero, suc, _+_, _-_, _*_, _%_, _<_}
 use native.Mathlib.Omega.{arith}
 use mathlib.Core.Path.{_≡_, refl, sym, _∙_, ap, subst}
-use mathlib.Core.Bool.{false}
+use mathlib.Core.Bool.{true, false}
 use mathlib.Core.List.{List}
 use mathlib.Core.Logic.{_≢_}
 use lib.Seq.{set-set, set-getD}
@@ -99,6 +99,10 @@ module _ (t : List ℕ) (g : Good t) (v : ℕ) (low : v < vertices) (absent : ve
         (λ y. let a = alone-word t u y in alone-yes with-v u (a .0) (other-word u n ∙ a .1));
   }
 
+-- an edge that is there has its first dart live
+pub first-live : (t : List ℕ) (e : ℕ) → e < edges → edgeWord t e ≢ 0 → live? t (2 * e) ≡ true
+first-live t e low there = let half : edgeOf (2 * e) ≡ e = omega arith in yes-live t (2 * e) (record { low = omega arith; on = rw half there })
+
 -- an edge is turned: all but the word of e stays
 module _ (t : List ℕ) (e : ℕ) (a : ℤ) (m : MayTurn t e a) where
   abbrev turned : List ℕ
@@ -113,7 +117,7 @@ module _ (t : List ℕ) (e : ℕ) (a : ℤ) (m : MayTurn t e a) where
   pub edge-turned : Turned (rotation t) e (rotation turned)
   unfolding turnsOf
   edge-turned = record {
-    here = let low = m .low in let half : edgeOf (2 * e) ≡ e = omega arith in yes-live t (2 * e) (record { low = omega arith; on = rw half (m .there) });
+    here = first-live t e (m .low) (m .there);
     live = turn-live t e a m;
     next = record { next = turned-next };
     turns = λ d n. ap (λ w. w % 2) (edge-edge t (m .good .size) e _ (edgeOf d) (m .low) ∙ upd-off (edgeWord t) e _ (edgeOf d) n);

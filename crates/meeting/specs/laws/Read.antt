@@ -8,7 +8,7 @@ use mathlib.Core.Logic.{_≢_}
 use lib.Dec.{eqb}
 use lib.ListN.{length, getD}
 use borrow.Author.Tests.{eq-eqb, ne-eqb}
-use Rattle.table.specs.Layout.{words, darts, edges, loneAt, rev, edgeWord, edgeWordMost}
+use Rattle.table.specs.Layout.{words, darts, edges, loneAt, rev, edgeWord}
 use Rattle.table.specs.Good.{Good}
 use Rattle.table.specs.Rotation.{Rotation, Lawful, rotation, live?, turnsOf}
 use Rattle.table.specs.laws.Lawful.{good-lawful}
@@ -100,11 +100,10 @@ pub record LiveEdge (t : List ℕ) (e : ℕ) : Type 0 where
   pub good : Good t
   pub live : live? t (2 * e) ≡ true
 
--- the word of a live edge, and its bound
+-- where the word of a live edge is
 pub record EdgeNear (t : List ℕ) (e : ℕ) : Type 0 where
   pub size : length t ≡ words
   pub low : e < edges
-  pub word : edgeWord t e ≤ edgeWordMost
 
 module _ {t : List ℕ} {e : ℕ} (k : LiveEdge t e) where
   lawful : Lawful (rotation t)
@@ -114,7 +113,7 @@ module _ {t : List ℕ} {e : ℕ} (k : LiveEdge t e) where
   edge-low = let d = lawful .dart-low (2 * e) (k .live) in omega arith
 
   pub edge-near : EdgeNear t e
-  edge-near = record { size = k .good .size; low = edge-low; word = k .good .turns e edge-low }
+  edge-near = record { size = k .good .size; low = edge-low }
 
   other-live : live? t ((4 * e + 2 + edgeWord t e % 2) / 2) ≡ true
   other-live =

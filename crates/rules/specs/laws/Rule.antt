@@ -1,15 +1,13 @@
 -- The rules, as the code tells them: what it asks for, the parity of words, and the face count after the edit.
-use Prim.Native.Nat.{ℕ, zero, suc, _+_, _-_, _*_, _%_, _<_, _≤_}
+use Prim.Native.Nat.{ℕ, zero, suc, _+_, _-_, _%_, _<_, _≤_}
 use native.Mathlib.Omega.{arith}
 use mathlib.Core.Path.{_≡_, refl, sym, _∙_, ap}
 use mathlib.Core.Logic.{_≢_}
 use mathlib.Core.List.{List}
 use mathlib.Core.Option.{some}
 use lib.IntN.{ℤ}
-use Rattle.table.specs.Layout.{edges, edgeWord, edgeOf}
 use Rattle.table.specs.Good.{Good}
 use Rattle.table.specs.Rotation.{rotation}
-use Rattle.table.specs.laws.Rotation.{yes-live}
 use Rattle.table.specs.laws.Lawful.{good-lawful}
 use Rattle.tracing.specs.Listing.{faceCount}
 use Rattle.tracing.specs.laws.Place.{places}
@@ -27,6 +25,7 @@ use Rattle.edits.specs.declared.edit.Edit.{Edit}
 use Rattle.edits.specs.declared.edit.Verdict.the-variants.{Passes}
 use Rattle.edits.specs.declared.rule.Reply.{Reply}
 use Rattle.edits.specs.declared.rule.Reply.the-variants.{ByRule}
+use Rattle.edits.specs.laws.Changes.{first-live}
 use Rattle.edits.specs.laws.Verdicts.{MayInsert, MayDelete, MayTurn}
 use Rattle.meeting.specs.laws.Read.{Corners, LiveEdge}
 
@@ -35,16 +34,11 @@ use Rattle.meeting.specs.laws.Read.{Corners, LiveEdge}
 pub insert-corners : {t : List ℕ} {e c₁ c₂ : ℕ} {k : ℤ} → MayInsert t e c₁ c₂ k → Corners t c₁ c₂
 insert-corners m = record { good = m .good; first = m .first-there; second = m .second-there }
 
-live-edge : (t : List ℕ) (e : ℕ) → Good t → e < edges → edgeWord t e ≢ 0 → LiveEdge t e
-live-edge t e g low there =
-    let half : edgeOf (2 * e) ≡ e = omega arith in
-    record { good = g; live = yes-live t (2 * e) (record { low = omega arith; on = rw half there }) }
-
 pub delete-edge : {t : List ℕ} {e : ℕ} → MayDelete t e → LiveEdge t e
-delete-edge m = live-edge _ _ (m .good) (m .low) (m .there)
+delete-edge m = record { good = m .good; live = first-live _ _ (m .low) (m .there) }
 
 pub turn-edge : {t : List ℕ} {e : ℕ} {a : ℤ} → MayTurn t e a → LiveEdge t e
-turn-edge m = live-edge _ _ (m .good) (m .low) (m .there)
+turn-edge m = record { good = m .good; live = first-live _ _ (m .low) (m .there) }
 
 -- the rules by the parity of words
 

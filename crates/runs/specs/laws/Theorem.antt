@@ -131,7 +131,7 @@ run-count t (E ∷ Es) g =
     ∙ ap (λ z. z +ℤ called (edited t E) Es) (edited-count t E g)
     ∙ +ℤ-assoc (faceNumber t) (calls t E) (called (edited t E) Es)
 
-pub told-called : (t : List ℕ) (Es : List Edit) → told t Es ≡ called t Es
+told-called : (t : List ℕ) (Es : List Edit) → told t Es ≡ called t Es
 unfolding told called
 told-called t [] = refl
 told-called t (E ∷ Es) = ap₂ _+ℤ_ (tells-calls t E) (told-called (edited t E) Es)

@@ -3,7 +3,7 @@
 --     Tagging                  a walk under way
 --     TagOf, Tagged            the tag of a corner once the walks that start below d are traced;     of all corners
 --     Tags                     all walks are traced
-use Prim.Native.Nat.{ℕ, zero, _+_, _*_, _/_, _%_, _<_, _≤_}
+use Prim.Native.Nat.{ℕ, zero, _+_, _*_, _%_, _<_, _≤_}
 use native.Mathlib.Omega.{arith}
 use native.Mathlib.Numerals.{add-one}
 use native.Mathlib.Decide.{ℕ-discrete}
@@ -30,7 +30,7 @@ use Rattle.tracing.specs.Corner.{faceOf, typeOf}
 use Rattle.tracing.specs.laws.Corner.{corner-met, face-by}
 use Rattle.walks.specs.laws.Stands.{Stands, stands-corner}
 use Rattle.walks.specs.laws.Along.{Walking, walking-none, walking-more, walking-all}
-use Rattle.walks.specs.laws.Size.{Lone}
+use Rattle.walks.specs.laws.Size.{LookReady, Lone}
 
 -- the tags m with those of these steps of the walk from s
 unfoldable pub tagged : Rotation → List ℕ → ℕ → List ℕ → List ℕ
@@ -156,10 +156,8 @@ module _ {t : List ℕ} {d : ℕ} {m : List ℕ} (k : Tagged t d m) (h : d < dar
         (has-gather (λ b. corners R (2 * b)) (starts R d) a d i (rw q at (has-map (corner R) (walk R (2 * a)) x j)))
   ])
 
-  pub start-stands : edgeWord t (edgeOf d) ≢ 0 → Stands t (2 * d)
-  start-stands e =
-      let half : 2 * d / 2 ≡ d = omega arith in
-      record { good = k .good; live = rw half (yes-live t d (record { low = h; on = e })) }
+  pub look-ready : LookReady t m d
+  look-ready = record { good = k .good; size = k .size; low = h }
 
   pub from-start : {m′ : List ℕ} → edgeWord t (edgeOf d) ≢ 0 → getD m d 0 ≡ nothing → m′ ≡ tagged R m (2 * d) (walk R (2 * d)) → TaggedFrom t d 1 m′
   unfolding corners

@@ -18,7 +18,7 @@ use Rattle.orbits.specs.Orbits.{On}
 use Rattle.orbits.specs.laws.Orbits.{reach-on}
 use Rattle.orbits.specs.Mirror.{Mirror}
 use Rattle.orbits.specs.laws.Mirror.{mirror-world, mirror-reach, no-self}
-use Rattle.orbits.specs.Faces.{Face, along, mirrored}
+use Rattle.orbits.specs.Faces.{Face}
 use Rattle.orbits.specs.laws.Faces.{face-flip, face-trans}
 use Rattle.tracing.specs.declared.meeting.Meeting.the-variants.{Apart, SameType, OtherType}
 use Rattle.tracing.specs.Step.{steps, corner, mirror}

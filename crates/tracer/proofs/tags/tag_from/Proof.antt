@@ -1,5 +1,6 @@
 -- `tags::tag_from` meets its contract, a return for each case: a dart that is not live, a corner that is tagged, a start.
-use Rattle.tracer.specs.laws.Tags.{from-dead, from-met, start-stands, from-start}
+use Rattle.tracer.specs.laws.Tags.{look-ready, from-dead, from-met, from-start}
+use Rattle.walks.specs.laws.Size.{start-stands}
 use borrow.Author.Needs.{needs}
 use Rattle.tracer.proofs.tags.tag_from.Statement.{statement}
 use Rattle.tracer.proofs.tags.tag_from.Tie as tie
@@ -35,7 +36,7 @@ tag-walk-requires : tie.Need-tag-walk-requires
 tag-walk-requires c κs =
     let start = c .before .before .before .before .before .before in
     let if1 = c .before .before .before .if1 in
-    (start-stands (start .pre .0) (start .pre .1) (if1 .left), start .pre .0 .size)
+    (start-stands (look-ready (start .pre .0) (start .pre .1)) (if1 .left), start .pre .0 .size)
 
 returns-3 : tie.Need-returns-3
 returns-3 c =

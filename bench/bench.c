@@ -1,6 +1,7 @@
 /* The calls of the planner against plain C (plain.c): the same tables, the same arguments, one run. Before a call is timed, both
    sides' answers and outputs are compared. Prints a table for docs/BENCHMARK.md: microseconds a call, medians, and their ratio.
-   bench/against builds it with OLDER: then the other side is an older build of the planner, under plain.h's names. */
+   bench/against builds it with OLDER: then the other side is an older build of the planner, under plain.h's names, and ask and commit
+   are timed against its plain edits too; with OLDER_ASKS where that build has ask and commit itself. */
 
 #define _POSIX_C_SOURCE 199309L
 
@@ -14,6 +15,9 @@
 
 #ifndef OLDER
 #define OLDER 0
+#endif
+#ifndef OLDER_ASKS
+#define OLDER_ASKS 0
 #endif
 
 enum { WORDS = PLANNER_TABLE_WORDS, OUT = 4096, LETTERS = 2048 * 99, ROUNDS = 21 };
@@ -31,11 +35,18 @@ struct output {
     int32_t counts[OUT];
     uint8_t letters[LETTERS];
     float coords[3 * OUT];
+    int64_t forecasts[2];
 };
 static struct output ours, theirs;
 
 /* The names that the edits use: a free vertex, a free edge (those below it are live), a live one, and one that moves on. */
 static uint16_t free_vertex, free_edge, live_edge, moving_edge;
+
+/* The forecasts of an edit and of the one that undoes it. They hold at every round, since the table is then as it was. */
+struct foretold {
+    int64_t first, second;
+};
+static struct foretold of_edge, of_turn;
 
 static uint32_t random_state = 1;
 
@@ -86,20 +97,57 @@ static int64_t both(int64_t a, int64_t b) {
     return OLDER ? PLANNER_FACES(a) * 4294967296 + PLANNER_FACES(b) : a * 4294967296 + b;
 }
 
-#define PAIR(name, first, first_arguments, second, second_arguments)                                                    \
+#define OUR_PAIR(name, first, first_arguments, second, second_arguments)                                                \
     static int64_t our_##name(void) {                                                                                  \
         int64_t a = planner_##first first_arguments;                                                                   \
         return both(a, planner_##second second_arguments);                                                             \
-    }                                                                                                                  \
+    }
+#define THEIR_PAIR(name, first, first_arguments, second, second_arguments)                                              \
     static int64_t their_##name(void) {                                                                                \
         int64_t a = plain_##first first_arguments;                                                                     \
         return both(a, plain_##second second_arguments);                                                               \
     }
+#define PAIR(...) OUR_PAIR(__VA_ARGS__) THEIR_PAIR(__VA_ARGS__)
 
 PAIR(vertex, add_vertex, (table, WORDS, free_vertex), remove_vertex, (table, WORDS, free_vertex))
 PAIR(edge, insert_edge, (table, WORDS, free_edge, 0, 1, 1), delete_edge, (table, WORDS, free_edge))
 PAIR(turn, turn_edge, (table, WORDS, live_edge, 1), turn_edge, (table, WORDS, live_edge, -1))
 PAIR(each_turn, turn_edge, (table, WORDS, moving_edge, 1), turn_edge, (table, WORDS, moving_edge, -1))
+
+/* Two asks on each side, of the table as it is. Against an older build two numbers are compared that its edits give too: the faces after the
+   first, and the faces before the second, which are those after it is undone. */
+static int64_t told(struct output *out, int64_t a, int64_t b) {
+    if (a < 0 || b < 0) {
+        return -1;
+    }
+    if (OLDER) {
+        return PLANNER_FACES(a) * 4294967296 + PLANNER_FACES_BEFORE(b);
+    }
+    out->forecasts[0] = a;
+    out->forecasts[1] = b;
+    return 0;
+}
+
+#define OUR_ASKS(name, first, first_arguments, second, second_arguments)                                                \
+    static int64_t our_##name(void) { return told(&ours, planner_##first first_arguments, planner_##second second_arguments); }
+#define THEIR_ASKS(name, first, first_arguments, second, second_arguments)                                              \
+    static int64_t their_##name(void) { return told(&theirs, plain_##first first_arguments, plain_##second second_arguments); }
+
+/* An older build may have neither ask nor commit. */
+#if OLDER && !OLDER_ASKS
+#define ASKS(...) OUR_ASKS(__VA_ARGS__)
+#define COMMITS(...) OUR_PAIR(__VA_ARGS__)
+#else
+#define ASKS(...) OUR_ASKS(__VA_ARGS__) THEIR_ASKS(__VA_ARGS__)
+#define COMMITS(...) PAIR(__VA_ARGS__)
+#endif
+
+ASKS(ask_edge, ask_insert_edge, (table, WORDS, free_edge, 0, 1, 1), ask_delete_edge, (table, WORDS, live_edge))
+ASKS(ask_turn, ask_turn_edge, (table, WORDS, live_edge, 1), ask_turn_edge, (table, WORDS, live_edge, -1))
+COMMITS(commit_edge, commit_insert_edge, (table, WORDS, free_edge, 0, 1, 1, of_edge.first), commit_delete_edge,
+        (table, WORDS, free_edge, of_edge.second))
+COMMITS(commit_turn, commit_turn_edge, (table, WORDS, live_edge, 1, of_turn.first), commit_turn_edge,
+        (table, WORDS, live_edge, -1, of_turn.second))
 
 static const struct {
     const char *name;
@@ -116,6 +164,18 @@ static const struct {
     {"planner_insert_edge, planner_delete_edge", our_edge, their_edge, 2},
     {"planner_turn_edge", our_turn, their_turn, 2},
     {"planner_turn_edge, edge after edge", our_each_turn, their_each_turn, 2},
+#if !OLDER || OLDER_ASKS
+    {"planner_ask_insert_edge, planner_ask_delete_edge", our_ask_edge, their_ask_edge, 2},
+    {"planner_ask_turn_edge", our_ask_turn, their_ask_turn, 2},
+    {"planner_commit_insert_edge, planner_commit_delete_edge", our_commit_edge, their_commit_edge, 2},
+    {"planner_commit_turn_edge", our_commit_turn, their_commit_turn, 2},
+#endif
+#if OLDER
+    {"planner_ask_insert_edge, planner_ask_delete_edge; old: the plain edits", our_ask_edge, their_edge, 2},
+    {"planner_ask_turn_edge; old: planner_turn_edge", our_ask_turn, their_turn, 2},
+    {"planner_commit_insert_edge, planner_commit_delete_edge; old: the plain edits", our_commit_edge, their_edge, 2},
+    {"planner_commit_turn_edge; old: planner_turn_edge", our_commit_turn, their_turn, 2},
+#endif
     {"planner_alternates", our_alternates, their_alternates, 1},
     {"planner_plain", our_plain, their_plain, 1},
     {"planner_letters", our_letters, their_letters, 1},
@@ -199,6 +259,18 @@ static void lend(void) {
     }
 }
 
+/* The forecasts that the commits take: of the insertion and of the turn, and after each of what undoes it. */
+static void foretell(void) {
+    of_edge.first = planner_ask_insert_edge(table, WORDS, free_edge, 0, 1, 1);
+    planner_insert_edge(table, WORDS, free_edge, 0, 1, 1);
+    of_edge.second = planner_ask_delete_edge(table, WORDS, free_edge);
+    planner_delete_edge(table, WORDS, free_edge);
+    of_turn.first = planner_ask_turn_edge(table, WORDS, live_edge, 1);
+    planner_turn_edge(table, WORDS, live_edge, 1);
+    of_turn.second = planner_ask_turn_edge(table, WORDS, live_edge, -1);
+    planner_turn_edge(table, WORDS, live_edge, -1);
+}
+
 static double now(void) {
     struct timespec t;
     clock_gettime(CLOCK_MONOTONIC, &t);
@@ -248,7 +320,7 @@ static void measure(size_t row, double *mine, double *other) {
         moving_edge = (uint16_t)(i * free_edge / ROUNDS);
         compare(row);
     }
-    times = (int)(2e-3 / timed(rows[row].theirs, 10, 0)) + 1;
+    times = (int)(ROUND_SECONDS / timed(rows[row].theirs, 10, 0)) + 1;
     for (i = 0; i < ROUNDS; i++) {
         a[i] = timed(rows[row].ours, times, i * times);
         b[i] = timed(rows[row].theirs, times, i * times);
@@ -310,6 +382,7 @@ int main(void) {
         build_grid(sizes[size].columns, sizes[size].lines);
         add_loops(sizes[size].edges);
         lend();
+        foretell();
         for (row = 0; row < ROWS; row++) {
             measure(row, &mine[row][size], &other[row][size]);
         }

@@ -41,17 +41,18 @@ extern "C" {
 #define PLANNER_ISOLATED 65534 /* the word of a vertex that is live and isolated */
 
 /* Refusals: a declined call returns minus one of these. */
-#define PLANNER_TORN 1         /* not PLANNER_TABLE_WORDS words, or not a good table */
-#define PLANNER_NO_SUCH_NAME 2 /* vertex, edge or dart past its range, type above 1, malformed corner */
-#define PLANNER_TAKEN 3        /* vertex or edge to add is live */
-#define PLANNER_ABSENT 4       /* vertex, edge, dart or corner named is not there */
-#define PLANNER_JOINED 5       /* vertex to remove has an edge */
-#define PLANNER_OVERTURNED 6   /* turns would pass 99 either way, or a tally field 32 bits */
-#define PLANNER_SHORT_SLICE 7  /* a lent slice is shorter than the call needs */
-#define PLANNER_MANY_TURNS 8   /* float path over an edge with more than one turn */
-#define PLANNER_FAR 9          /* length, point or lift out of range on an edge of the walk */
-#define PLANNER_BAD_MARK 10    /* job record with an unknown mark */
-#define PLANNER_CUT_RECORD 11  /* fewer bytes than the record needs */
+#define PLANNER_TORN 1            /* not PLANNER_TABLE_WORDS words, or not a good table */
+#define PLANNER_NO_SUCH_NAME 2    /* vertex, edge or dart past its range, type above 1, malformed corner */
+#define PLANNER_TAKEN 3           /* vertex or edge to add is live */
+#define PLANNER_ABSENT 4          /* vertex, edge, dart or corner named is not there */
+#define PLANNER_JOINED 5          /* vertex to remove has an edge */
+#define PLANNER_OVERTURNED 6      /* turns would pass 99 either way, or a tally field 32 bits */
+#define PLANNER_SHORT_SLICE 7     /* a lent slice is shorter than the call needs */
+#define PLANNER_MANY_TURNS 8      /* float path over an edge with more than one turn */
+#define PLANNER_FAR 9             /* length, point or lift out of range on an edge of the walk */
+#define PLANNER_BAD_MARK 10       /* job record with an unknown mark */
+#define PLANNER_CUT_RECORD 11     /* fewer bytes than the record needs */
+#define PLANNER_STALE_FORECAST 12 /* a commit's forecast is not the one that ask gives now */
 
 /*
  * Fills the slice with the empty mesh: no vertex and no edge is live. Answers 0.
@@ -141,6 +142,54 @@ int64_t planner_delete_edge(uint16_t *table, size_t words, uint16_t e);
  * even amount too).
  */
 int64_t planner_turn_edge(uint16_t *table, size_t words, uint16_t e, int16_t amount);
+
+/*
+ * Forecast, then do it. Ask takes an insertion, a deletion or a turn as the plain edit takes it, and answers what that edit
+ * would do to the table as it is: the forecast, after + 65536 * rule + 2^32 * before, with the rule that the edit would meet and
+ * the number of faces before and after it. It writes nothing. The host keeps the forecast as an int64_t, whole.
+ *
+ * Commit takes the edit again and its forecast, and does the edit exactly if ask, on the table as it now is, would give the same
+ * number. Then it leaves the table that the plain edit leaves and answers what the plain edit answers, faces + 65536 * rule. Else
+ * it answers -PLANNER_STALE_FORECAST and has changed nothing: ask again. Other edits in between are allowed; if they leave rule,
+ * before and after as they were, the edit is done to the table as it now is, not as it was when ask was called. Nothing but these
+ * three numbers is compared, and nothing is kept between the calls.
+ *
+ * An edit that would be declined is declined by both with its own number, in its own order; commit tests 12 after all of
+ * these. A negative answer of ask is no forecast, and neither is the answer of a plain edit, which lacks the faces before: a
+ * commit with one of them, or with any other number than ask's, is stale. A vertex has no forecast.
+ *
+ * PLANNER_FACES, PLANNER_RULE and PLANNER_FACES_BEFORE read after, rule and before from an answer of ask that is 0 or more.
+ */
+#define PLANNER_FACES_BEFORE(forecast) ((forecast) >> 32)
+
+/* The forecast of planner_insert_edge. Declines as that edit does. */
+int64_t planner_ask_insert_edge(const uint16_t *table, size_t words, uint16_t e, uint16_t c1, uint16_t c2, int16_t k);
+
+/* The forecast of planner_delete_edge. Declines as that edit does. */
+int64_t planner_ask_delete_edge(const uint16_t *table, size_t words, uint16_t e);
+
+/* The forecast of planner_turn_edge; of an even amount it is rule E, with before and after the same. Declines as that edit does. */
+int64_t planner_ask_turn_edge(const uint16_t *table, size_t words, uint16_t e, int16_t amount);
+
+/*
+ * planner_insert_edge, if planner_ask_insert_edge gives this forecast now.
+ * Declines: PLANNER_TORN; PLANNER_NO_SUCH_NAME (e, c1 or c2); PLANNER_TAKEN; PLANNER_ABSENT (c1 or c2); PLANNER_OVERTURNED;
+ * PLANNER_STALE_FORECAST.
+ */
+int64_t planner_commit_insert_edge(uint16_t *table, size_t words, uint16_t e, uint16_t c1, uint16_t c2, int16_t k,
+                                   int64_t forecast);
+
+/*
+ * planner_delete_edge, if planner_ask_delete_edge gives this forecast now.
+ * Declines: PLANNER_TORN, PLANNER_NO_SUCH_NAME, PLANNER_ABSENT, PLANNER_STALE_FORECAST.
+ */
+int64_t planner_commit_delete_edge(uint16_t *table, size_t words, uint16_t e, int64_t forecast);
+
+/*
+ * planner_turn_edge, if planner_ask_turn_edge gives this forecast now.
+ * Declines: PLANNER_TORN, PLANNER_NO_SUCH_NAME, PLANNER_ABSENT, PLANNER_OVERTURNED, PLANNER_STALE_FORECAST.
+ */
+int64_t planner_commit_turn_edge(uint16_t *table, size_t words, uint16_t e, int16_t amount, int64_t forecast);
 
 /*
  * Letters. An edge with k turns has |k| crossings; along a step the type flips at each. With positive k the strand

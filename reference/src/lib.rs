@@ -6,14 +6,16 @@
 //! on. A table is a slice of words; a call answers, or declines with a numbered refusal and has changed nothing.
 //!
 //! From the bottom upward: `table` (the words), `check` (good or torn), `trace` (step and walk), `faces` (the listed
-//! walks, corners and sides), `listing` (their words), `rule`, `edit` and `run` (the five edits), `counts` (parts, Euler
-//! numbers), `weave` (over and under), `length`, `path` and `reader` (one ribbon), `job` (the program).
+//! walks, corners and sides), `listing` (their words), `rule` and `edit` (the five edits), `forecast` (ask and commit), `run`
+//! (runs of them), `counts` (parts, Euler numbers), `weave` (over and under), `length`, `path` and `reader` (one ribbon), `job`
+//! (the program).
 //! `trial` makes tables, edits and damage from a seed, for tests.
 
 pub mod check;
 pub mod counts;
 pub mod edit;
 pub mod faces;
+pub mod forecast;
 pub mod job;
 pub mod length;
 pub mod listing;

@@ -1,7 +1,8 @@
 //! The numbered refusals ("When a call declines").
 //!
 //! "Where several hold: 1, 2, 3, 4, 5, 6, 8, 9, with 7 tested after 4." Every call here tests in that order, one
-//! `decline_if` after the other, before it writes anything. (A reader's step alone tests 9 before 6.)
+//! `decline_if` after the other, before it writes anything. (A reader's step alone tests 9 before 6.) Document 02 adds 12 for
+//! a commit, "tested after all of the edit's own numbers".
 
 #[derive(Clone, Copy, Debug, PartialEq, Eq)]
 pub enum Refusal {
@@ -16,6 +17,7 @@ pub enum Refusal {
     Far = 9,
     BadMark = 10,
     CutRecord = 11,
+    StaleForecast = 12,
 }
 
 impl Refusal {

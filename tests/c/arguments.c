@@ -1,5 +1,5 @@
 /* Arguments of one type, told apart: C goes by their places, so an exchange of two is seen by no compiler. Every value below is worked
-   out by hand from document 01, in the comment before it. Written so that a C++ compiler takes it too. */
+   out by hand from documents 01 and 02, in the comment before it. Written so that a C++ compiler takes it too. */
 
 #include "check.h"
 #include "planner.h"
@@ -61,6 +61,24 @@ static void try_the_edits(void) {
     check(planner_add_vertex(table, WORDS, 5) >= 0 && planner_add_vertex(table, WORDS, 6) >= 0 && planner_remove_vertex(table, WORDS, 5) >= 0,
           "vertices 5 and 6 come and 5 goes");
     check(vertex(5) == PLANNER_NOTHING && vertex(6) == PLANNER_ISOLATED, "vertex 6 stays");
+}
+
+/* e, c1, c2, k, amount, forecast, on the edges 3 and 2 of the edits above. Edge 3 has two turns and the walk (6, 0), (7, 0), which meets both
+   corners with type 0. So edge 2 with three turns leaves its one face one, with two it would make it two; edge 3 is passed by both darts. */
+static void try_the_forecasts(void) {
+    check(begin(0, 1) && insert(3, LONE + 0, LONE + 1, 2) == 1 + A, "edge 3 again");
+    check(planner_ask_insert_edge(table, WORDS, 2, 6, 7, 3) == BEFORE + B2 + 1 &&
+              planner_ask_insert_edge(table, WORDS, 2, 6, 7, 2) == BEFORE + B1 + 2,
+          "ask, insertion: e, c1, c2 and k");
+    check(planner_ask_turn_edge(table, WORDS, 3, 2) == BEFORE + E + 1 && planner_ask_turn_edge(table, WORDS, 3, 1) == BEFORE + B2 + 1,
+          "ask, turn: e and amount");
+    check(planner_ask_delete_edge(table, WORDS, 3) == BEFORE + B1 + 2, "ask, deletion: e");
+    check(planner_commit_insert_edge(table, WORDS, 2, 6, 7, 3, BEFORE + B2 + 1) == 1 + B2 && edge(2) == 103 && edge(3) == 102,
+          "commit, insertion: e and k");
+    check(leaves(4) == 0 && next(4) == 6 && next(6) == 4 && leaves(5) == 1 && next(5) == 7 && next(7) == 5, "commit, insertion: c1 and c2");
+    check(planner_commit_turn_edge(table, WORDS, 3, 2, BEFORE + E + 1) == 1 + E && edge(3) == 104 && edge(2) == 103, "commit, turn: e and amount");
+    /* Now the walk is (4, 0), (7, 1), (4, 1), (7, 0): by dart 4 twice, so without edge 2 one face is one. */
+    check(planner_commit_delete_edge(table, WORDS, 2, BEFORE + B2 + 1) == 1 + B2 && edge(2) == 0 && edge(3) == 104, "commit, deletion: e");
 }
 
 /* The words that the counts and the parts write, all different.
@@ -214,6 +232,7 @@ static void try_the_reader(void) {
 
 int main(void) {
     try_the_edits();
+    try_the_forecasts();
     try_the_counts();
     try_dart_and_type();
     try_points_and_lifts();

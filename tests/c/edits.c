@@ -1,5 +1,5 @@
-/* The edits and the listing as a C host calls them: document 01's printed job and some samples. Written so that a C++
-   compiler takes it too. */
+/* The edits, their forecasts and the listing as a C host calls them: document 01's printed job and some samples. Written so that
+   a C++ compiler takes it too. */
 
 #include "check.h"
 #include "planner.h"
@@ -120,10 +120,83 @@ static void try_the_names(void) {
     check(PLANNER_FACES(answer) == 2 && PLANNER_RULE(answer) == 0, "nor has a removed one");
 }
 
+/* Ask writes nothing, for each rule; two vertices are two faces, the flat loop has two, the others one. */
+static void try_to_ask(void) {
+    planner_empty(table, WORDS);
+    planner_add_vertex(table, WORDS, 0);
+    keep();
+    check(planner_ask_insert_edge(table, WORDS, 0, 32768, 32768, 0) == BEFORE + B1 + 2, "asked to insert: one face becomes two");
+    check(planner_ask_insert_edge(table, WORDS, 0, 32768, 32768, 1) == BEFORE + B2 + 1 && kept(), "asked to insert: one face stays one");
+    planner_add_vertex(table, WORDS, 1);
+    keep();
+    check(planner_ask_insert_edge(table, WORDS, 0, 32768, 32769, 1) == 2 * BEFORE + A + 1 && kept(), "asked to insert: two faces become one");
+    loop(0);
+    keep();
+    check(planner_ask_delete_edge(table, WORDS, 0) == 2 * BEFORE + A + 1, "asked to delete: two faces become one");
+    check(planner_ask_turn_edge(table, WORDS, 0, 1) == 2 * BEFORE + A + 1, "asked to turn: two faces become one");
+    check(planner_ask_turn_edge(table, WORDS, 0, 2) == 2 * BEFORE + E + 2 && kept(), "asked to turn by an even amount: before is after");
+    loop(1);
+    keep();
+    check(planner_ask_delete_edge(table, WORDS, 0) == BEFORE + B2 + 1, "asked to delete: one face stays one");
+    check(planner_ask_turn_edge(table, WORDS, 0, -1) == BEFORE + B1 + 2 && kept(), "asked to turn: one face becomes two");
+    bridge(0);
+    keep();
+    check(planner_ask_delete_edge(table, WORDS, 0) == BEFORE + B1 + 2, "asked to delete: one face becomes two");
+    check(planner_ask_turn_edge(table, WORDS, 0, 1) == BEFORE + B2 + 1 && kept(), "asked to turn: one face stays one");
+    check(planner_ask_insert_edge(table, WORDS, 0, 0, 1, 0) == -3 && planner_ask_delete_edge(table, WORDS, 1) == -4 &&
+              planner_ask_turn_edge(table, WORDS, 0, 100) == -6 && planner_ask_turn_edge(table, WORDS, 1024, 1) == -2 && kept(),
+          "asked what would be declined: its own number");
+    check(planner_ask_insert_edge(NULL, 0, 0, 0, 1, 0) == -1 && planner_ask_delete_edge(NULL, 0, 0) == -1 &&
+              planner_ask_turn_edge(NULL, 0, 0, 1) == -1,
+          "no words are torn");
+}
+
+/* A member tries an edit on screen, and accepts it; then another edit comes between the two. */
+static void try_to_commit(void) {
+    int64_t forecast;
+    loop(0);
+    forecast = planner_ask_turn_edge(table, WORDS, 0, 1);
+    check(PLANNER_FACES_BEFORE(forecast) == 2 && PLANNER_FACES(forecast) == 1 && PLANNER_RULE(forecast) == PLANNER_RULE_A,
+          "before, after and rule");
+    check(planner_commit_turn_edge(table, WORDS, 0, 1, forecast) == 1 + A && table[PLANNER_EDGE_AT] == 101, "committed: the plain edit");
+    keep();
+    check(planner_commit_turn_edge(table, WORDS, 0, 1, forecast) == -PLANNER_STALE_FORECAST && kept(), "a second time it is stale: 12");
+    forecast = planner_ask_delete_edge(table, WORDS, 0);
+    planner_add_vertex(table, WORDS, 7);
+    keep();
+    check(planner_commit_delete_edge(table, WORDS, 0, forecast) == -12 && kept(), "a vertex more, so a face more: stale");
+    check(planner_remove_vertex(table, WORDS, 7) == 1 && planner_commit_delete_edge(table, WORDS, 0, forecast) == 1 + B2,
+          "without it the forecast holds");
+    forecast = planner_ask_insert_edge(table, WORDS, 0, 32768, 32768, 0);
+    keep();
+    check(planner_commit_insert_edge(table, WORDS, 0, 32768, 32768, 1, forecast) == -12 && kept(),
+          "the forecast of another edit, which has other answers");
+    check(planner_commit_insert_edge(table, WORDS, 0, 32768, 32768, 0, forecast) == 2 + B1 && !kept(), "inserted");
+    keep();
+    check(planner_commit_insert_edge(table, WORDS, 0, 0, 1, 0, forecast) == -3 && planner_commit_delete_edge(table, WORDS, 1, forecast) == -4 &&
+              planner_commit_turn_edge(table, WORDS, 0, 100, forecast) == -6 &&
+              planner_commit_turn_edge(table, WORDS, 1024, 1, forecast) == -2 && kept(),
+          "the edit's own numbers come before 12");
+    check(planner_commit_turn_edge(table, WORDS, 0, 2, 2 + E) == -12 && planner_commit_turn_edge(table, WORDS, 0, 2, -4) == -12 && kept(),
+          "a plain edit's answer is no forecast, nor is a refusal");
+    /* Between two vertices an odd turn and an even one differ in the rule alone. */
+    bridge(0);
+    forecast = planner_ask_turn_edge(table, WORDS, 0, 2);
+    keep();
+    check(planner_commit_turn_edge(table, WORDS, 0, 1, forecast) == -12 && kept(), "the rule alone is another: stale");
+    check(planner_commit_turn_edge(table, WORDS, 0, 2, forecast + 65536 * BEFORE) == -12 && kept(), "a bit above the three numbers: stale");
+    check(planner_commit_turn_edge(table, WORDS, 0, 2, forecast) == 1 + E && table[PLANNER_EDGE_AT] == 102, "and the true one goes through");
+    check(planner_commit_insert_edge(NULL, 0, 0, 0, 1, 0, 0) == -1 && planner_commit_delete_edge(NULL, 0, 0, 0) == -1 &&
+              planner_commit_turn_edge(NULL, 0, 0, 1, 0) == -1,
+          "no words are torn");
+}
+
 int main(void) {
     try_the_printed_job();
     try_the_edits();
     try_the_rules();
     try_the_names();
+    try_to_ask();
+    try_to_commit();
     return verdict();
 }

@@ -105,6 +105,36 @@ static int64_t turn(uint16_t e, int16_t amount) {
     return edited(planner_turn_edge(t, words, e, amount));
 }
 
+static int64_t ask_insert(uint16_t e, int c1, int c2, int16_t k) {
+    uint16_t *t = lend_mesh();
+    return back(planner_ask_insert_edge(t, words, e, (uint16_t)c1, (uint16_t)c2, k), 1);
+}
+
+static int64_t ask_deletion(uint16_t e) {
+    uint16_t *t = lend_mesh();
+    return back(planner_ask_delete_edge(t, words, e), 1);
+}
+
+static int64_t ask_turn(uint16_t e, int16_t amount) {
+    uint16_t *t = lend_mesh();
+    return back(planner_ask_turn_edge(t, words, e, amount), 1);
+}
+
+static int64_t commit_insert(uint16_t e, int c1, int c2, int16_t k, int64_t forecast) {
+    uint16_t *t = lend_mesh();
+    return edited(planner_commit_insert_edge(t, words, e, (uint16_t)c1, (uint16_t)c2, k, forecast));
+}
+
+static int64_t commit_deletion(uint16_t e, int64_t forecast) {
+    uint16_t *t = lend_mesh();
+    return edited(planner_commit_delete_edge(t, words, e, forecast));
+}
+
+static int64_t commit_turn(uint16_t e, int16_t amount, int64_t forecast) {
+    uint16_t *t = lend_mesh();
+    return edited(planner_commit_turn_edge(t, words, e, amount, forecast));
+}
+
 static int64_t checked(void) {
     uint16_t *t = lend_mesh();
     return back(planner_check(t, words), 1);
@@ -187,6 +217,8 @@ static int all_torn(void) {
     int torn = checked() == -1 && listing(0) == -1 && counts(0) == -1 && parts(0) == -1 && plain() == -1;
     torn = torn && alternates(65535, 65535) == -1 && letters(0, 0, 0) == -1 && cut_length(0, 0) == -1 && float_path(0, 0, 0, 0) == -1;
     torn = torn && step_at(0, 0) == -1 && add(65535) == -1 && removal(0) == -1 && insert(0, 0, 0, 0) == -1 && deletion(0) == -1;
+    torn = torn && ask_insert(0, 0, 0, 0) == -1 && ask_deletion(0) == -1 && ask_turn(0, 0) == -1;
+    torn = torn && commit_insert(0, 0, 0, 0, 0) == -1 && commit_deletion(0, 2 * BEFORE) == -1 && commit_turn(0, 0, -1) == -1;
     return torn && turn(0, 0) == -1;
 }
 
@@ -213,6 +245,36 @@ static void try_the_edits(void) {
     check(deletion(1024) == -2 && deletion(65535) == -2 && deletion(1022) == -4, "an edge deleted: 2 and 4");
     check(turn(1024, 0) == -2 && turn(65535, 1) == -2 && turn(1022, 1) == -4 && turn(0, 99) == -6 && turn(0, -32768) == -6, "an edge turned: 2, 4, 6");
     check(turn(0, 98) == 2 + E && turn(0, -98) == 2 + E && turn(0, -1) == 2 + B2 && turn(0, 1) == 2 + B2, "an edge turned and back");
+}
+
+/* Two faces, the ribbon's and that of vertex 510. Edges 0 and 1023 are passed by both darts. */
+static void try_the_forecasts(void) {
+    check(ask_insert(1024, 0, 0, 0) == -2 && ask_insert(2, 2048, 0, 0) == -2 && ask_insert(2, 0, 65535, 0) == -2 && ask_insert(0, 0, 0, 0) == -3 &&
+              ask_insert(2, 0, 2045, 0) == -4 && ask_insert(2, 0, 0, 100) == -6,
+          "an insertion asked for: 2, 3, 4 and 6");
+    check(ask_deletion(1024) == -2 && ask_deletion(1022) == -4, "a deletion asked for: 2 and 4");
+    check(ask_turn(65535, 0) == -2 && ask_turn(1022, 1) == -4 && ask_turn(0, 99) == -6 && ask_turn(0, -32768) == -6,
+          "a turn asked for: 2, 4 and 6");
+    check(commit_insert(1024, 0, 0, 0, 0) == -2 && commit_insert(2, 0, 65535, 0, -2) == -2 && commit_insert(0, 0, 0, 0, 0) == -3 &&
+              commit_insert(2, 0, 2045, 0, 0) == -4 && commit_insert(2, 0, 0, 100, 0) == -6 && commit_insert(2, 0, 0, 0, 0) == -12,
+          "an insertion committed: 2, 3, 4, 6 and 12");
+    check(commit_deletion(1024, 0) == -2 && commit_deletion(1022, 0) == -4 && commit_deletion(1023, 3 + B1) == -12,
+          "a deletion committed: 2, 4 and 12");
+    check(commit_turn(65535, 0, 0) == -2 && commit_turn(1022, 1, 0) == -4 && commit_turn(0, 99, 0) == -6 &&
+              commit_turn(0, 98, 2 * BEFORE + E + 1) == -12,
+          "a turn committed: 2, 4, 6 and 12");
+    check(ask_insert(1022, LONE + 510, LONE + 510, -99) == 2 * BEFORE + B2 + 2 &&
+              commit_insert(1022, LONE + 510, LONE + 510, -99, 2 * BEFORE + B2 + 2) == 2 + B2,
+          "a loop comes");
+    check(ask_deletion(1022) == 2 * BEFORE + B2 + 2 && commit_deletion(1022, 2 * BEFORE + B2 + 2) == 2 + B2, "and goes");
+    check(ask_deletion(1023) == 2 * BEFORE + B1 + 3 && commit_deletion(1023, 2 * BEFORE + B1 + 3) == 3 + B1, "the last edge goes");
+    check(ask_insert(1023, 1, LONE + 511, 0) == 3 * BEFORE + A + 2 && commit_insert(1023, 1, LONE + 511, 0, 3 * BEFORE + A + 2) == 2 + A,
+          "and comes");
+    check(ask_turn(0, 98) == 2 * BEFORE + E + 2 && commit_turn(0, 98, 2 * BEFORE + E + 2) == 2 + E &&
+              commit_turn(0, -98, 2 * BEFORE + E + 2) == 2 + E,
+          "an edge turned and back");
+    check(ask_turn(0, -1) == 2 * BEFORE + B2 + 2 && commit_turn(0, -1, 2 * BEFORE + B2 + 2) == 2 + B2 && turn(0, 1) == 2 + B2,
+          "by an odd amount too");
 }
 
 /* The listing: four steps and their number, and two words for the empty walk. V 4, E 2, F 2, two parts. */
@@ -340,6 +402,7 @@ int main(int argc, char **argv) {
         return 0;
     }
     try_the_edits();
+    try_the_forecasts();
     try_the_outputs();
     try_the_names();
     try_the_lengths();

@@ -103,9 +103,20 @@ static void try_the_rules(void) {
     check(2 * PLANNER_FACES(131077) == 10 && 2 * PLANNER_RULE(131077) == 4, "the macros within an expression");
 }
 
+/* A forecast is after + 65536 * rule + 2^32 * before. */
+static void try_the_forecasts(void) {
+    const int64_t largest = 1536 * BEFORE + 2 * 65536 + 1535, bare = 4 * 65536 + 1536;
+    check(PLANNER_STALE_FORECAST == 12, "12 stale forecast");
+    check(PLANNER_FACES_BEFORE(largest) == 1536 && PLANNER_FACES(largest) == 1535 && PLANNER_RULE(largest) == PLANNER_RULE_B1,
+          "before, after and rule of a forecast");
+    check(PLANNER_FACES_BEFORE(bare) == 0, "a plain edit's answer has no faces before");
+    check(PLANNER_FACES_BEFORE(bare != 0 ? largest : bare) == 1536 && 2 * PLANNER_FACES_BEFORE(largest) == 3072, "the macro and expressions");
+}
+
 int main(void) {
     try_empty();
     try_check();
     try_the_rules();
+    try_the_forecasts();
     return verdict();
 }

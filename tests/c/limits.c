@@ -37,7 +37,7 @@ static void *lend(size_t bytes) {
 }
 
 static uint16_t *table;
-static int64_t answers[20];
+static int64_t answers[24];
 
 /* A chain through all vertices, and loops in the corner of dart 0 for the other edges, every one with one turn: all names are used. */
 static int build(void) {
@@ -108,6 +108,17 @@ static void read_a_walk(void) {
     answers[16] = ends;
 }
 
+/* An edit asked for and committed, three times; the last commit again, which finds the table changed. */
+static void calls_that_forecast(void) {
+    answers[17] = planner_ask_turn_edge(table, WORDS, EDGES - 1, -1);
+    answers[18] = planner_commit_turn_edge(table, WORDS, EDGES - 1, -1, answers[17]);
+    answers[19] = planner_ask_delete_edge(table, WORDS, EDGES - 1);
+    answers[20] = planner_commit_delete_edge(table, WORDS, EDGES - 1, answers[19]);
+    answers[21] = planner_ask_insert_edge(table, WORDS, EDGES - 1, 0, 0, 1);
+    answers[22] = planner_commit_insert_edge(table, WORDS, EDGES - 1, 0, 0, 1, answers[21]);
+    answers[23] = planner_commit_turn_edge(table, WORDS, EDGES - 1, -2, answers[17]);
+}
+
 static void calls_that_write(void) {
     answers[9] = planner_turn_edge(table, WORDS, EDGES - 1, -1);
     answers[10] = planner_delete_edge(table, WORDS, EDGES - 1);
@@ -153,6 +164,11 @@ int main(void) {
     on_small_stack(read_a_walk);
     check(answers[16] == 1 && tally->steps == steps && tally->overs + tally->unders == steps && tally->length == 65535 * steps,
           "the walk again, step by step, with its tally");
+    on_small_stack(calls_that_forecast);
+    for (i = 17; i < 23; i += 2) {
+        fine = fine && answers[i] >= BEFORE && answers[i + 1] == answers[i] % BEFORE;
+    }
+    check(fine && answers[23] == -PLANNER_STALE_FORECAST, "every edit asked for is committed, and a stale one is not");
     on_small_stack(calls_that_write);
     for (i = 9; i <= 15; i++) {
         fine = fine && answers[i] >= 0;

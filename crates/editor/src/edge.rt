@@ -22,7 +22,7 @@ ghost use Rattle.edits.specs.laws.Ready.{InsertReady, DeleteReady};
 ghost use Rattle.table.specs.Layout.{edges};
 
 // Puts edge e, of word w, between corners c1 and c2. The second dart goes first, so that with one corner for both the first stands before it.
-fn insert(t: &mut [u16], e: usize, c1: usize, c2: usize, w: u16)
+pub fn insert(t: &mut [u16], e: usize, c1: usize, c2: usize, w: u16)
     requires { ⌜ InsertReady (now t) e c1 c2 ⌝ }
     ensures { λ _. ⌜ now (t .exit) ≡ inserted (now (t .entry)) e c1 c2 w ⌝ }
 {
@@ -59,7 +59,7 @@ pub fn insert_edge(t: &mut [u16], e: u16, c1: u16, c2: u16, k: i16) -> Reply
 }
 
 // Takes edge e out.
-fn delete(t: &mut [u16], e: usize)
+pub fn delete(t: &mut [u16], e: usize)
     requires { ⌜ DeleteReady (now t) e ⌝ }
     ensures { λ _. ⌜ now (t .exit) ≡ deleted (now (t .entry)) e ⌝ }
 {

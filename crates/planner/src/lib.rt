@@ -1,5 +1,7 @@
 // The C interface: each function takes numbers and slices, and answers 0 or more, or minus the refusal's number.
 // A slice is a pointer and then its number of elements. `include/planner.h` declares the functions.
+use foretelling::number::asked_code;
+use foretelling::number::forecast_in;
 use reader::standing::Standing;
 use reader::standing::step_call;
 use rules::reply::reply_code;
@@ -13,6 +15,8 @@ ghost use Rattle.table.specs.Empty.{emptyOf, emptied};
 ghost use Rattle.tracing.specs.Call.{listAnswer, listOut};
 ghost use Rattle.edits.specs.Edits.{answer, edited};
 ghost use Rattle.edits.specs.Rules.{reply, replyCode};
+ghost use Rattle.forecasts.specs.Forecast.{ask, commitReply, committed};
+ghost use Rattle.forecasts.specs.Number.{askedCode, forecastIn};
 ghost use Rattle.surface.specs.Calls.{countsAnswer, countsOut, partsAnswer, partsOut};
 ghost use Rattle.weave.specs.Calls.{alternatesOf, plainOf, lettersOf, lettersOut};
 ghost use Rattle.lengths.specs.CutLength.{cutLengthOf};
@@ -82,6 +86,69 @@ pub extern "C" fn planner_turn_edge(words: &mut [u16], e: u16, amount: i16) -> i
     ensures { λ r. ⌜ (r ≡ replyCode (reply (now (words .entry)) (TurnEdge e amount))) × (now (words .exit) ≡ edited (now (words .entry)) (TurnEdge e amount)) ⌝ }
 {
     reply_code(editor::edge::turn_edge(words, e, amount))
+}
+
+// What inserting edge e would do: the face count after, above its 16 bits the rule, above 32 the face count before.
+#[no_mangle]
+pub extern "C" fn planner_ask_insert_edge(words: &[u16], e: u16, c1: u16, c2: u16, k: i16) -> i64
+    ensures { λ r. ⌜ r ≡ askedCode (ask (now (words .entry)) (InsertEdge e c1 c2 k)) ⌝ }
+{
+    asked_code(asker::ask::ask_insert_edge(words, e, c1, c2, k))
+}
+
+// What deleting edge e would do.
+#[no_mangle]
+pub extern "C" fn planner_ask_delete_edge(words: &[u16], e: u16) -> i64
+    ensures { λ r. ⌜ r ≡ askedCode (ask (now (words .entry)) (DeleteEdge e)) ⌝ }
+{
+    asked_code(asker::ask::ask_delete_edge(words, e))
+}
+
+// What turning edge e by an amount would do.
+#[no_mangle]
+pub extern "C" fn planner_ask_turn_edge(words: &[u16], e: u16, amount: i16) -> i64
+    ensures { λ r. ⌜ r ≡ askedCode (ask (now (words .entry)) (TurnEdge e amount)) ⌝ }
+{
+    asked_code(asker::ask::ask_turn_edge(words, e, amount))
+}
+
+// Inserts edge e if ask would give this forecast now. Answers as the plain edit.
+#[no_mangle]
+pub extern "C" fn planner_commit_insert_edge(
+    words: &mut [u16],
+    e: u16,
+    c1: u16,
+    c2: u16,
+    k: i16,
+    forecast: i64,
+) -> i64
+    ensures { λ r. ⌜ (r ≡ replyCode (commitReply (now (words .entry)) (InsertEdge e c1 c2 k) (forecastIn forecast)))
+        × (now (words .exit) ≡ committed (now (words .entry)) (InsertEdge e c1 c2 k) (forecastIn forecast)) ⌝ }
+{
+    reply_code(committer::commit::commit_insert_edge(words, e, c1, c2, k, forecast_in(forecast)))
+}
+
+// Deletes edge e if ask would give this forecast now. Answers as the plain edit.
+#[no_mangle]
+pub extern "C" fn planner_commit_delete_edge(words: &mut [u16], e: u16, forecast: i64) -> i64
+    ensures { λ r. ⌜ (r ≡ replyCode (commitReply (now (words .entry)) (DeleteEdge e) (forecastIn forecast)))
+        × (now (words .exit) ≡ committed (now (words .entry)) (DeleteEdge e) (forecastIn forecast)) ⌝ }
+{
+    reply_code(committer::commit::commit_delete_edge(words, e, forecast_in(forecast)))
+}
+
+// Turns edge e by an amount if ask would give this forecast now. Answers as the plain edit.
+#[no_mangle]
+pub extern "C" fn planner_commit_turn_edge(
+    words: &mut [u16],
+    e: u16,
+    amount: i16,
+    forecast: i64,
+) -> i64
+    ensures { λ r. ⌜ (r ≡ replyCode (commitReply (now (words .entry)) (TurnEdge e amount) (forecastIn forecast)))
+        × (now (words .exit) ≡ committed (now (words .entry)) (TurnEdge e amount) (forecastIn forecast)) ⌝ }
+{
+    reply_code(committer::commit::commit_turn_edge(words, e, amount, forecast_in(forecast)))
 }
 
 // Writes V, E, F, the number of parts and the Euler number, and answers five.

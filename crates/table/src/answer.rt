@@ -2,7 +2,7 @@
 ghost use mathlib.Core.Path.{_≡_};
 ghost use Rattle.table.specs.Answers.{numberOf, refusalCode, codeOf};
 
-// Document 01, "When a call declines".
+// Document 01, "When a call declines"; document 02 adds the last.
 pub enum Refusal {
     Torn,
     NoSuchName,
@@ -15,6 +15,7 @@ pub enum Refusal {
     Far,
     BadMark,
     CutRecord,
+    StaleForecast,
 }
 
 pub enum Answer {
@@ -22,7 +23,7 @@ pub enum Answer {
     Declined(Refusal),
 }
 
-// A refusal's number in document 01.
+// A refusal's number in the documents.
 pub fn number_of(r: Refusal) -> u64
     ensures { λ n. ⌜ n ≡ numberOf r ⌝ }
 {
@@ -38,6 +39,7 @@ pub fn number_of(r: Refusal) -> u64
         Refusal::Far => 9,
         Refusal::BadMark => 10,
         Refusal::CutRecord => 11,
+        Refusal::StaleForecast => 12,
     }
 }
 

@@ -32,6 +32,16 @@ pub fn random_edit(random: &mut Random, table: &[u16], window: Window, growth: u
     }
 }
 
+/// The same, an insertion, a deletion or a turn: what has a forecast.
+pub fn random_edge_edit(random: &mut Random, table: &[u16], window: Window, growth: usize) -> Edit {
+    loop {
+        let change = random_edit(random, table, window, growth);
+        if !matches!(change, Edit::AddVertex { .. } | Edit::RemoveVertex { .. }) {
+            return change;
+        }
+    }
+}
+
 fn random_insertion(random: &mut Random, table: &[u16], window: Window) -> Edit {
     let e = random_name(random, window.edges, EDGES, |e| !edge_is_live(table, e));
     let c1 = random_corner(random, table, window);

@@ -2,6 +2,7 @@
 //! that a second and slower way gives; none is copied from what the program answered.
 
 mod bands;
+mod forecasts;
 mod good;
 mod job;
 mod k4;

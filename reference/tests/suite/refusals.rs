@@ -27,8 +27,9 @@ fn accepts(change: Edit) {
 
 #[test]
 fn the_numbers_are_the_documents() {
-    let all = [Torn, NoSuchName, Taken, Absent, Joined, Overturned, ShortSlice, ManyTurns, Far, BadMark, CutRecord];
-    assert_eq!(all.map(Refusal::number), [1, 2, 3, 4, 5, 6, 7, 8, 9, 10, 11]);
+    let of_01 = [Torn, NoSuchName, Taken, Absent, Joined, Overturned, ShortSlice, ManyTurns, Far, BadMark, CutRecord];
+    assert_eq!(of_01.map(Refusal::number), [1, 2, 3, 4, 5, 6, 7, 8, 9, 10, 11]);
+    assert_eq!(StaleForecast.number(), 12);
 }
 
 #[test]

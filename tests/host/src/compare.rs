@@ -1,8 +1,10 @@
-//! The same edit by the library and by the reference, every word and the answer compared.
+//! The same edit, ask or commit by the library and by the reference, every word and the answer compared.
 
 use crate::guarded::Guarded;
 use crate::planner;
-use reference::edit::{edit, Edit};
+use reference::edit::{edit, verdict, Edit};
+use reference::forecast::{ask, commit};
+use reference::refusal::Refusal;
 use reference::table::{empty_mesh, VERTICES};
 pub use reference::trial::edits::kind;
 use std::collections::BTreeMap;
@@ -38,21 +40,52 @@ impl Twins {
 
     /// One edit in both hands; the answer, on which they agree.
     pub fn edit(&mut self, change: Edit) -> i64 {
-        let before = if cfg!(debug_assertions) { self.own.clone() } else { Vec::new() };
+        let before = self.kept();
         let expected = planner::as_edit_number(edit(&mut self.own, change));
         let answer = planner::edit(self.lent.slice_mut(), change);
-        assert_eq!(answer, expected, "{change:?}");
-        if self.lent.slice() != self.own {
-            let place = (0..self.own.len()).find(|&i| self.lent.slice()[i] != self.own[i]).unwrap();
-            panic!(
-                "{change:?}, answer {answer}: word {place} is {}, not {}",
-                self.lent.slice()[place],
-                self.own[place]
-            );
-        }
-        self.lent.assert_guards();
+        self.agree(&format!("{change:?}"), answer, expected);
         debug_assert!(answer >= 0 || self.own == before);
         answer
+    }
+
+    /// The forecast in both hands. The reference cannot write what it is asked about, and the library has not.
+    pub fn ask(&mut self, change: Edit) -> i64 {
+        let expected = planner::as_forecast_number(ask(&self.own, change));
+        let answer = planner::ask(self.lent.slice_mut(), change);
+        self.agree(&format!("ask {change:?}"), answer, expected);
+        answer
+    }
+
+    /// A commit in both hands, with any number for a forecast: one that holds no three answers is stale.
+    pub fn commit(&mut self, change: Edit, forecast: i64) -> i64 {
+        let before = self.kept();
+        let expected = planner::as_edit_number(match planner::forecast_in(forecast) {
+            Some(three) => commit(&mut self.own, change, three),
+            None => verdict(&self.own, change).and(Err(Refusal::StaleForecast)),
+        });
+        let answer = planner::commit(self.lent.slice_mut(), change, forecast);
+        self.agree(&format!("commit {change:?} with {forecast:#x}"), answer, expected);
+        debug_assert!(answer >= 0 || self.own == before);
+        answer
+    }
+
+    /// The words before a call, where the reference is tested too.
+    fn kept(&self) -> Vec<u16> {
+        if cfg!(debug_assertions) {
+            self.own.clone()
+        } else {
+            Vec::new()
+        }
+    }
+
+    /// The answer is the one expected, the words are the same in both hands, and the guards beside them are whole.
+    fn agree(&self, call: &str, answer: i64, expected: i64) {
+        assert_eq!(answer, expected, "{call}");
+        if self.lent.slice() != self.own {
+            let place = (0..self.own.len()).find(|&i| self.lent.slice()[i] != self.own[i]).unwrap();
+            panic!("{call}, answer {answer}: word {place} is {}, not {}", self.lent.slice()[place], self.own[place]);
+        }
+        self.lent.assert_guards();
     }
 }
 
@@ -62,20 +95,27 @@ impl Twins {
 pub struct Seen(BTreeMap<(&'static str, i64), usize>);
 
 impl Seen {
+    /// The answer of an edit, a forecast or the answer of a commit: each has the rule above 16 bits.
     pub fn note(&mut self, change: Edit, answer: i64) {
-        let outcome = if answer < 0 { answer } else { answer / 65_536 };
+        let outcome = if answer < 0 { answer } else { answer / 65_536 % 65_536 };
         *self.0.entry((kind(change), outcome)).or_insert(0) += 1;
     }
 
     /// Each of these came up at least so often, and nothing else came up.
     pub fn assert_all(&self, kinds: &[&'static str], times: usize) {
+        self.assert_all_and(kinds, &[], times);
+    }
+
+    /// The same where besides the edit's own outcomes there are others, as a commit's 12.
+    pub fn assert_all_and(&self, kinds: &[&'static str], others: &[i64], times: usize) {
         for &kind in kinds {
-            for &outcome in outcomes(kind) {
+            for &outcome in outcomes(kind).iter().chain(others) {
                 let seen = self.0.get(&(kind, outcome)).copied().unwrap_or(0);
                 assert!(seen >= times, "{kind} with {outcome}: {seen} times in {self:?}");
             }
         }
-        assert!(self.0.keys().all(|(kind, outcome)| outcomes(kind).contains(outcome)), "{self:?}");
+        let expected = |kind: &str, outcome: &i64| outcomes(kind).contains(outcome) || others.contains(outcome);
+        assert!(self.0.keys().all(|(kind, outcome)| expected(kind, outcome)), "{self:?}");
     }
 }
 

@@ -2,6 +2,7 @@
 //! answer is 0 or more, or minus the number of the refusal.
 
 use reference::edit::{Answer, Edit};
+use reference::forecast::Forecast;
 use reference::refusal::Refusal;
 use reference::rule::Rule;
 
@@ -15,6 +16,20 @@ mod c {
         pub fn planner_insert_edge(table: *mut u16, words: usize, e: u16, c1: u16, c2: u16, k: i16) -> i64;
         pub fn planner_delete_edge(table: *mut u16, words: usize, e: u16) -> i64;
         pub fn planner_turn_edge(table: *mut u16, words: usize, e: u16, amount: i16) -> i64;
+        pub fn planner_ask_insert_edge(table: *const u16, words: usize, e: u16, c1: u16, c2: u16, k: i16) -> i64;
+        pub fn planner_ask_delete_edge(table: *const u16, words: usize, e: u16) -> i64;
+        pub fn planner_ask_turn_edge(table: *const u16, words: usize, e: u16, amount: i16) -> i64;
+        pub fn planner_commit_insert_edge(
+            table: *mut u16,
+            words: usize,
+            e: u16,
+            c1: u16,
+            c2: u16,
+            k: i16,
+            forecast: i64,
+        ) -> i64;
+        pub fn planner_commit_delete_edge(table: *mut u16, words: usize, e: u16, forecast: i64) -> i64;
+        pub fn planner_commit_turn_edge(table: *mut u16, words: usize, e: u16, amount: i16, forecast: i64) -> i64;
         pub fn planner_counts(table: *const u16, words: usize, out: *mut i32, out_words: usize) -> i64;
         pub fn planner_parts(table: *const u16, words: usize, out: *mut i32, out_words: usize) -> i64;
         pub fn planner_alternates(table: *const u16, words: usize, dart: u16, kind: u16) -> i64;
@@ -94,16 +109,34 @@ pub const B1: i64 = 2 * 65_536;
 pub const B2: i64 = 3 * 65_536;
 pub const E: i64 = 4 * 65_536;
 
+/// What each face before an edit adds to its forecast: it is after + 65536 * rule + 2^32 * before.
+pub const BEFORE: i64 = 4_294_967_296;
+
+fn added(rule: Rule) -> i64 {
+    match rule {
+        Rule::A => A,
+        Rule::B1 => B1,
+        Rule::B2 => B2,
+        Rule::E => E,
+    }
+}
+
 /// What an edit of the reference answers, as the C interface says it; a vertex has no rule.
 pub fn as_edit_number(answer: Result<Answer, Refusal>) -> i64 {
-    let added = match answer.map(|answer| answer.rule) {
-        Ok(Some(Rule::A)) => A,
-        Ok(Some(Rule::B1)) => B1,
-        Ok(Some(Rule::B2)) => B2,
-        Ok(Some(Rule::E)) => E,
-        Ok(None) | Err(_) => 0,
-    };
-    as_number(answer.map(|answer| answer.faces)) + added
+    as_number(answer.map(|answer| answer.faces)) + answer.ok().and_then(|answer| answer.rule).map_or(0, added)
+}
+
+/// What ask of the reference answers, as the C interface says it.
+pub fn as_forecast_number(answer: Result<Forecast, Refusal>) -> i64 {
+    let above = answer.map_or(0, |forecast| added(forecast.rule) + forecast.before as i64 * BEFORE);
+    as_number(answer.map(|forecast| forecast.after)) + above
+}
+
+/// The three answers in a number that a host offers; none if it is a number that says no three.
+pub fn forecast_in(number: i64) -> Option<Forecast> {
+    let (high, low) = (u32::try_from(number >> 32).ok()?, number as u32);
+    let rule = [Rule::A, Rule::B1, Rule::B2, Rule::E][(low >> 16).checked_sub(1).filter(|&at| at < 4)? as usize];
+    Some(Forecast { rule, before: high as usize, after: (low & 0xffff) as usize })
 }
 
 pub fn empty(table: &mut [u16]) -> i64 {
@@ -206,6 +239,47 @@ fn edit_at(table: *mut u16, words: usize, edit: Edit) -> i64 {
             Edit::InsertEdge { e, c1, c2, k } => c::planner_insert_edge(table, words, e, c1, c2, k),
             Edit::DeleteEdge { e } => c::planner_delete_edge(table, words, e),
             Edit::TurnEdge { e, amount } => c::planner_turn_edge(table, words, e, amount),
+        }
+    }
+}
+
+/// Ask. It is lent words that it could write, so that a test may see that it does not.
+pub fn ask(table: &mut [u16], edit: Edit) -> i64 {
+    ask_at(table.as_mut_ptr(), table.len(), edit)
+}
+
+/// Ask over a table of no words whose pointer is null.
+pub fn ask_null(edit: Edit) -> i64 {
+    ask_at(std::ptr::null(), 0, edit)
+}
+
+fn ask_at(table: *const u16, words: usize, edit: Edit) -> i64 {
+    unsafe {
+        match edit {
+            Edit::InsertEdge { e, c1, c2, k } => c::planner_ask_insert_edge(table, words, e, c1, c2, k),
+            Edit::DeleteEdge { e } => c::planner_ask_delete_edge(table, words, e),
+            Edit::TurnEdge { e, amount } => c::planner_ask_turn_edge(table, words, e, amount),
+            Edit::AddVertex { .. } | Edit::RemoveVertex { .. } => panic!("{edit:?}: a vertex has no forecast"),
+        }
+    }
+}
+
+pub fn commit(table: &mut [u16], edit: Edit, forecast: i64) -> i64 {
+    commit_at(table.as_mut_ptr(), table.len(), edit, forecast)
+}
+
+/// A commit over a table of no words whose pointer is null.
+pub fn commit_null(edit: Edit, forecast: i64) -> i64 {
+    commit_at(std::ptr::null_mut(), 0, edit, forecast)
+}
+
+fn commit_at(table: *mut u16, words: usize, edit: Edit, forecast: i64) -> i64 {
+    unsafe {
+        match edit {
+            Edit::InsertEdge { e, c1, c2, k } => c::planner_commit_insert_edge(table, words, e, c1, c2, k, forecast),
+            Edit::DeleteEdge { e } => c::planner_commit_delete_edge(table, words, e, forecast),
+            Edit::TurnEdge { e, amount } => c::planner_commit_turn_edge(table, words, e, amount, forecast),
+            Edit::AddVertex { .. } | Edit::RemoveVertex { .. } => panic!("{edit:?}: a vertex has no forecast"),
         }
     }
 }

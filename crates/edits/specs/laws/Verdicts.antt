@@ -28,6 +28,7 @@ use Rattle.tracing.specs.laws.Corner.{present-means}
 use Rattle.edits.specs.Turns.{turnsIn, overturned, turnedWord}
 use Rattle.edits.specs.Verdicts.{vertexThere, edgeThere, newVertex, oldVertex, newEdge, oldEdge, fewTurns, andThen, verdict}
 use Rattle.edits.specs.laws.Turns.{word-over, few-word}
+use Rattle.edits.specs.declared.edit.Edit.{Edit}
 use Rattle.edits.specs.declared.edit.Edit.the-variants.{AddVertex, RemoveVertex, InsertEdge, DeleteEdge, TurnEdge}
 use Rattle.edits.specs.declared.edit.Verdict.{Verdict}
 use Rattle.edits.specs.declared.edit.Verdict.the-variants.{Passes, Declines}
@@ -37,6 +38,15 @@ never e = let z : _≡_ {A = ℕ} 0 1 = cc in omega arith
 
 was-good : (t : List ℕ) → good? t ≡ true → Good t
 was-good t e = case-yes (good-case t) e
+
+-- a verdict is one of two
+pub data Judged (v : Verdict) : Type 0 where
+  passed : v ≡ Passes → Judged v
+  declined : (r : Refusal) → v ≡ Declines r → Judged v
+
+pub judged : (v : Verdict) → Judged v
+judged Passes = passed refl
+judged (Declines r) = declined r refl
 
 -- two lists of tests, one after the other
 
@@ -157,6 +167,14 @@ module _ (t : List ℕ) where
         there = there .there;
         few = not-true _ (let-through (not (overturned (turnsIn (edgeWord t e) +ℤ a))) never (q .1) .held);
       }
+
+-- an edit goes through on good tables alone
+pub passed-good : (t : List ℕ) (E : Edit) → verdict t E ≡ Passes → Good t
+passed-good t (AddVertex v) p = may-add t v p .good
+passed-good t (RemoveVertex v) p = may-remove t v p .good
+passed-good t (InsertEdge e c₁ c₂ k) p = may-insert t e c₁ c₂ k p .good
+passed-good t (DeleteEdge e) p = may-delete t e p .good
+passed-good t (TurnEdge e a) p = may-turn t e a p .good
 
 -- the word of 0 that the code makes for turns past 99
 pub room-is : (w : ℕ) (a : ℤ) {x : ℕ} {r : Verdict} → x ≡ turnedWord w a → r ≡ unless (not (eqb x 0)) (Declines Overturned) Passes → r ≡ fewTurns (turnsIn w +ℤ a)

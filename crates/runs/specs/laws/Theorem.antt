@@ -30,8 +30,6 @@ use Rattle.edits.specs.laws.Rules.{rule-change, rule-changes}
 use Rattle.edits.specs.declared.rule.Rule.{Rule}
 use Rattle.edits.specs.declared.edit.Edit.{Edit}
 use Rattle.edits.specs.declared.edit.Edit.the-variants.{AddVertex, RemoveVertex, InsertEdge, DeleteEdge, TurnEdge}
-use Rattle.edits.specs.declared.edit.Verdict.{Verdict}
-use Rattle.edits.specs.declared.edit.Verdict.the-variants.{Passes, Declines}
 use Rattle.surface.specs.laws.Labels.{orientable-marks}
 use Rattle.surface.specs.laws.Listed.{one-part, part-once, part-named, part-alone, walk-once, walk-part}
 use Rattle.surface.specs.laws.Tables.{table-parts, table-sum}
@@ -42,15 +40,7 @@ use Rattle.runs.specs.Run.{run, number, calls, called, tells, told, face
 use Rattle.runs.specs.laws.Run.{run-append, run-one}
 use Rattle.runs.specs.RunLaws.{RunLaws}
 use Rattle.edits.specs.Verdicts.{verdict}
-
--- a verdict is one of two
-data Judged (v : Verdict) : Type 0 where
-  passed : v ≡ Passes → Judged v
-  declined : (r : _) → v ≡ Declines r → Judged v
-
-judged : (v : Verdict) → Judged v
-judged Passes = passed refl
-judged (Declines r) = declined r refl
+use Rattle.edits.specs.laws.Verdicts.{judged, passed, declined}
 
 same : {n m : ℕ} → Done n ≡ Done m → n ≡ m
 same e = cc

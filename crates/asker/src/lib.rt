@@ -1,0 +1,2 @@
+// What an edit of an edge would do, read on the table as it is, with nothing written.
+pub mod ask;

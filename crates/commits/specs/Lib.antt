@@ -1,0 +1,4 @@
+pub mod Deeds
+pub mod DeedLaws
+pub mod laws
+pub mod Theorems

@@ -1,0 +1,1 @@
+// Runs that hold commits beside plain edits. No code.

@@ -1,0 +1,2 @@
+// An edit of an edge done if its forecast still holds.
+pub mod commit;

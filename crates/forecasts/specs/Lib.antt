@@ -1,0 +1,4 @@
+pub mod Forecast
+pub mod Number
+pub mod laws
+pub mod Theorems

@@ -33,7 +33,7 @@ use Rattle.edits.specs.declared.edit.Edit.the-variants.{AddVertex, Remov
 use Rattle.edits.specs.declared.edit.Verdict.{Verdict}
 use Rattle.edits.specs.declared.edit.Verdict.the-variants.{Passes, Declines}
 
-never : {r : Refusal} → Declines r ≡ Passes → ⊥
+pub never : {r : Refusal} → Declines r ≡ Passes → ⊥
 never e = let z : _≡_ {A = ℕ} 0 1 = cc in omega arith
 
 was-good : (t : List ℕ) → good? t ≡ true → Good t

@@ -20,6 +20,7 @@ use mir.Facts.{toZ-ofZ}
 use borrow.Author.Tests.{eqb-true, eq-eqb}
 use Rattle.orbits.specs.laws.Truth.{truth, holds, fails, both-left, both-right}
 use Rattle.table.specs.Rotation.{rotation}
+use Rattle.table.specs.laws.Answers.{done-declined}
 use Rattle.table.specs.declared.answer.Answer.the-variants.{Done, Declined}
 use Rattle.table.specs.declared.answer.Refusal.{Refusal}
 use Rattle.table.specs.declared.answer.Refusal.the-variants.{StaleForecast}
@@ -28,7 +29,7 @@ use Rattle.surgery.specs.Change.{Changes}
 use Rattle.edits.specs.Verdicts.{verdict}
 use Rattle.edits.specs.Edits.{answer, edited}
 use Rattle.edits.specs.Rules.{ruleOf, ruleChange, reply, ruleNumber, numberMet}
-use Rattle.edits.specs.laws.Verdicts.{judged, passed, declined}
+use Rattle.edits.specs.laws.Verdicts.{never, judged, passed, declined}
 use Rattle.edits.specs.laws.Edits.{answer-passes, answer-declines}
 use Rattle.edits.specs.laws.Rules.{rule-changes}
 use Rattle.edits.specs.declared.edit.Edit.{Edit}
@@ -43,9 +44,6 @@ use Rattle.forecasts.specs.declared.forecast.Asked.{Asked}
 use Rattle.forecasts.specs.declared.forecast.Asked.the-variants.{Foretold, Refused}
 use Rattle.forecasts.specs.Forecast.{forecast, ask, sameThree, commitVerdict, commitReply, committed}
 
-never : {r : Refusal} → Declines r ≡ Passes → ⊥
-never e = let z : _≡_ {A = ℕ} 0 1 = cc in omega arith
-
 unlike : {f : Forecast} {r : Refusal} → Refused r ≡ Foretold f → ⊥
 unlike e = let z : _≡_ {A = ℕ} 0 1 = cc in omega arith
 
@@ -54,9 +52,6 @@ same-told e = cc
 
 same-refused : {r s : Refusal} → Refused r ≡ Refused s → r ≡ s
 same-refused e = cc
-
-done-never : {n : ℕ} {r : Refusal} → Done n ≡ Declined r → ⊥
-done-never e = let z : _≡_ {A = ℕ} 0 1 = cc in omega arith
 
 same-declined : {r s : Refusal} → Declined r ≡ Declined s → r ≡ s
 same-declined e = cc
@@ -123,7 +118,7 @@ module _ (t : List ℕ) (E : Edit) where
 
   pub ask-refuses : (r : Refusal) → (ask t E ≡ Refused r) ↔ (answer t E ≡ Declined r)
   ask-refuses r = elim (judged (verdict t E)) [
-    | passed p ↦ (λ e. absurd (unlike (sym e ∙ ask-passes p)), λ e. absurd (done-never (sym (answer-passes t E p) ∙ e)))
+    | passed p ↦ (λ e. absurd (unlike (sym e ∙ ask-passes p)), λ e. absurd (done-declined (sym (answer-passes t E p) ∙ e)))
     | declined s p ↦ (
       λ e. answer-declines t E s p ∙ ap Declined (same-refused (sym (ask-declines s p) ∙ e)),
       λ e. ask-declines s p ∙ ap Refused (same-declined (sym (answer-declines t E s p) ∙ e)),

@@ -12,9 +12,10 @@ use Rattle.table.specs.laws.Check.{good-yes}
 use Rattle.table.specs.laws.Lawful.{good-lawful}
 use Rattle.table.specs.Empty.{emptyTable}
 use Rattle.table.specs.laws.Empty.{empty-good}
+use Rattle.table.specs.laws.Answers.{done-declined}
 use Rattle.table.specs.laws.Output.{output-accepted}
 use Rattle.table.specs.laws.Signed.{difference, below, above}
-use Rattle.table.specs.declared.answer.Answer.the-variants.{Done, Declined}
+use Rattle.table.specs.declared.answer.Answer.the-variants.{Done}
 use Rattle.tracing.specs.Listing.{faceCount, listing}
 use Rattle.tracing.specs.laws.Met.{present-once, absent-never}
 use Rattle.tracing.specs.laws.Edges.{edge-twice}
@@ -44,9 +45,6 @@ use Rattle.edits.specs.laws.Verdicts.{judged, passed, declined}
 
 same : {n m : ℕ} → Done n ≡ Done m → n ≡ m
 same e = cc
-
-never : {n : ℕ} {r : _} → Done n ≡ Declined r → ⊥
-never e = let z : _≡_ {A = ℕ} 0 1 = cc in omega arith
 
 -- one edit
 
@@ -95,7 +93,7 @@ answered-rule t E n a = (
   rw a,
   λ r q. elim (judged (verdict t E)) [
     | passed p ↦ rw (same (sym a ∙ answer-passes t E p)) (rule-changes t E r p q)
-    | declined s p ↦ absurd (never (sym a ∙ answer-declines t E s p))
+    | declined s p ↦ absurd (done-declined (sym a ∙ answer-declines t E s p))
   ],
 )
 
@@ -103,7 +101,7 @@ answered-rule t E n a = (
 pub answered-count : (t : List ℕ) (E : Edit) (n : ℕ) → answer t E ≡ Done n → pos n ≡ faceNumber (edited t E)
 answered-count t E n a = elim (judged (verdict t E)) [
   | passed p ↦ rw (edited-passes t E p) (ap pos (same (sym a ∙ answer-passes t E p)))
-  | declined r p ↦ absurd (never (sym a ∙ answer-declines t E r p))
+  | declined r p ↦ absurd (done-declined (sym a ∙ answer-declines t E r p))
 ]
 
 -- the whole run

@@ -1,4 +1,4 @@
--- Tests one after the other; a refusal's number is small; a code that is handed on keeps its value.
+-- Tests one after the other; an answer is one of two; a refusal's number is small; a code that is handed on keeps its value.
 use Prim.Native.Nat.{_<_, _^_, ℕ, zero, suc}
 use mathlib.Core.Path.{_≡_, _∙_, ap, refl}
 use mir.Syntax.{w64}
@@ -9,6 +9,7 @@ use lib.IntN.{ℤ, pos, negℤ, _-ℤ_, +ℤ-idl}
 use native.Mathlib.Omega.{arith}
 use mathlib.Core.Bool.{Bool, true, false}
 use Rattle.table.specs.Answers.{numberOf, refusalCode, unless}
+use Rattle.table.specs.declared.answer.Answer.the-variants.{Done, Declined}
 use Rattle.table.specs.declared.answer.Refusal.{Refusal}
 use Rattle.table.specs.declared.answer.Refusal.the-variants.{Torn, NoSuchName, Taken, Absent, Joined, Overturned, ShortSlice, ManyTurns, Far, BadMark, CutRecord, StaleForecast}
 
@@ -20,6 +21,10 @@ pub record LetThrough {A : Type 0} (test : Bool) (x y : A) : Type 0 where
 pub let-through : {A : Type 0} (test : Bool) {refusal rest y : A} → (refusal ≡ y → ⊥) → unless test refusal rest ≡ y → LetThrough test rest y
 let-through true n e = record { held = refl; rest = e }
 let-through false n e = absurd (n e)
+
+-- an answer is a number or a refusal
+pub done-declined : {n : ℕ} {r : Refusal} → Done n ≡ Declined r → ⊥
+done-declined e = let z : _≡_ {A = ℕ} 0 1 = cc in omega arith
 
 -- a refusal's number has at most two digits
 pub number-low : (r : Refusal) → numberOf r < 100

@@ -27,7 +27,9 @@ delete-requires c κs =
     let t = now (start .args .t) in
     let edit = DeleteEdge (start .args .e) in
     let forecast = start .args .forecast in
-    let judged = judges t edit forecast (c .before .before .before .before .ask-delete-edge .ensures) (c .before .before .before .commit-verdict .ensures) in
+    let ask-delete-edge = c .before .before .before .before .ask-delete-edge in
+    let commit-verdict = c .before .before .before .commit-verdict in
+    let judged = judges t edit forecast (ask-delete-edge .ensures) (commit-verdict .ensures) in
     may-delete-ready _ _ (may-delete _ _ (may-edit t edit forecast (sym judged ∙ c .before .enum-told .given .1)))
 
 told-requires : tie.Need-told-requires
@@ -42,7 +44,9 @@ returns c =
     let t = now (start .args .t) in
     let edit = DeleteEdge (start .args .e) in
     let forecast = start .args .forecast in
-    let judged = judges t edit forecast (c .before .before .before .before .ask-delete-edge .ensures) (c .before .before .before .commit-verdict .ensures) in
+    let ask-delete-edge = c .before .before .before .before .ask-delete-edge in
+    let commit-verdict = c .before .before .before .commit-verdict in
+    let judged = judges t edit forecast (ask-delete-edge .ensures) (commit-verdict .ensures) in
     was-refused t edit forecast _ (sym judged ∙ c .before .r .given .1)
 
 same-length-2 : tie.Need-same-length-2
@@ -54,7 +58,9 @@ returns-2 c =
     let t = now (start .args .t) in
     let edit = DeleteEdge (start .args .e) in
     let forecast = start .args .forecast in
-    let judged = judges t edit forecast (c .before .before .before .before .before .before .before .before .ask-delete-edge .ensures) (c .before .before .before .before .before .before .before .commit-verdict .ensures) in
+    let ask-delete-edge = c .before .before .before .before .before .before .before .before .ask-delete-edge in
+    let commit-verdict = c .before .before .before .before .before .before .before .commit-verdict in
+    let judged = judges t edit forecast (ask-delete-edge .ensures) (commit-verdict .ensures) in
     was-done t edit forecast refl (sym judged ∙ c .before .before .before .before .before .enum-told .given .1) (c .told .ensures) (c .before .before .before .delete .ensures)
 
 pub commit-delete-edge-spec : {M : Type 1} → statement M

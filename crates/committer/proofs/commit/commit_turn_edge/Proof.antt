@@ -38,7 +38,9 @@ slice-read-turned-word c =
     let a = start .args .amount in
     let edit = TurnEdge (start .args .e) a in
     let forecast = start .args .forecast in
-    let judged = judges t edit forecast (asked-turn t _ a (start .fits .amount) (c .before .before .before .before .ask-turn-edge .ensures)) (c .before .before .before .commit-verdict .ensures) in
+    let ask-turn-edge = c .before .before .before .before .ask-turn-edge in
+    let commit-verdict = c .before .before .before .commit-verdict in
+    let judged = judges t edit forecast (asked-turn t _ a (start .fits .amount) (ask-turn-edge .ensures)) (commit-verdict .ensures) in
     let m = may-turn t _ a (may-edit t edit forecast (sym judged ∙ c .before .enum-told .given .1)) in
     let size = m .good .size in
     let low = m .low in
@@ -60,7 +62,9 @@ slice-write-t c =
     let a = start .args .amount in
     let edit = TurnEdge (start .args .e) a in
     let forecast = start .args .forecast in
-    let judged = judges t edit forecast (asked-turn t _ a (start .fits .amount) (c .before .before .before .before .before .ask-turn-edge .ensures)) (c .before .before .before .before .commit-verdict .ensures) in
+    let ask-turn-edge = c .before .before .before .before .before .ask-turn-edge in
+    let commit-verdict = c .before .before .before .before .commit-verdict in
+    let judged = judges t edit forecast (asked-turn t _ a (start .fits .amount) (ask-turn-edge .ensures)) (commit-verdict .ensures) in
     let m = may-turn t _ a (may-edit t edit forecast (sym judged ∙ c .before .before .enum-told .given .1)) in
     let size = m .good .size in
     let low = m .low in
@@ -79,7 +83,9 @@ returns c =
     let a = start .args .amount in
     let edit = TurnEdge (start .args .e) a in
     let forecast = start .args .forecast in
-    let judged = judges t edit forecast (asked-turn t _ a (start .fits .amount) (c .before .before .before .before .ask-turn-edge .ensures)) (c .before .before .before .commit-verdict .ensures) in
+    let ask-turn-edge = c .before .before .before .before .ask-turn-edge in
+    let commit-verdict = c .before .before .before .commit-verdict in
+    let judged = judges t edit forecast (asked-turn t _ a (start .fits .amount) (ask-turn-edge .ensures)) (commit-verdict .ensures) in
     was-refused t edit forecast _ (sym judged ∙ c .before .r .given .1)
 
 same-length-2 : tie.Need-same-length-2
@@ -92,7 +98,9 @@ returns-2 c =
     let a = start .args .amount in
     let edit = TurnEdge (start .args .e) a in
     let forecast = start .args .forecast in
-    let judged = judges t edit forecast (asked-turn t _ a (start .fits .amount) (c .before .before .before .before .before .before .ask-turn-edge .ensures)) (c .before .before .before .before .before .commit-verdict .ensures) in
+    let ask-turn-edge = c .before .before .before .before .before .before .ask-turn-edge in
+    let commit-verdict = c .before .before .before .before .before .commit-verdict in
+    let judged = judges t edit forecast (asked-turn t _ a (start .fits .amount) (ask-turn-edge .ensures)) (commit-verdict .ensures) in
     let w = amount-on (edgeWord t (start .args .e)) a (start .fits .amount) (c .before .turned-word .ensures) in
     was-done t edit forecast refl (sym judged ∙ c .before .before .before .enum-told .given .1) (c .told .ensures) (ap (setEdge t (start .args .e)) w)
 

@@ -22,9 +22,10 @@
 
 enum { WORDS = PLANNER_TABLE_WORDS, OUT = 4096, LETTERS = 2048 * 99, ROUNDS = 21 };
 
-/* A table under test and what calls are lent beside it. Edits leave it as it was, two by two. One more to be filled. */
+/* A table under test and what calls are lent beside it. Edits leave it as it was, two by two. One more to be filled, and one whose live names lie apart. */
 static uint16_t table[WORDS];
 static uint16_t scratch[WORDS];
+static uint16_t spread_table[WORDS];
 static uint32_t lengths[PLANNER_EDGES];
 static int32_t points[3 * PLANNER_VERTICES];
 static int32_t lifts[3 * PLANNER_EDGES];
@@ -62,6 +63,11 @@ static uint32_t random_below(uint32_t n) {
 
 CALL(empty, (scratch, WORDS), (scratch, WORDS))
 CALL(check, (table, WORDS), (table, WORDS))
+
+/* The check of a table with a live edge in every block of 32 names, so that none is passed over. */
+static int64_t our_spread_check(void) { return planner_check(spread_table, WORDS); }
+static int64_t their_spread_check(void) { return plain_check(spread_table, WORDS); }
+
 CALL(listing, (table, WORDS, ours.words, OUT), (table, WORDS, theirs.words, OUT))
 CALL(counts, (table, WORDS, ours.counts, OUT), (table, WORDS, theirs.counts, OUT))
 CALL(parts, (table, WORDS, ours.counts, OUT), (table, WORDS, theirs.counts, OUT))
@@ -157,6 +163,7 @@ static const struct {
 } rows[] = {
     {"planner_empty", our_empty, their_empty, 1},
     {"planner_check", our_check, their_check, 1},
+    {"planner_check, 32 edges, each in another block", our_spread_check, their_spread_check, 1},
     {"planner_listing", our_listing, their_listing, 1},
     {"planner_counts", our_counts, their_counts, 1},
     {"planner_parts", our_parts, their_parts, 1},
@@ -243,6 +250,17 @@ static void add_loops(int edges) {
     for (; free_edge < edges; free_edge++) {
         uint16_t corner = (uint16_t)random_below(2u * free_edge);
         planner_insert_edge(table, WORDS, free_edge, corner, corner, 0);
+    }
+}
+
+/* A vertex with a loop at every 32nd name. */
+static void build_spread(void) {
+    uint16_t e;
+    planner_empty(spread_table, WORDS);
+    planner_add_vertex(spread_table, WORDS, 0);
+    for (e = 0; e < PLANNER_EDGES; e += 32) {
+        uint16_t corner = e == 0 ? PLANNER_LONE_CORNER : 0;
+        planner_insert_edge(spread_table, WORDS, e, corner, corner, 1);
     }
 }
 
@@ -378,6 +396,7 @@ static void print_growth(void) {
 
 int main(void) {
     size_t row, size;
+    build_spread();
     for (size = 0; size < SIZES; size++) {
         build_grid(sizes[size].columns, sizes[size].lines);
         add_loops(sizes[size].edges);

@@ -1,4 +1,7 @@
 // The rules that a dart's own words keep.
+use crate::block::is_idle;
+use table::block::BLOCK;
+use table::block::EDGE_BLOCKS;
 use table::counted::Counted;
 use table::layout::DARTS;
 use table::layout::EDGE;
@@ -8,12 +11,13 @@ use table::layout::NOTHING;
 use table::layout::PREV;
 use table::layout::VERTICES;
 ghost use mathlib.Core.Path.{_≡_};
-ghost use Prim.Native.Nat.{_<_};
+ghost use Prim.Native.Nat.{_+_, _*_, _<_};
 ghost use lib.ListN.{length};
 ghost use Rattle.table.specs.Layout.{words, darts, edgeWord, edgeOf};
 ghost use Rattle.table.specs.Good.{Bare};
 ghost use Rattle.table.specs.laws.Rotation.{Case};
-ghost use Rattle.table.specs.laws.Darts.{Linked, DartRule, DartsSay};
+ghost use Rattle.table.specs.laws.Darts.{Linked, DartRule, RuledBelow, DartsTo, DartsSay};
+ghost use Rattle.table.specs.laws.Blocks.{edgeBlocks};
 
 // Are the three words of a dart that is not live 65,535.
 fn is_bare(t: &[u16], d: usize) -> bool
@@ -32,7 +36,7 @@ fn is_bare(t: &[u16], d: usize) -> bool
     true
 }
 
-// Does a live dart leave a vertex, and do "next" and "previous" undo each other at it, at one vertex.
+// Does a live dart leave a vertex, and does "previous" undo "next" at it, at one vertex. If so for all darts, "next" undoes "previous" as well.
 fn is_linked(t: &[u16], d: usize) -> bool
     requires { ⌜ (length (now t) ≡ words) × (d < darts) ⌝ }
     ensures { λ r. ⌜ Case r (Linked (now (t .entry)) d) ⌝ }
@@ -49,13 +53,6 @@ fn is_linked(t: &[u16], d: usize) -> bool
         return false;
     }
     if t[LEAVES + n] as usize != v {
-        return false;
-    }
-    let p = t[PREV + d] as usize;
-    if DARTS <= p {
-        return false;
-    }
-    if t[p] as usize != d {
         return false;
     }
     true
@@ -75,22 +72,49 @@ fn keeps_rule(t: &[u16], d: usize, w: u16) -> bool
     is_linked(t, d)
 }
 
+// The number of live darts up to the end of block b, of which n are below it, if each dart of the block keeps its rules.
+fn live_in(t: &[u16], b: usize, n: usize) -> Counted
+    requires { ⌜ (length (now t) ≡ words) × (b < edgeBlocks) × RuledBelow (now t) n (64 * b) ⌝ }
+    ensures { λ r. ⌜ DartsTo (now (t .entry)) (64 * b + 64) r ⌝ }
+{
+    let end = BLOCK * b + BLOCK;
+    let mut live = n;
+    let mut e = BLOCK * b;
+    while e < end {
+        let w = t[EDGE + e];
+        if !keeps_rule(t, 2 * e, w) {
+            return Counted::Broken;
+        }
+        if !keeps_rule(t, 2 * e + 1, w) {
+            return Counted::Broken;
+        }
+        if w != 0 {
+            live += 2;
+        }
+        e += 1;
+    }
+    Counted::Of(live)
+}
+
 // The number of live darts, if each dart keeps its rules.
 pub fn live_darts(t: &[u16]) -> Counted
     requires { ⌜ length (now t) ≡ words ⌝ }
     ensures { λ r. ⌜ DartsSay (now (t .entry)) r ⌝ }
 {
     let mut n: usize = 0;
-    let mut d: usize = 0;
-    while d < DARTS {
-        let w = t[EDGE + d / 2];
-        if !keeps_rule(t, d, w) {
-            return Counted::Broken;
+    let mut b: usize = 0;
+    while b < EDGE_BLOCKS {
+        if !is_idle(t, b) {
+            match live_in(t, b, n) {
+                Counted::Broken => {
+                    return Counted::Broken;
+                }
+                Counted::Of(k) => {
+                    n = k;
+                }
+            }
         }
-        if w != 0 {
-            n += 1;
-        }
-        d += 1;
+        b += 1;
     }
     Counted::Of(n)
 }

@@ -1,4 +1,5 @@
 pub mod Rotation
+pub mod Blocks
 pub mod Counting
 pub mod Darts
 pub mod Cycle

@@ -1,19 +1,24 @@
 // The listed walks counted: how many they are, and how many words their listing has.
 use crate::step::corner;
 use crate::step::step;
+use table::block::DART_BLOCK;
+use table::block::EDGE_BLOCKS;
+use table::block::is_dead;
 use table::layout::DARTS;
 use table::layout::EDGE;
 use table::layout::ISOLATED;
 use table::layout::VERTEX;
 use table::layout::VERTICES;
 ghost use mathlib.Core.Path.{_≡_};
+ghost use Prim.Native.Nat.{_+_, _*_, _<_};
 ghost use lib.ListN.{length};
 ghost use Rattle.table.specs.Layout.{darts, vertices};
 ghost use Rattle.table.specs.Good.{Good};
 ghost use Rattle.table.specs.Rotation.{rotation};
+ghost use Rattle.table.specs.laws.Blocks.{edgeBlocks};
 ghost use Rattle.tracing.specs.Listing.{faceCount};
 ghost use Rattle.walks.specs.laws.Stands.{Stands};
-ghost use Rattle.walks.specs.laws.Size.{Marked, Looked, LookReady, Lone, Measured};
+ghost use Rattle.walks.specs.laws.Size.{Marked, Looked, LookReady, Lone, WalkCounting, Measured};
 
 // So many walks, and so many words of their listing.
 pub struct Size {
@@ -73,25 +78,45 @@ pub fn isolated(t: &[u16]) -> u32
     n
 }
 
-// How many walks are listed, and how many words their listing has.
+// The walks that start at a dart of block b, counted on.
+fn measure_in(t: &[u16], met: &mut [u8; DARTS], b: usize, before: Size) -> Size
+    requires { ⌜ (b < edgeBlocks) × WalkCounting (now t) (64 * b) (before .walks) (before .words) (now met) ⌝ }
+    ensures { λ r. ⌜ WalkCounting (now (t .entry)) (64 * b + 64) (r .walks) (r .words) (now (met .exit)) ⌝ }
+{
+    let end = DART_BLOCK * b + DART_BLOCK;
+    let mut walks = before.walks;
+    let mut words = before.words;
+    let mut d = DART_BLOCK * b;
+    while d < end {
+        let found = look(t, met, d);
+        walks += found.walks;
+        words += found.words;
+        d += 1;
+    }
+    Size {
+        walks: walks,
+        words: words,
+    }
+}
+
+// How many walks are listed, and how many words their listing has. No walk starts in a block without a live edge.
 pub fn measure(t: &[u16]) -> Size
     requires { ⌜ Good (now t) ⌝ }
     ensures { λ r. ⌜ Measured (now (t .entry)) r ⌝ }
 {
     let mut met = [0u8; DARTS];
-    let mut walks: u32 = 0;
-    let mut words: usize = 0;
-    let mut d: usize = 0;
-    while d < DARTS {
-        let found = look(t, &mut met, d);
-        walks += found.walks;
-        words += found.words;
-        d += 1;
+    let mut size = Size { walks: 0, words: 0 };
+    let mut b: usize = 0;
+    while b < EDGE_BLOCKS {
+        if !is_dead(t, b) {
+            size = measure_in(t, &mut met, b, size);
+        }
+        b += 1;
     }
     let alone = isolated(t);
     Size {
-        walks: walks + alone,
-        words: words + 2 * (alone as usize),
+        walks: size.walks + alone,
+        words: size.words + 2 * (alone as usize),
     }
 }
 

@@ -1,8 +1,9 @@
 //! The static library as a host sees it: `planner` has a safe function for each call of include/planner.h, `guarded`
 //! lends slices that notice a write outside them, `compare` runs an edit here and in the reference, `tables` draws tables
-//! and steps to try, `forecasts` what a commit is offered, `program` runs the job program. Each call's tests are one file in
-//! tests/.
+//! and steps to try, `blocks` tables with names at chosen places, `forecasts` what a commit is offered, `program` runs the job program.
+//! Each call's tests are one file in tests/.
 
+pub mod blocks;
 pub mod compare;
 pub mod forecasts;
 pub mod guarded;

@@ -1,6 +1,7 @@
 //! The calls of include/planner.h, each in a safe function. A slice is a pointer and its length in elements; the
 //! answer is 0 or more, or minus the number of the refusal.
 
+use reference::counts::{Counts, Part};
 use reference::edit::{Answer, Edit};
 use reference::forecast::Forecast;
 use reference::refusal::Refusal;
@@ -130,6 +131,20 @@ pub fn as_edit_number(answer: Result<Answer, Refusal>) -> i64 {
 pub fn as_forecast_number(answer: Result<Forecast, Refusal>) -> i64 {
     let above = answer.map_or(0, |forecast| added(forecast.rule) + forecast.before as i64 * BEFORE);
     as_number(answer.map(|forecast| forecast.after)) + above
+}
+
+/// What the counts of the reference are, as `planner_counts` writes them.
+pub fn as_counts(c: &Counts) -> Vec<i32> {
+    [c.vertices as i64, c.edges as i64, c.faces as i64, c.parts.len() as i64, c.euler()].map(|n| n as i32).to_vec()
+}
+
+/// What the parts of the reference are, as `planner_parts` writes them.
+pub fn as_parts(c: &Counts) -> Vec<i32> {
+    let row = |p: &Part| {
+        [p.smallest as i64, p.vertices as i64, p.edges as i64, p.faces as i64, p.euler(), i64::from(p.orientable)]
+            .map(|n| n as i32)
+    };
+    c.parts.iter().flat_map(row).collect()
 }
 
 /// The three answers in a number that a host offers; none if it is a number that says no three.

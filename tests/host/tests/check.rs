@@ -1,11 +1,12 @@
 //! planner_check: its verdict is the reference's on good tables, damaged ones, other sizes and random words, and it
 //! writes nothing.
 
+use host::blocks::{blocks, ends, one_in_each, table_on, Lie, BLOCK};
 use host::guarded::Guarded;
 use host::planner;
 use reference::check::{check, is_good};
 use reference::edit::edit;
-use reference::table::{empty_mesh, EDGES, LEAVES, NEXT, PREVIOUS, TURNS, VERTEX, VERTICES, WORDS};
+use reference::table::*;
 use reference::trial::damage::damage;
 use reference::trial::edits::{random_edit, WINDOWS};
 use reference::trial::random::Random;
@@ -31,6 +32,15 @@ impl Seen {
         }
     }
 
+    /// Compare on a copy with these words written over.
+    fn compare_changed(&mut self, table: &[u16], words: &[(usize, u16)]) {
+        let mut changed = table.to_vec();
+        for &(place, word) in words {
+            changed[place] = word;
+        }
+        self.compare(&changed);
+    }
+
     /// Compare on each of many damaged copies.
     fn compare_damaged(&mut self, random: &mut Random, table: &[u16], copies: usize) {
         let mut damaged = table.to_vec();
@@ -53,6 +63,18 @@ fn edited(random: &mut Random, edits: usize) -> Vec<u16> {
         let _ = edit(&mut table, change);
     }
     table
+}
+
+/// The empty mesh, one live edge in a middle block, an edge and a vertex in every block, and a full table.
+fn tables_by_blocks(random: &mut Random) -> [Vec<u16>; 4] {
+    let (some_edges, some_vertices) = (one_in_each(random, EDGES), one_in_each(random, VERTICES));
+    let (all_edges, all_vertices): (Vec<u16>, Vec<u16>) = (edges().collect(), vertices().collect());
+    [
+        empty_mesh(),
+        table_on(random, Lie::Anywhere, &[527], &[63, 256], &[255, 320]),
+        table_on(random, Lie::Anywhere, &some_edges, &some_vertices[4..], &some_vertices[..4]),
+        table_on(random, Lie::Anywhere, &all_edges, &all_vertices, &[]),
+    ]
 }
 
 #[test]
@@ -155,6 +177,23 @@ fn other_sizes_are_torn() {
     assert_eq!(planner::check_null(), -1);
 }
 
+/// A good table without its last words, and one with more after it.
+#[test]
+fn good_tables_cut_and_extended_are_torn() {
+    let mut random = Random::new(0xcb);
+    for table in tables_by_blocks(&mut random) {
+        for more in [table.clone(), empty_mesh(), vec![0; WORDS], vec![NOT_LIVE; WORDS]] {
+            let long = [table.clone(), more].concat();
+            for size in [0, 1, 7_679, 7_681, 8_704] {
+                let lent = Guarded::new(&long[..size], GUARD);
+                assert_eq!(planner::check(lent.slice()), -1, "{size} words");
+                assert_eq!(lent.slice(), &long[..size]);
+                lent.assert_guards();
+            }
+        }
+    }
+}
+
 #[test]
 fn random_words_are_torn() {
     let mut random = Random::new(0xc7);
@@ -227,4 +266,137 @@ fn nothing_is_written() {
         assert_eq!(lent.slice(), content);
         lent.assert_guards();
     }
+}
+
+/// Each of the 7,680 words at the limits, beside its own value, at a dart, and at a drawn one.
+#[test]
+fn every_word_of_every_block() {
+    let mut random = Random::new(0xcc);
+    for table in tables_by_blocks(&mut random) {
+        let mut seen = Seen::default();
+        let mut lent = Guarded::new(&table, GUARD);
+        for place in 0..WORDS {
+            let (own, dart) = (table[place], random.below(DARTS) as u16);
+            let beside = [own.wrapping_sub(1), own.wrapping_add(1)];
+            for value in [0, 1, 65_533, 65_534, 65_535, beside[0], beside[1], dart, random.word()] {
+                lent.slice_mut()[place] = value;
+                seen.compare(lent.slice());
+                assert_eq!(lent.slice()[place], value, "word {place} is only read");
+            }
+            lent.slice_mut()[place] = own;
+            assert_eq!(lent.slice(), table, "the table is only read");
+        }
+        lent.assert_guards();
+        assert!(seen.good > 2_000 && seen.torn > 50_000, "{} good, {} torn", seen.good, seen.torn);
+    }
+}
+
+/// Where the words of each block begin, and how many there are of a kind: next, previous and leaves of its darts, its edges, vertices.
+fn runs_of_words() -> Vec<(usize, usize)> {
+    let darts = [NEXT, PREVIOUS, LEAVES].into_iter().flat_map(|kind| runs_from(kind, EDGES, 2));
+    darts.chain(runs_from(TURNS, EDGES, 1)).chain(runs_from(VERTEX, VERTICES, 1)).collect()
+}
+
+fn runs_from(kind: usize, names: usize, words_each: usize) -> impl Iterator<Item = (usize, usize)> {
+    blocks(names).map(move |block| (kind + words_each * block.start as usize, words_each * BLOCK))
+}
+
+/// All words of one kind in a block at one value, and two of them at values that a sum, a difference or a parity would not show.
+#[test]
+fn many_words_of_a_block() {
+    const VALUES: [u16; 12] = [0, 1, 2, 100, 255, 256, 32_767, 32_768, 65_280, 65_533, 65_534, 65_535];
+    let mut random = Random::new(0xcd);
+    let mut seen = Seen::default();
+    for table in tables_by_blocks(&mut random) {
+        for (from, count) in runs_of_words() {
+            for value in VALUES {
+                let all: Vec<(usize, u16)> = (from..from + count).map(|place| (place, value)).collect();
+                seen.compare_changed(&table, &all);
+                for other in [value, value.wrapping_neg(), !value, random.word()] {
+                    let two: Vec<usize> = random.names(2, count).into_iter().map(|at| from + at as usize).collect();
+                    seen.compare_changed(&table, &[(two[0], value), (two[1], other)]);
+                }
+            }
+        }
+    }
+    assert!(seen.good > 1_000 && seen.torn > 20_000, "{} good, {} torn", seen.good, seen.torn);
+}
+
+/// One vertex with the edges on both sides of a border between blocks, and every way to write the "next" and the "previous" words of its four
+/// darts with these darts. Each of the 3 * 2 * 1 cycles of "next" is good with the one "previous" that undoes it.
+#[test]
+fn every_next_and_previous_of_four_darts() {
+    let mut random = Random::new(0xce);
+    let mut seen = Seen::default();
+    let mut table = table_on(&mut random, Lie::Anywhere, &[511, 512], &[255], &[]);
+    let darts: Vec<u16> = live_darts(&table).collect();
+    let places: Vec<usize> =
+        [NEXT, PREVIOUS].iter().flat_map(|kind| darts.iter().map(move |&d| kind + d as usize)).collect();
+    for way in 0..1usize << (2 * places.len()) {
+        for (i, &place) in places.iter().enumerate() {
+            table[place] = darts[way >> (2 * i) & 3];
+        }
+        seen.compare(&table);
+    }
+    assert_eq!((seen.good, seen.torn), (6, 65_530));
+}
+
+/// "Previous" words, or "next" words, that no longer fit the other kind: one at another dart, two at one dart, two exchanged, three in
+/// turn, any two; or one that does fit, but not what stood there before.
+#[test]
+fn next_and_previous_that_undo_each_other_at_most_darts() {
+    let mut random = Random::new(0xcf);
+    let mut seen = Seen::default();
+    for round in 0..30 {
+        let edges = random.names(6, if round % 2 == 0 { BLOCK } else { EDGES });
+        let vertices = random.names(1 + round % 3, VERTICES);
+        let table = table_on(&mut random, Lie::Anywhere, &edges, &vertices, &[]);
+        let live: Vec<u16> = live_darts(&table).collect();
+        for (kind, other_kind) in [(NEXT, PREVIOUS), (PREVIOUS, NEXT)] {
+            for (&a, &b) in live.iter().flat_map(|a| live.iter().map(move |b| (a, b))) {
+                let [x, y, z] = [a, b, random.pick(&live)].map(|d| kind + d as usize);
+                seen.compare_changed(&table, &[(x, b)]);
+                seen.compare_changed(&table, &[(x, table[y])]);
+                seen.compare_changed(&table, &[(x, table[y]), (y, table[x])]);
+                seen.compare_changed(&table, &[(x, table[y]), (y, table[z]), (z, table[x])]);
+                seen.compare_changed(&table, &[(x, random.pick(&live)), (y, random.pick(&live))]);
+                seen.compare_changed(&table, &[(x, b), (other_kind + b as usize, a)]);
+            }
+        }
+    }
+    assert!(seen.good > 1_000 && seen.torn > 20_000, "{} good, {} torn", seen.good, seen.torn);
+}
+
+/// An edge's darts stand in their cycles, and the edge's word says that it is not live; or one of the darts alone stands there. With both
+/// darts and a word of turns the table is good.
+#[test]
+fn darts_of_an_edge_that_is_not_live() {
+    let mut random = Random::new(0xd0);
+    let mut seen = Seen::default();
+    for block in blocks(EDGES) {
+        for e in ends(&block) {
+            // Another edge in its block, or in another one.
+            for other in [e ^ 1, (e + 512) % EDGES as u16] {
+                let whole = table_on(&mut random, Lie::Anywhere, &[e, other], &[31, 32], &[]);
+                let mut without = whole.clone();
+                clear_edge(&mut without, e);
+                seen.compare(&without);
+                for d in darts_of(e) {
+                    for table in [&whole, &without] {
+                        let mut changed = table.clone();
+                        clear_dart(&mut changed, d);
+                        seen.compare(&changed);
+                        // Its neighbours close up.
+                        let (before, after) = (previous(table, d), next(table, d));
+                        if after != d {
+                            set_neighbours(&mut changed, before, after);
+                            seen.compare(&changed);
+                        }
+                    }
+                }
+                seen.compare(&whole);
+            }
+        }
+    }
+    assert!(seen.good == 32 * 2 * 2 && seen.torn > 600, "{} good, {} torn", seen.good, seen.torn);
 }

@@ -2,9 +2,9 @@
 //! size, longer and shorter, and nothing written but the counts.
 
 use host::guarded::Guarded;
-use host::planner;
+use host::planner::{self, as_counts, as_parts};
 use host::tables::whole_or_damaged;
-use reference::counts::{counts, Counts};
+use reference::counts::counts;
 use reference::table::empty_mesh;
 use reference::trial::k4::{k4, SPHERE, TORUS};
 use reference::trial::random::Random;
@@ -24,18 +24,6 @@ fn written(call: Call, table: &[u16], words: usize) -> (i64, Vec<i32>) {
     lent.assert_guards();
     out.assert_guards();
     (answer, out.slice().to_vec())
-}
-
-fn five(c: &Counts) -> Vec<i32> {
-    [c.vertices as i64, c.edges as i64, c.faces as i64, c.parts.len() as i64, c.euler()].map(|n| n as i32).to_vec()
-}
-
-fn six_each(c: &Counts) -> Vec<i32> {
-    let row = |p: &reference::counts::Part| {
-        [p.smallest as i64, p.vertices as i64, p.edges as i64, p.faces as i64, p.euler(), i64::from(p.orientable)]
-            .map(|n| n as i32)
-    };
-    c.parts.iter().flat_map(row).collect()
 }
 
 /// One call, into the exact size, more and less.
@@ -86,8 +74,8 @@ fn random_tables_whole_and_damaged() {
                 torn += 1;
             }
             Ok(expected) => {
-                compare(&mut random, planner::counts, &table, &five(&expected));
-                compare(&mut random, planner::parts, &table, &six_each(&expected));
+                compare(&mut random, planner::counts, &table, &as_counts(&expected));
+                compare(&mut random, planner::parts, &table, &as_parts(&expected));
                 many_parts += usize::from(expected.parts.len() > 1);
                 orientable += expected.parts.iter().filter(|part| part.orientable && part.edges > 0).count();
                 not += expected.parts.iter().filter(|part| !part.orientable).count();

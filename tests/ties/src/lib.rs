@@ -1,12 +1,14 @@
 //! What ties the documents and the C header to the code. `claims` checks the citations of docs/CLAIMS.md and of the README;
-//! `rooms` that what is believed names no law; `tried` that a wrong program of every public function is a must-fail edit; `matching`
-//! compares include/planner.h with the exported signatures. The others read the files: `antt` the specs, `rattle` the sources, `header`
-//! the C header, `markdown` the documents, `citations` what a document cites; `tree` finds the files.
+//! `rooms` that what is believed names no law; `tried` that a wrong program of every public function is a must-fail edit; `copied` that
+//! the copy of the check that counts its reads has the check's shape; `matching` compares include/planner.h with the exported signatures.
+//! The others read the files: `antt` the specs, `rattle` the sources, `header` the C header, `markdown` the documents, `citations` what a
+//! document cites; `tree` finds the files.
 //! The tests in tests/ run these on small made-up trees (`small`) with one fault each.
 
 pub mod antt;
 pub mod citations;
 pub mod claims;
+pub mod copied;
 pub mod header;
 pub mod markdown;
 pub mod matching;

@@ -1,5 +1,5 @@
 -- "next" once every dart keeps its rules: a permutation whose orbits are the cycles, and how many darts a cycle has.
-use Prim.Native.Nat.{ℕ, zero, suc, _+_, _≤_, _<_}
+use Prim.Native.Nat.{ℕ, zero, suc, _+_, _-_, _≤_, _<_}
 use native.Mathlib.Omega.{arith}
 use native.Mathlib.Nat.{lt-of-lt-of-le}
 use mathlib.Core.Path.{_≡_, refl, sym, _∙_, ap}
@@ -15,7 +15,7 @@ use Rattle.orbits.specs.laws.Iterate.{iter-suc, iter-low, Period, period, perio
 use Rattle.orbits.specs.Reach.{reaches}
 use Rattle.orbits.specs.laws.Reach.{says-reach, reach-says, reach-within}
 use Rattle.table.specs.Layout.{darts, nextWord, prevWord, leaves, Live}
-use Rattle.table.specs.laws.Rotation.{Case, holds, fails, live-case, yes-live, nextDart-live, prevDart-live, nextDart-dead, prevDart-dead}
+use Rattle.table.specs.laws.Rotation.{Case, holds, fails, live-case, live-yes, yes-live, nextDart-live, prevDart-live, nextDart-dead, prevDart-dead}
 use Rattle.table.specs.Rotation.{live?, nextDart, prevDart}
 use Rattle.table.specs.laws.Darts.{Ruled}
 
@@ -26,11 +26,6 @@ module _ (t : List ℕ) (r : Ruled t darts) where
       let k = r d (l .low) .linked (l .on) in
       record { low = k .next-low; on = λ off. let b = r (nextWord t d) (k .next-low) .bare off .prev-none in omega (arith, k .prev-next, b, l .low) }
 
-  pub prev-live : (d : ℕ) → Live t d → Live t (prevWord t d)
-  prev-live d l =
-      let k = r d (l .low) .linked (l .on) in
-      record { low = k .prev-low; on = λ off. let b = r (prevWord t d) (k .prev-low) .bare off .next-none in omega (arith, k .next-prev, b, l .low) }
-
   prev-next-case : (d : ℕ) → Case (live? t d) (Live t d) → prevDart t (nextDart t d) ≡ d
   prev-next-case d (holds e l) =
       rw (nextDart-live t d e) (prevDart-live t (nextWord t d) (yes-live t _ (next-live d l)) ∙ r d (l .low) .linked (l .on) .prev-next)
@@ -38,14 +33,6 @@ module _ (t : List ℕ) (r : Ruled t darts) where
 
   pub prev-next : (d : ℕ) → prevDart t (nextDart t d) ≡ d
   prev-next d = prev-next-case d (live-case t d)
-
-  next-prev-case : (d : ℕ) → Case (live? t d) (Live t d) → nextDart t (prevDart t d) ≡ d
-  next-prev-case d (holds e l) =
-      rw (prevDart-live t d e) (nextDart-live t (prevWord t d) (yes-live t _ (prev-live d l)) ∙ r d (l .low) .linked (l .on) .next-prev)
-  next-prev-case d (fails e n) = rw (prevDart-dead t d e) (nextDart-dead t d e)
-
-  pub next-prev : (d : ℕ) → nextDart t (prevDart t d) ≡ d
-  next-prev d = next-prev-case d (live-case t d)
 
   live-next-case : (d : ℕ) → Case (live? t d) (Live t d) → live? t (nextDart t d) ≡ live? t d
   live-next-case d (holds e l) = rw (nextDart-live t d e) (yes-live t _ (next-live d l) ∙ sym e)
@@ -76,6 +63,41 @@ module _ (t : List ℕ) (r : Ruled t darts) where
   unfolding iter
   iter-live zero d = refl
   iter-live (suc k) d = live-next (iter (nextDart t) k d) ∙ iter-live k d
+
+  -- the dart that leads to d: some dart of its cycle does
+  abbrev before : (d : ℕ) → Live t d → ℕ
+  before d l = iter (nextDart t) (period next-inj d (l .low) .steps - 1) d
+
+  before-live : (d : ℕ) (l : Live t d) → live? t (before d l) ≡ true
+  before-live d l = iter-live (period next-inj d (l .low) .steps - 1) d ∙ yes-live t d l
+
+  before-leads : (d : ℕ) (l : Live t d) → nextWord t (before d l) ≡ d
+  unfolding iter
+  before-leads d l =
+      let p = period next-inj d (l .low) in
+      let some = p .some in
+      let e : suc (p .steps - 1) ≡ p .steps = omega arith in
+      sym (nextDart-live t (before d l) (before-live d l)) ∙ ap (λ k. iter (nextDart t) k d) e ∙ p .back
+
+  -- and "previous" tells it, so "next" undoes "previous" too
+  before-word : (d : ℕ) (l : Live t d) → prevWord t d ≡ before d l
+  before-word d l =
+      let k = live-yes t (before d l) (before-live d l) in
+      ap (prevWord t) (sym (before-leads d l)) ∙ r (before d l) (k .low) .linked (k .on) .prev-next
+
+  pub prev-live : (d : ℕ) → Live t d → Live t (prevWord t d)
+  prev-live d l = rw (before-word d l) (live-yes t (before d l) (before-live d l))
+
+  pub prev-undone : (d : ℕ) → Live t d → nextWord t (prevWord t d) ≡ d
+  prev-undone d l = ap (nextWord t) (before-word d l) ∙ before-leads d l
+
+  next-prev-case : (d : ℕ) → Case (live? t d) (Live t d) → nextDart t (prevDart t d) ≡ d
+  next-prev-case d (holds e l) =
+      rw (prevDart-live t d e) (nextDart-live t (prevWord t d) (yes-live t _ (prev-live d l)) ∙ prev-undone d l)
+  next-prev-case d (fails e n) = rw (prevDart-dead t d e) (nextDart-dead t d e)
+
+  pub next-prev : (d : ℕ) → nextDart t (prevDart t d) ≡ d
+  next-prev d = next-prev-case d (live-case t d)
 
   pub iter-leaves : (k d : ℕ) → leaves t (iter (nextDart t) k d) ≡ leaves t d
   unfolding iter

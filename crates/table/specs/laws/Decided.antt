@@ -37,14 +37,12 @@ module _ (t : List ℕ) where
 
   linked-dec : (d : ℕ) → Dec (Linked t d)
   linked-dec d = map-dec
-      (λ p. record { at = p .0; next-low = p .1 .0; prev-next = p .1 .1 .0; next-leaves = p .1 .1 .1 .0; prev-low = p .1 .1 .1 .1 .0; next-prev = p .1 .1 .1 .1 .1 })
-      (λ k. (k .at, (k .next-low, (k .prev-next, (k .next-leaves, (k .prev-low, k .next-prev))))))
+      (λ p. record { at = p .0; next-low = p .1 .0; prev-next = p .1 .1 .0; next-leaves = p .1 .1 .1 })
+      (λ k. (k .at, (k .next-low, (k .prev-next, k .next-leaves))))
       (Dec·and (decLt (leaves t d) vertices)
       (Dec·and (decLt (nextWord t d) darts)
       (Dec·and (ℕ-discrete (prevWord t (nextWord t d)) d)
-      (Dec·and (ℕ-discrete (leaves t (nextWord t d)) (leaves t d))
-      (Dec·and (decLt (prevWord t d) darts)
-      (ℕ-discrete (nextWord t (prevWord t d)) d))))))
+      (ℕ-discrete (leaves t (nextWord t d)) (leaves t d)))))
 
   rule-dec : (d : ℕ) → Dec (DartRule t d)
   rule-dec d = elim (ℕ-discrete (edgeWord t (edgeOf d)) 0) [
@@ -54,7 +52,7 @@ module _ (t : List ℕ) where
 
   module _ (r : Ruled t darts) where
     -- no dart of the cycle is smaller, if none of the first ones is
-    least-all : (w : ℕ) → w < darts → ((k : ℕ) → k < darts → w ≤ iter (nextDart t) k w) → (k : ℕ) → w ≤ iter (nextDart t) k w
+    pub least-all : (w : ℕ) → w < darts → ((k : ℕ) → k < darts → w ≤ iter (nextDart t) k w) → (k : ℕ) → w ≤ iter (nextDart t) k w
     least-all w h a k =
         let p = period (next-inj t r) w h in
         let i = reach-within p (record { steps = k; lands = refl }) in

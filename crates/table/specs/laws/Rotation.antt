@@ -1,12 +1,12 @@
 -- A rotation system, with no words in it: tracing, surgery and surfaces are stated over it. `rotation t` reads one off a table, and a good table's is lawful.
 -- A dart that is not live is its own next and its own previous, so that the laws hold for every number.
-use Prim.Native.Nat.{ℕ, _<_}
+use Prim.Native.Nat.{ℕ, _≤_, _<_}
 use mathlib.Core.Path.{_≡_, refl, sym, _∙_}
 use mathlib.Core.Bool.{Bool, true, false, not}
 use mathlib.Core.List.{List}
 use mathlib.Core.Logic.{_≢_}
-use lib.Dec.{ltb}
-use borrow.Author.Tests.{ltb-true, eqb-true, eqb-false, lt-ltb, eq-eqb, ne-eqb, not-true}
+use lib.Dec.{eqb, leb, ltb}
+use borrow.Author.Tests.{leb-true, ltb-true, eqb-true, eqb-false, le-leb, lt-ltb, eq-eqb, ne-eqb, not-true}
 use Rattle.orbits.specs.laws.Truth.{clash, both, both-left, both-right}
 use Rattle.table.specs.Layout.{vertices, darts, nothing, isolated, nextWord, prevWord, edgeWord, vertexWord, edgeOf, Live}
 use Rattle.table.specs.Rotation.{live?, nextDart, prevDart, there?, alone?}
@@ -22,6 +22,15 @@ pub data Case (b : Bool) (P : Type 0) : Type 0 where
 case-of : {b : Bool} {P : Type 0} → (b ≡ true → P) → (P → b ≡ true) → (c : Bool) → b ≡ c → Case b P
 case-of f g true e = holds e (f e)
 case-of f g false e = fails e (λ p. clash (g p) e)
+
+pub eq-case : (a b : ℕ) → Case (eqb a b) (a ≡ b)
+eq-case a b = case-of (eqb-true a b) (eq-eqb a b) (eqb a b) refl
+
+pub le-case : (a b : ℕ) → Case (leb a b) (a ≤ b)
+le-case a b = case-of (leb-true a b) (le-leb a b) (leb a b) refl
+
+pub lt-case : (a b : ℕ) → Case (ltb a b) (a < b)
+lt-case a b = case-of (ltb-true a b) (lt-ltb a b) (ltb a b) refl
 
 -- two Booleans that say the same are the same
 pub same-case : {a b : Bool} {P Q : Type 0} → (P → Q) → (Q → P) → Case a P → Case b Q → a ≡ b
@@ -95,6 +104,14 @@ case-yes (fails e n) t = absurd (clash t e)
 pub case-no : {b : Bool} {P : Type 0} → Case b P → b ≡ false → P → ⊥
 case-no (holds e p) f x = clash e f
 case-no (fails e n) f x = n x
+
+pub case-says : {b : Bool} {P : Type 0} → Case b P → P → b ≡ true
+case-says (holds e p) x = e
+case-says (fails e n) x = absurd (n x)
+
+pub case-denies : {b : Bool} {P : Type 0} → Case b P → (P → ⊥) → b ≡ false
+case-denies (holds e p) n = absurd (n p)
+case-denies (fails e m) n = e
 
 pub case-map : {b : Bool} {P Q : Type 0} → (P → Q) → (Q → P) → Case b P → Case b Q
 case-map f g (holds e p) = holds e (f p)

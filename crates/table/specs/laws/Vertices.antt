@@ -21,8 +21,9 @@ use Rattle.table.specs.Good.{Good}
 use Rattle.table.specs.Rotation.{live?, nextDart}
 use Rattle.table.specs.laws.Rotation.{yes-live, live-yes, not-live, nextDart-dead}
 use Rattle.table.specs.laws.Darts.{Ruled}
-use Rattle.table.specs.laws.Cycle.{CycleSays, leads, follows, next-live, prev-live, next-inj, iter-live, iter-leaves, iter-word, orbit-size}
-use Rattle.table.specs.laws.Counting.{Counts, counts, breaks}
+use Rattle.table.specs.laws.Cycle.{CycleSays, leads, follows, next-live, prev-live, prev-undone, next-inj, iter-live, iter-leaves, iter-word, orbit-size}
+use Rattle.table.specs.laws.Blocks.{vertexBlocks, LooseBlock, block-on}
+use Rattle.table.specs.laws.Counting.{Counts, counts, breaks, counts-of, counts-broken}
 use Rattle.table.specs.declared.counted.Counted.{Counted}
 use Rattle.table.specs.declared.counted.Counted.the-variants.{Broken, Of}
 
@@ -46,9 +47,12 @@ ledAt t v d = (live? t d && led? t d) && eqb (leaves t d) v
 unfoldable pub ledBelow : List ℕ → ℕ → ℕ → Bool
 ledBelow t v d = (live? t d && led? t d) && ltb (leaves t d) v
 
--- what the count of the darts led at one vertex answers, and at all
+-- what the count of the darts led at one vertex answers, at the vertices below n, and at all
 abbrev pub VertexSays : List ℕ → ℕ → Counted → Type 0
 VertexSays t v r = Counts (VertexRule t v) (count (ledAt t v) darts) r
+
+abbrev pub VerticesTo : List ℕ → ℕ → Counted → Type 0
+VerticesTo t n r = Counts ((v : ℕ) → v < n → VertexRule t v) (count (ledBelow t n) darts) r
 
 abbrev pub VerticesSay : List ℕ → Counted → Type 0
 VerticesSay t r = Counts ((v : ℕ) → v < vertices → VertexRule t v) (count (λ d. live? t d && led? t d) darts) r
@@ -88,6 +92,20 @@ module _ (t : List ℕ) (r : Ruled t darts) where
   led-cycle v a p =
       count-same (ledAt t v) (reaches (nextDart t) darts (vertexWord t v)) darts (led-same v a) ∙ orbit-size (next-inj t r) (vertexWord t v) (a .live .low) p
 
+-- the numbers below one more
+pub one-more : (u v : ℕ) → ltb u (v + 1) ≡ (ltb u v || eqb u v)
+one-more u v = elim (decLt u v) [
+  | yes h ↦ rw (lt-ltb u (v + 1) (omega arith), lt-ltb u v h)
+  | no h ↦ elim (ℕ-discrete u v) [
+    | yes e ↦ rw (lt-ltb u (v + 1) (omega arith), le-ltb u v (omega arith), eq-eqb u v e)
+    | no e ↦ rw (le-ltb u (v + 1) (omega arith), le-ltb u v (omega arith), ne-eqb u v e)
+  ]
+]
+
+pub spread : (a b c : Bool) → (a && (b || c)) ≡ (a && b || a && c)
+spread true b c = refl
+spread false b c = refl
+
 -- The loop over the vertices: those below v keep their rule, and n darts are led there.
 pub record Summed (t : List ℕ) (n v : ℕ) : Type 0 where
   pub low : v ≤ vertices
@@ -105,19 +123,6 @@ module _ (t : List ℕ) where
     where
       none : (u : ℕ) → u < 0 → ⊥
       none u h = omega arith
-
-  one-more : (u v : ℕ) → ltb u (v + 1) ≡ (ltb u v || eqb u v)
-  one-more u v = elim (decLt u v) [
-    | yes h ↦ rw (lt-ltb u (v + 1) (omega arith), lt-ltb u v h)
-    | no h ↦ elim (ℕ-discrete u v) [
-      | yes e ↦ rw (lt-ltb u (v + 1) (omega arith), le-ltb u v (omega arith), eq-eqb u v e)
-      | no e ↦ rw (le-ltb u (v + 1) (omega arith), le-ltb u v (omega arith), ne-eqb u v e)
-    ]
-  ]
-
-  spread : (a b c : Bool) → (a && (b || c)) ≡ (a && b || a && c)
-  spread true b c = refl
-  spread false b c = refl
 
   below-more : (v d : ℕ) → ledBelow t (v + 1) d ≡ (ledBelow t v d || ledAt t v d)
   unfolding ledBelow ledAt
@@ -156,8 +161,25 @@ module _ (t : List ℕ) where
       let c : n ≡ count (ledBelow t vertices) darts = rw (← e) (s .counted) in
       counts (ap Of (c ∙ count-same (ledBelow t vertices) (λ d. live? t d && led? t d) darts (all-below r))) (rw e at (s .rules))
 
-  pub summed-broken : (v : ℕ) → v < vertices → (VertexRule t v → ⊥) → VerticesSay t Broken
-  summed-broken v h n = breaks refl (λ r. n (r v h))
+  pub summed-to : (n v : ℕ) → Summed t n v → VerticesTo t v (Of n)
+  summed-to n v s = counts (ap Of (s .counted)) (s .rules)
+
+  pub summed-broken : (v to : ℕ) → v < to → (VertexRule t v → ⊥) → VerticesTo t to Broken
+  summed-broken v to h n = breaks refl (λ r. n (r v h))
+
+  -- a block of vertices: those of a loose one keep their rule, and none leads a dart
+  pub summed-loose : Ruled t darts → (n b : ℕ) → b < vertexBlocks → LooseBlock t b → Summed t n (32 * b) → Summed t n (32 * b + 32)
+  summed-loose r n b h k = block-on (Summed t n) (32 * b) 32 (λ i l s.
+      let w = k i l in
+      let z : n + 0 ≡ n = omega arith in
+      rw z at (summed-more n 0 (32 * b + i) s (omega arith) (λ none alone. absurd (omega arith)) (sym (led-none t r (32 * b + i) (omega arith)))))
+
+  -- and those of another as they are summed
+  pub summed-block : {r : Counted} (n b : ℕ) → b < vertexBlocks → VerticesTo t (32 * b + 32) r → r ≡ Of n → Summed t n (32 * b + 32)
+  summed-block n b h c e = let k = counts-of n c e in record { low = omega arith; rules = k .1; counted = k .0 }
+
+  pub block-broken : {r : Counted} (b : ℕ) → b < vertexBlocks → VerticesTo t (32 * b + 32) r → r ≡ Broken → VerticesSay t Broken
+  block-broken b h c e = breaks refl (λ r. counts-broken c e (λ v l. r v (omega arith)))
 
 -- The whole: the rules and the count are those of a good table.
 module _ (t : List ℕ) (size : length t ≡ words) (r : Ruled t darts) where
@@ -172,7 +194,7 @@ module _ (t : List ℕ) (size : length t ≡ words) (r : Ruled t darts) where
     next-live = next-live t r;
     prev-live = prev-live t r;
     prev-next = λ d l. r d (l .low) .linked (l .on) .prev-next;
-    next-prev = λ d l. r d (l .low) .linked (l .on) .next-prev;
+    next-prev = prev-undone t r;
     next-leaves = λ d l. r d (l .low) .linked (l .on) .next-leaves;
     one-cycle = λ d d′ l l′ s.
         let c = reach-trans (reach-sym (next-inj t r) (led-low d l) (led d l)) (rw (← s) at (led d′ l′)) in

@@ -5,6 +5,7 @@
 --     Tags                     all walks are traced
 use Prim.Native.Nat.{ℕ, zero, _+_, _*_, _%_, _<_, _≤_}
 use native.Mathlib.Omega.{arith}
+use native.Mathlib.Nat.{add-zero}
 use native.Mathlib.Numerals.{add-one}
 use native.Mathlib.Decide.{ℕ-discrete}
 use mathlib.Core.Path.{_≡_, refl, sym, _∙_, ap, ap₂}
@@ -16,10 +17,11 @@ use lib.Seq.{getD-set-same, getD-set-other}
 use Rattle.orbits.specs.laws.Truth.{clash, false-unless}
 use Rattle.table.specs.Layout.{darts, nothing, edgeOf, edgeWord}
 use Rattle.table.specs.Good.{Good}
+use Rattle.table.specs.laws.Blocks.{edgeBlocks, DeadBlock, dead-dart, block-on}
 use Rattle.table.specs.Rotation.{Rotation, Lawful, rotation, live?}
 use Rattle.table.specs.laws.Rotation.{live-yes, yes-live}
 use Rattle.table.specs.laws.Lawful.{good-lawful}
-use Rattle.tracing.specs.Step.{steps, step, corner}
+use Rattle.tracing.specs.Step.{step, corner}
 use Rattle.tracing.specs.Walk.{walk, corners}
 use Rattle.tracing.specs.laws.Walk.{iterates, run-suc}
 use Rattle.tracing.specs.Listing.{has, metBy, fresh, starts, faces, faceCount}
@@ -217,6 +219,11 @@ counting-more {t} {d} c f =
       count = rw (add-one, starts-suc (rotation t) d, length-append) (ap₂ _+_ (c .count) (f .count));
       few = omega arith;
     }
+
+-- no walk starts in a block without a live edge
+pub counting-dead : {t : List ℕ} (b : ℕ) {n : ℕ} {m : List ℕ} → b < edgeBlocks → DeadBlock t b → TagCounting t (64 * b) n m → TagCounting t (64 * b + 64) n m
+counting-dead {t} b {n} {m} h k = block-on (λ d. TagCounting t d n m) (64 * b) 64 (λ i l c.
+    rw (add-zero n) at (counting-more c (from-dead (c .tagged) (omega arith) (dead-dart t b k i l))))
 
 -- all walks are traced: a corner's tag is twice its face plus its type
 pub record Tags (t : List ℕ) (m : List ℕ) : Type 0 where

@@ -1,6 +1,7 @@
 -- What the code that counts the listed walks promises, and the invariants of its loops.
 use Prim.Native.Nat.{ℕ, zero, suc, _+_, _*_, _/_, _<_, _≤_, _-_}
 use native.Mathlib.Omega.{arith}
+use native.Mathlib.Nat.{add-zero}
 use native.Mathlib.Numerals.{add-one}
 use native.Mathlib.Decide.{ℕ-discrete}
 use mathlib.Core.Path.{_≡_, refl, sym, _∙_, ap, ap₂}
@@ -12,6 +13,7 @@ use lib.ListN.{length, getD, set, length-append, length-set, length-map, length-
 use borrow.Author.Tests.{eq-eqb, ne-eqb}
 use Rattle.table.specs.Layout.{words as table-words, vertices, darts, isolated, edgeOf, edgeWord, vertexWord}
 use Rattle.table.specs.Good.{Good}
+use Rattle.table.specs.laws.Blocks.{edgeBlocks, DeadBlock, dead-dart, block-on}
 use Rattle.table.specs.Rotation.{Rotation, rotation, live?, alone?}
 use Rattle.table.specs.laws.Rotation.{yes-live, live-case, holds, fails, alone-yes, alone-word}
 use Rattle.orbits.specs.laws.Truth.{truth, holds as yes-true, fails as yes-false, false-unless}
@@ -227,6 +229,12 @@ counting-more {t} {d} {walks} {words} {m} {r} {m′} k h v =
       few = omega arith;
       short = omega arith;
     }
+
+-- no walk starts in a block without a live edge
+pub counting-dead : {t : List ℕ} (b : ℕ) {walks words : ℕ} {m : List ℕ} → b < edgeBlocks → DeadBlock t b → WalkCounting t (64 * b) walks words m
+    → WalkCounting t (64 * b + 64) walks words m
+counting-dead {t} b {walks} {words} {m} h k = block-on (λ d. WalkCounting t d walks words m) (64 * b) 64 (λ i l c.
+    rw (add-zero walks, add-zero words) at (counting-more c (omega arith) (looked-dead t (64 * b + i) m (dead-dart t b k i l))))
 
 -- the isolated vertices below v are n
 pub record Lone (t : List ℕ) (v n : ℕ) : Type 0 where

@@ -1,4 +1,4 @@
--- `dart::is_linked` meets its contract. Does a live dart leave a vertex, and do "next" and "previous" undo each other at it, at one vertex.
+-- `dart::is_linked` meets its contract. Does a live dart leave a vertex, and does "previous" undo "next" at it, at one vertex.
 use mathlib.Core.Path.{refl}
 use native.Mathlib.Omega.{arith}
 use Rattle.table.specs.laws.Rotation.{holds, fails}
@@ -64,39 +64,10 @@ cast-if4 c = fits-16-64 (c .shared-slice-known4 .given _)
 returns-4 : tie.Need-returns-4
 returns-4 c = fails refl (λ l. c .if4 .taken (l .next-leaves))
 
-add-p : tie.Need-add-p
-add-p c = search needs
-
-mul-p : tie.Need-mul-p
-mul-p c = search needs
-
-shared-slice-read-p : tie.Need-shared-slice-read-p
-shared-slice-read-p c = search needs
-
-cast-p : tie.Need-cast-p
-cast-p c = fits-16-64 (c .shared-slice-known5 .given _)
-
 returns-5 : tie.Need-returns-5
-returns-5 c = fails refl (λ l. omega (arith, l .prev-low))
-
-mul-if6 : tie.Need-mul-if6
-mul-if6 c = search needs
-
-shared-slice-read-if6 : tie.Need-shared-slice-read-if6
-shared-slice-read-if6 c = search needs
-
-cast-if6 : tie.Need-cast-if6
-cast-if6 c = fits-16-64 (c .shared-slice-known6 .given _)
-
-returns-6 : tie.Need-returns-6
-returns-6 c = fails refl (λ l. c .if6 .taken (l .next-prev))
-
-returns-7 : tie.Need-returns-7
-returns-7 c =
-    let if3 = c .before .before .before .before .before .before .if3 in
-    let if4 = c .before .before .before .before .if4 in
-    holds refl
-    (record { at = omega arith; next-low = omega arith; prev-next = if3 .left; next-leaves = if4 .left; prev-low = omega arith; next-prev = c .if6 .left })
+returns-5 c =
+    let if3 = c .before .before .if3 in
+    holds refl (record { at = omega arith; next-low = omega arith; prev-next = if3 .left; next-leaves = c .if4 .left })
 
 pub is-linked-spec : {M : Type 1} → statement M
 is-linked-spec =
@@ -121,13 +92,4 @@ is-linked-spec =
     shared-slice-read-if4
     cast-if4
     returns-4
-    add-p
-    mul-p
-    shared-slice-read-p
-    cast-p
-    returns-5
-    mul-if6
-    shared-slice-read-if6
-    cast-if6
-    returns-6
-    returns-7)
+    returns-5)

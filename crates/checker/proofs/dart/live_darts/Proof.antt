@@ -1,57 +1,58 @@
--- `dart::live_darts` meets its contract. The number of live darts, if each dart keeps its rules. The loop keeps `RuledBelow`, and `darts - d` falls.
-use Rattle.table.specs.laws.Darts.{passed-few, RuledBelow, passed-none, passed-live, passed-dead, passed-all, passed-broken}
-use borrow.Author.Tests.{not-true, not-false}
-use mathlib.Core.Path.{refl}
-use Rattle.table.specs.laws.Rotation.{case-yes, case-no}
-use Rattle.table.specs.Layout.{darts}
+-- `dart::live_darts` meets its contract. The loop keeps `RuledBelow`, and the number of blocks left falls.
+use Rattle.table.specs.laws.Darts.{RuledBelow, passed-none, passed-idle, passed-block, passed-to, block-broken}
+use Rattle.table.specs.laws.Rotation.{case-yes}
+use borrow.Author.Tests.{not-false}
+use borrow.Author.Needs.{needs}
 use native.Mathlib.Omega.{arith}
-use Prim.Native.Nat.{_-_}
+use mathlib.Core.Path.{_≡_}
 use mathlib.Core.Logic.{⊎-elim}
+use Prim.Native.Nat.{_+_, _*_, _-_, _≤_}
 use Rattle.checker.proofs.dart.live_darts.Statement.{statement}
 use Rattle.checker.proofs.dart.live_darts.Tie as tie
 
 abbrev Inv-loop : tie.InvT-loop
-Inv-loop t n₀ d₀ n d = RuledBelow t n d
+Inv-loop t n₀ b₀ n b = (b ≤ 32) × RuledBelow t n (64 * b)
 
 abbrev μ-loop : tie.MeasureT-loop
-μ-loop t n₀ d₀ n d = darts - d
+μ-loop t n₀ b₀ n b = 32 - b
 
 loop-holds : tie.Need-loop-holds Inv-loop μ-loop
-loop-holds c = passed-none _
+loop-holds c = (omega arith, passed-none _)
 
-add-w : tie.Need-add-w Inv-loop μ-loop
-add-w c = omega arith
+is-idle-requires : tie.Need-is-idle-requires Inv-loop μ-loop
+is-idle-requires c κs = (c .before .before .before .pre, omega arith)
 
-mul-w : tie.Need-mul-w Inv-loop μ-loop
-mul-w c = omega arith
+live-in-requires : tie.Need-live-in-requires Inv-loop μ-loop
+live-in-requires c κs = (c .before .before .before .before .before .pre, omega arith, c .before .before .before .loop .inv .1)
 
-shared-slice-read-w : tie.Need-shared-slice-read-w Inv-loop μ-loop
-shared-slice-read-w c = omega arith
-
-keeps-rule-requires : tie.Need-keeps-rule-requires Inv-loop μ-loop
-keeps-rule-requires c κs = (c .before .before .before .before .pre, omega arith, refl)
+enum-told : tie.Need-enum-told Inv-loop μ-loop
+enum-told c = search needs
 
 returns : tie.Need-returns Inv-loop μ-loop
-returns c = passed-broken _ _ (omega arith) (case-no (c .before .keeps-rule .ensures) (not-true _ (c .if1 .taken)))
+returns c = block-broken _ _ (omega arith) (c .before .before .live-in .ensures) (c .enum-told .given .1)
 
-add-n : tie.Need-add-n Inv-loop μ-loop
-add-n c = omega (arith, passed-few _ _ _ (c .before .before .before .before .before .loop .inv))
+enum-known-k : tie.Need-enum-known-k Inv-loop μ-loop
+enum-known-k c = search needs
 
-add-d : tie.Need-add-d Inv-loop μ-loop
-add-d c = omega arith
+add-b : tie.Need-add-b Inv-loop μ-loop
+add-b c = omega arith
 
 loop-less : tie.Need-loop-less Inv-loop μ-loop
 loop-less c = omega arith
 
 loop-again : tie.Need-loop-again Inv-loop μ-loop
-loop-again c = let rule = case-yes (c .before .before .keeps-rule .ensures) (not-false _ (c .before .if1 .left)) in
-    ⊎-elim
-    (λ w. rw (w .1) (passed-live _ _ _ (c .before .before .before .before .before .loop .inv) (omega arith) rule (w .0 .taken)))
-    (λ w. rw (w .1) (passed-dead _ _ _ (c .before .before .before .before .before .loop .inv) (omega arith) rule (w .0 .left)))
-    (c .if2 .came)
+loop-again c =
+    let loop = c .before .before .before .loop in
+    let e : 64 * (loop .b + 1) ≡ 64 * loop .b + 64 = omega arith in
+    let t = c .before .before .before .before .before .args .t .now in
+    let passed : RuledBelow t (c .if1 .n) (64 * loop .b + 64) = ⊎-elim
+    (λ w. rw (w .5) (passed-block _ _ _ (omega arith) (w .1 .ensures) (w .3 .given .1)))
+    (λ w. rw (w .1) (passed-idle _ _ _ (omega arith) (case-yes (c .before .is-idle .ensures) (not-false _ (w .0 .left))) (loop .inv .1)))
+    (c .if1 .came) in
+    (omega arith, rw e passed)
 
 returns-2 : tie.Need-returns-2 Inv-loop μ-loop
-returns-2 c = passed-all _ _ _ (c .before .loop .inv) (c .loop-test .left)
+returns-2 c = let end : 64 * c .before .loop .b ≡ 2048 = omega arith in rw end at (passed-to _ _ _ (c .before .loop .inv .1))
 
 pub live-darts-spec : {M : Type 1} → statement M
 live-darts-spec =
@@ -60,13 +61,12 @@ live-darts-spec =
     Inv-loop
     μ-loop
     loop-holds
-    add-w
-    mul-w
-    shared-slice-read-w
-    keeps-rule-requires
+    is-idle-requires
+    live-in-requires
+    enum-told
     returns
-    add-n
-    add-d
+    enum-known-k
+    add-b
     loop-less
     loop-again
     returns-2)

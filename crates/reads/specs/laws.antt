@@ -1,0 +1,6 @@
+pub mod Tests
+pub mod Darts
+pub mod Vertices
+pub mod Whole
+pub mod Bounds
+pub mod Full

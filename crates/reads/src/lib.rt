@@ -1,0 +1,1 @@
+// How many words of the table one check reads: theory alone.

@@ -54,8 +54,35 @@ impl Drop for Small {
     }
 }
 
+/// The files of a made-up tree, and what is tried on it.
+pub struct Trial {
+    pub files: &'static [(&'static str, &'static str)],
+    pub faults: fn(&Tree) -> Vec<String>,
+}
+
+impl Trial {
+    pub fn whole(&self, name: &str) -> Small {
+        Small::new(name, self.files)
+    }
+
+    /// Nothing is found where all is well.
+    pub fn well(&self, name: &str) {
+        self.found(&self.whole(name), &[]);
+    }
+
+    /// The faults after one text of a file is changed for another.
+    pub fn after(&self, name: &str, path: &str, old: &str, new: &str, expected: &[&str]) {
+        self.found(&self.whole(name).change(path, old, new), expected);
+    }
+
+    /// The faults of a tree.
+    pub fn found(&self, small: &Small, expected: &[&str]) {
+        assert_faults(&(self.faults)(&small.tree()), expected);
+    }
+}
+
 /// There are as many faults as expected, and each has the text that it should have.
-pub fn assert_faults(faults: &[String], expected: &[&str]) {
+fn assert_faults(faults: &[String], expected: &[&str]) {
     assert_eq!(faults.len(), expected.len(), "{faults:#?}");
     for (fault, expected) in faults.iter().zip(expected) {
         assert!(fault.contains(expected), "{fault:?} has no {expected:?}");

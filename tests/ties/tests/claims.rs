@@ -1,7 +1,7 @@
 //! `tests/claims` on a small tree: nothing is found where all is well, and each kind of fault is found.
 
 use ties::claims::faults;
-use ties::small::{assert_faults, Small};
+use ties::small::Trial;
 
 const CLAIMS: &str = "docs/CLAIMS.md";
 const README: &str = "README.md";
@@ -50,47 +50,58 @@ const FILES: [(&str, &str); 10] = [
     ("include/planner.h", "int64_t planner_check(const uint16_t *table, size_t words, uint16_t *out, size_t n_out);\n"),
 ];
 
-fn whole(name: &str) -> Small {
-    Small::new(name, &FILES)
-}
-
-/// The faults after one text of a file is changed for another.
-fn after(name: &str, path: &str, old: &str, new: &str, expected: &[&str]) {
-    assert_faults(&faults(&whole(name).change(path, old, new).tree()), expected);
-}
+const TRIAL: Trial = Trial { files: &FILES, faults };
 
 #[test]
 fn nothing_where_all_is_well() {
-    assert_faults(&faults(&whole("well").tree()), &[]);
+    TRIAL.well("well");
 }
 
 #[test]
 fn a_name_that_its_file_does_not_declare() {
-    after("name", GOOD, "unfoldable pub good-case", "unfoldable pub good-cases", &["declares no `good-case`"]);
-    after("inner", GOOD, "  pub inner", "  inner", &["declares no `inner`"]);
-    after("elsewhere", CLAIMS, "`passed-on` as", "`flat` as", &["declares no `flat` (table/Good does)"]);
-    after("local", CLAIMS, "`inner`;", "`inner`, `local`;", &["table/Good declares no `local`"]);
-    after("comment", CLAIMS, "`inner`;", "`inner`, `comment`;", &["table/Good declares no `comment`"]);
-    after("constructor", GOOD, "  flat :", "  round :", &["declares no `flat`"]);
+    TRIAL.after("name", GOOD, "unfoldable pub good-case", "unfoldable pub good-cases", &["declares no `good-case`"]);
+    TRIAL.after("inner", GOOD, "  pub inner", "  inner", &["declares no `inner`"]);
+    TRIAL.after("elsewhere", CLAIMS, "`passed-on` as", "`flat` as", &["declares no `flat` (table/Good does)"]);
+    TRIAL.after("local", CLAIMS, "`inner`;", "`inner`, `local`;", &["table/Good declares no `local`"]);
+    TRIAL.after("comment", CLAIMS, "`inner`;", "`inner`, `comment`;", &["table/Good declares no `comment`"]);
+    TRIAL.after("constructor", GOOD, "  flat :", "  round :", &["declares no `flat`"]);
 }
 
 #[test]
 fn a_name_that_is_used_and_not_passed_on() {
-    after("used", CLAIMS, "`passed-on` as", "`unseen` as", &["table/Passing declares no `unseen`"]);
+    TRIAL.after("used", CLAIMS, "`passed-on` as", "`unseen` as", &["table/Passing declares no `unseen`"]);
 }
 
 #[test]
 fn a_field_that_no_record_has() {
-    after("field", GOOD, "pub turns", "pub turn", &["CLAIMS.md:25: table/Good has no record with the field `.turns`"]);
-    after("dot", CLAIMS, "`.size`, `good-case`", "`size`, `good-case`", &["declares no `size` (a field is cited with"]);
-    after("no-file", CLAIMS, "by `good-case`", "by `.size`", &["`.size` stands after no file"]);
+    TRIAL.after(
+        "field",
+        GOOD,
+        "pub turns",
+        "pub turn",
+        &["CLAIMS.md:25: table/Good has no record with the field `.turns`"],
+    );
+    TRIAL.after(
+        "dot",
+        CLAIMS,
+        "`.size`, `good-case`",
+        "`size`, `good-case`",
+        &["declares no `size` (a field is cited with"],
+    );
+    TRIAL.after("no-file", CLAIMS, "by `good-case`", "by `.size`", &["`.size` stands after no file"]);
 }
 
 #[test]
 fn a_file_that_is_not_there() {
-    after("file", CLAIMS, "`table/Passing`", "`table/Passings`", &["there is no crates/table/specs/Passings.antt"]);
-    after("crate", CLAIMS, "crate `table`", "crate `tables`", &["there is no crate `tables`"]);
-    after(
+    TRIAL.after(
+        "file",
+        CLAIMS,
+        "`table/Passing`",
+        "`table/Passings`",
+        &["there is no crates/table/specs/Passings.antt"],
+    );
+    TRIAL.after("crate", CLAIMS, "crate `table`", "crate `tables`", &["there is no crate `tables`"]);
+    TRIAL.after(
         "source",
         CLAIMS,
         "table/src/whole",
@@ -105,29 +116,29 @@ fn a_file_that_is_not_there() {
 
 #[test]
 fn a_law() {
-    after("law-file", CLAIMS, "`table/Passing` `passed-on`", "`table/Deep`", &["specs/Deep.antt (it is a law)"]);
-    after(
+    TRIAL.after("law-file", CLAIMS, "`table/Passing` `passed-on`", "`table/Deep`", &["specs/Deep.antt (it is a law)"]);
+    TRIAL.after(
         "law-name",
         CLAIMS,
         "`inner`;",
         "`inner`, `deep`;",
         &["table/Good declares no `deep` (table/laws/Deep does)"],
     );
-    after("law", CLAIMS, "`table/Passing` `passed-on`", "`table/laws/Deep`", &["cites a law"]);
-    after("law-path", README, "`Passing.antt`", "`crates/table/specs/laws/Deep.antt`", &["cites a law"]);
+    TRIAL.after("law", CLAIMS, "`table/Passing` `passed-on`", "`table/laws/Deep`", &["cites a law"]);
+    TRIAL.after("law-path", README, "`Passing.antt`", "`crates/table/specs/laws/Deep.antt`", &["cites a law"]);
 }
 
 #[test]
 fn a_contract_that_is_not_there() {
-    after("function", CLAIMS, "`check`, `empty`", "`check`, `gone`", &["whole.rt has no function `gone`"]);
-    after(
+    TRIAL.after("function", CLAIMS, "`check`, `empty`", "`check`, `gone`", &["whole.rt has no function `gone`"]);
+    TRIAL.after(
         "silent",
         CLAIMS,
         "`check`, `empty`",
         "`check`, `silent`",
         &["`silent` of crates/table/src/whole.rt promises"],
     );
-    after(
+    TRIAL.after(
         "unfiled",
         CLAIMS,
         " (`table/src/whole.rt`)",
@@ -138,8 +149,14 @@ fn a_contract_that_is_not_there() {
 
 #[test]
 fn a_name_on_its_own() {
-    after("alone", CLAIMS, "by `good-case`", "by `nowhere`", &["`nowhere` stands after no file, here or elsewhere"]);
-    after(
+    TRIAL.after(
+        "alone",
+        CLAIMS,
+        "by `good-case`",
+        "by `nowhere`",
+        &["`nowhere` stands after no file, here or elsewhere"],
+    );
+    TRIAL.after(
         "words-between",
         CLAIMS,
         "`flat` and `helper`",
@@ -150,47 +167,53 @@ fn a_name_on_its_own() {
 
 #[test]
 fn what_cannot_be_read() {
-    after("unreadable", CLAIMS, "by `good-case`", "by `+ 1`", &["cannot read `+ 1`"]);
-    after("italics", CLAIMS, "*table/wrong_number*", "*table/wrong_number* *so*", &["cannot read *so*"]);
-    after("open", CLAIMS, "by `good-case`", "by `good-case", &["CLAIMS.md:13: a ` is not closed"]);
+    TRIAL.after("unreadable", CLAIMS, "by `good-case`", "by `+ 1`", &["cannot read `+ 1`"]);
+    TRIAL.after("italics", CLAIMS, "*table/wrong_number*", "*table/wrong_number* *so*", &["cannot read *so*"]);
+    TRIAL.after("open", CLAIMS, "by `good-case`", "by `good-case", &["CLAIMS.md:13: a ` is not closed"]);
 }
 
 #[test]
 fn a_must_fail_edit() {
-    after(
+    TRIAL.after(
         "edit",
         CLAIMS,
         "*table/wrong_number*",
         "*table/wrong*",
         &["no must-fail edit *table/wrong*", "wrong_number is not named"],
     );
-    let more = whole("unnamed").add("crates/table/must-fail/another.edit", "");
-    assert_faults(&faults(&more.tree()), &["the must-fail edit table/another is not named"]);
-    let less = whole("gone").remove("crates/table/must-fail/wrong_number.edit");
-    assert_faults(&faults(&less.tree()), &["there is no must-fail edit *table/wrong_number*"]);
-    let less = whole("call").remove("crates/planner/must-fail/another_call.edit");
-    assert_faults(&faults(&less.tree()), &["there is no must-fail edit *planner/another_call*"]);
+    let more = TRIAL.whole("unnamed").add("crates/table/must-fail/another.edit", "");
+    TRIAL.found(&more, &["the must-fail edit table/another is not named"]);
+    let less = TRIAL.whole("gone").remove("crates/table/must-fail/wrong_number.edit");
+    TRIAL.found(&less, &["there is no must-fail edit *table/wrong_number*"]);
+    let less = TRIAL.whole("call").remove("crates/planner/must-fail/another_call.edit");
+    TRIAL.found(&less, &["there is no must-fail edit *planner/another_call*"]);
 }
 
 #[test]
 fn the_rows_of_the_c_interface() {
     let header = "include/planner.h";
-    after(
+    TRIAL.after(
         "row",
         header,
         "int64_t",
         "int64_t planner_plain(const uint16_t *t, size_t words);\nint64_t",
         &["planner_plain of the header has no row"],
     );
-    after(
+    TRIAL.after(
         "expression",
         CLAIMS,
         "`codeOf (checkOf t out)`",
         "`codeOf (checkOf t)`",
         &["`codeOf (checkOf t)` is not in the contract"],
     );
-    after("head", CLAIMS, "`checked t ..`", "`check t ..`", &["`check t ..` is not in the contract of planner_check"]);
-    after(
+    TRIAL.after(
+        "head",
+        CLAIMS,
+        "`checked t ..`",
+        "`check t ..`",
+        &["`check t ..` is not in the contract of planner_check"],
+    );
+    TRIAL.after(
         "renamed",
         header,
         "planner_check",
@@ -205,26 +228,26 @@ fn the_rows_of_the_c_interface() {
 
 #[test]
 fn the_reading_order() {
-    after(
+    TRIAL.after(
         "order-file",
         README,
         "`Passing.antt`",
         "`Missing.antt`",
         &["README.md:12: there is no crates/table/specs/Missing.antt"],
     );
-    after("order-name", README, "`Good`, then", "`Best`, then", &["README.md:12: table/Good declares no `Best`"]);
-    after("order-gone", README, "## Reading on", "## Reading", &["no numbered reading order"]);
+    TRIAL.after("order-name", README, "`Good`, then", "`Best`, then", &["README.md:12: table/Good declares no `Best`"]);
+    TRIAL.after("order-gone", README, "## Reading on", "## Reading", &["no numbered reading order"]);
 }
 
 #[test]
 fn the_key_statements() {
-    after("key", README, "| `Good`; the", "| `deep`; the", &["`deep` stands in no spec of crate table"]);
-    after(
+    TRIAL.after("key", README, "| `Good`; the", "| `deep`; the", &["`deep` stands in no spec of crate table"]);
+    TRIAL.after(
         "key-function",
         README,
         "contract of `check`",
         "contract of `silent`",
         &["`silent` stands in no spec of crate table"],
     );
-    after("key-column", README, "Key statements", "Statements", &["no table with the column"]);
+    TRIAL.after("key-column", README, "Key statements", "Statements", &["no table with the column"]);
 }

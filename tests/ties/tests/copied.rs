@@ -1,7 +1,7 @@
 //! The shape of the copy that counts its reads, on a small tree: nothing is found where all is well, and each kind of fault is found.
 
 use ties::copied::{counted, faults};
-use ties::small::{assert_faults, Small};
+use ties::small::Trial;
 
 const BELOW: &str = "crates/table/src/block.rt";
 const WHOLE: &str = "crates/checker/src/whole.rt";
@@ -36,18 +36,11 @@ const FILES: [(&str, &str); 4] = [
     ),
 ];
 
-fn whole(name: &str) -> Small {
-    Small::new(name, &FILES)
-}
-
-/// The faults after one text of a file is changed for another.
-fn after(name: &str, path: &str, old: &str, new: &str, expected: &[&str]) {
-    assert_faults(&faults(&whole(name).change(path, old, new).tree()), expected);
-}
+const TRIAL: Trial = Trial { files: &FILES, faults };
 
 #[test]
 fn nothing_where_all_is_well() {
-    assert_faults(&faults(&whole("copied").tree()), &[]);
+    TRIAL.well("copied");
 }
 
 #[test]
@@ -64,7 +57,7 @@ fn a_body_counted() {
 
 #[test]
 fn a_read_past_the_count() {
-    after(
+    TRIAL.after(
         "past",
         COPY,
         "read(t, BLOCK * b, reads)",
@@ -74,17 +67,17 @@ fn a_read_past_the_count() {
             "whole.rt indexes a slice 1 times, not 0",
         ],
     );
-    after(
+    TRIAL.after(
         "own",
         COPY,
         "let good = check(t, &mut reads);",
         "let good = check(t, &mut reads) && t[1] == 0;",
         &["whole.rt indexes a slice 1 times, not 0"],
     );
-    after("twice", READ, "    t[i]", "    t[i] | t[i]", &["read.rt indexes a slice 2 times, not 1"]);
-    after("never", READ, "    t[i]", "    0", &["read.rt indexes a slice 0 times, not 1"]);
+    TRIAL.after("twice", READ, "    t[i]", "    t[i] | t[i]", &["read.rt indexes a slice 2 times, not 1"]);
+    TRIAL.after("never", READ, "    t[i]", "    0", &["read.rt indexes a slice 0 times, not 1"]);
     // The check's own function would read without the count.
-    after(
+    TRIAL.after(
         "uncounted",
         COPY,
         "is_dead(t, 1, reads)",
@@ -95,25 +88,37 @@ fn a_read_past_the_count() {
 
 #[test]
 fn a_differing_body() {
-    after(
+    TRIAL.after(
         "place",
         COPY,
         "read(t, BLOCK * b, reads)",
         "read(t, b, reads)",
         &["is_dead has `read(t, b, reads) == 0`, not"],
     );
-    after("test", COPY, "!= 64", "< 64", &["check has `if t.len() < 64 {`, not `if t.len() != 64 {`"]);
-    after(
+    TRIAL.after("test", COPY, "!= 64", "< 64", &["check has `if t.len() < 64 {`, not `if t.len() != 64 {`"]);
+    TRIAL.after(
         "order",
         COPY,
         "    if is_dead(t, 1, reads) {\n        return true;\n    }\n",
         "",
         &["check has `linked(t, 2 * (read(t, 0, reads) as usize), reads)`, not `if is_dead(t, 1, reads) {`"],
     );
-    after("longer", COPY, "as usize == d\n", "as usize == d\n        && d < 64\n", &["linked ends elsewhere"]);
-    after("original", WHOLE, "if is_dead(t, 1)", "if is_dead(t, 0)", &["check has `if is_dead(t, 1, reads) {`, not"]);
-    after("below", BELOW, "t[BLOCK * b] == 0", "t[b] == 0", &["is_dead has `read(t, BLOCK * b, reads) == 0`, not"]);
-    after(
+    TRIAL.after("longer", COPY, "as usize == d\n", "as usize == d\n        && d < 64\n", &["linked ends elsewhere"]);
+    TRIAL.after(
+        "original",
+        WHOLE,
+        "if is_dead(t, 1)",
+        "if is_dead(t, 0)",
+        &["check has `if is_dead(t, 1, reads) {`, not"],
+    );
+    TRIAL.after(
+        "below",
+        BELOW,
+        "t[BLOCK * b] == 0",
+        "t[b] == 0",
+        &["is_dead has `read(t, BLOCK * b, reads) == 0`, not"],
+    );
+    TRIAL.after(
         "constant",
         COPY,
         "pub struct",
@@ -124,41 +129,50 @@ fn a_differing_body() {
 
 #[test]
 fn a_differing_signature() {
-    after("kind", COPY, "d: usize, reads", "d: u16, reads", &["linked has not the signature"]);
-    after(
+    TRIAL.after("kind", COPY, "d: usize, reads", "d: u16, reads", &["linked has not the signature"]);
+    TRIAL.after(
         "answer",
         COPY,
         "fn check(t: &[u16], reads: &mut usize) -> bool",
         "fn check(t: &[u16], reads: &mut usize) -> u16",
         &["check has not the signature"],
     );
-    after("count", COPY, "b: usize, reads: &mut usize", "b: usize, reads: usize", &["is_dead has not the signature"]);
+    TRIAL.after(
+        "count",
+        COPY,
+        "b: usize, reads: &mut usize",
+        "b: usize, reads: usize",
+        &["is_dead has not the signature"],
+    );
 }
 
 #[test]
 fn a_missing_function() {
     let renamed = ["the copy has no copy of linked", "joined is the copy of no function of the check"];
-    after("renamed", COPY, "fn linked", "fn joined", &renamed);
-    after("new", WHOLE, "use table", "fn more(t: &[u16]) -> u16 {\n    t[1]\n}\n\nuse table", &["has no copy of more"]);
-    after(
+    TRIAL.after("renamed", COPY, "fn linked", "fn joined", &renamed);
+    TRIAL.after(
+        "new",
+        WHOLE,
+        "use table",
+        "fn more(t: &[u16]) -> u16 {\n    t[1]\n}\n\nuse table",
+        &["has no copy of more"],
+    );
+    TRIAL.after(
         "own-more",
         READ,
         "pub fn read",
         "fn peek(t: &[u16]) -> u16 {\n    0\n}\n\npub fn read",
         &["peek is the copy of no"],
     );
-    after(
+    TRIAL.after(
         "own-less",
         COPY,
         "fn counted_check",
         "fn counting_check",
         &["the copy has no function counted_check", "counting_check is the copy of no function of the check"],
     );
-    assert_faults(&faults(&whole("no-read").remove(READ).tree()), &["the copy has no function read"]);
-    assert_faults(
-        &faults(&whole("no-below").remove(BELOW).tree()),
-        &["is_dead is the copy of no function of the check"],
-    );
+    TRIAL.found(&TRIAL.whole("no-read").remove(READ), &["the copy has no function read"]);
+    TRIAL.found(&TRIAL.whole("no-below").remove(BELOW), &["is_dead is the copy of no function of the check"]);
     let no_check = ["crates/checker/src has no function", "linked is the copy of no", "check is the copy of no"];
-    assert_faults(&faults(&whole("no-check").remove(WHOLE).tree()), &no_check);
+    TRIAL.found(&TRIAL.whole("no-check").remove(WHOLE), &no_check);
 }

@@ -1,7 +1,7 @@
 //! `tests/header` on a small tree: nothing is found where all is well, and each kind of difference is found.
 
 use ties::matching::faults;
-use ties::small::{assert_faults, Small};
+use ties::small::Trial;
 
 const HEADER: &str = "include/planner.h";
 const EXPORTS: &str = "crates/planner/src/lib.rt";
@@ -31,18 +31,11 @@ const FILES: [(&str, &str); 3] = [
     (TALLY, "// A tally.\n#[repr(C)]\npub struct Tally {\n    pub steps: u32,\n    // over\n    pub overs: u32,\n    pub start_kind: u16,\n}\n"),
 ];
 
-fn whole(name: &str) -> Small {
-    Small::new(name, &FILES)
-}
-
-/// The differences after one text of a file is changed for another.
-fn after(name: &str, path: &str, old: &str, new: &str, expected: &[&str]) {
-    assert_faults(&faults(&whole(name).change(path, old, new).tree()), expected);
-}
+const TRIAL: Trial = Trial { files: &FILES, faults };
 
 #[test]
 fn nothing_where_both_are_alike() {
-    assert_faults(&faults(&whole("alike").tree()), &[]);
+    TRIAL.well("alike");
 }
 
 #[test]
@@ -51,11 +44,11 @@ fn exchanged_arguments() {
         "planner_insert: argument 4 is `uint16_t c2`, not `uint16_t c1`",
         "planner_insert: argument 5 is `uint16_t c1`, not `uint16_t c2`",
     ];
-    after("corners", HEADER, "uint16_t c1, uint16_t c2", "uint16_t c2, uint16_t c1", &expected);
+    TRIAL.after("corners", HEADER, "uint16_t c1, uint16_t c2", "uint16_t c2, uint16_t c1", &expected);
     let other_way =
         ["argument 4 is `uint16_t c1`, not `uint16_t c2`", "argument 5 is `uint16_t c2`, not `uint16_t c1`"];
-    after("declared", EXPORTS, "e: u16, c1: u16, c2: u16", "e: u16, c2: u16, c1: u16", &other_way);
-    after(
+    TRIAL.after("declared", EXPORTS, "e: u16, c1: u16, c2: u16", "e: u16, c2: u16, c1: u16", &other_way);
+    TRIAL.after(
         "step",
         EXPORTS,
         "dart: u16,\n    kind: u16",
@@ -69,32 +62,32 @@ fn exchanged_arguments() {
 
 #[test]
 fn a_changed_type() {
-    after("signed", HEADER, "int16_t k", "uint16_t k", &["argument 6 is `uint16_t k`, not `int16_t k`"]);
-    after("wide", EXPORTS, "e: u16", "e: u32", &["argument 3 is `uint16_t e`, not `uint32_t e`"]);
-    after(
+    TRIAL.after("signed", HEADER, "int16_t k", "uint16_t k", &["argument 6 is `uint16_t k`, not `int16_t k`"]);
+    TRIAL.after("wide", EXPORTS, "e: u16", "e: u32", &["argument 3 is `uint16_t e`, not `uint32_t e`"]);
+    TRIAL.after(
         "constant",
         HEADER,
         "(uint16_t *table",
         "(const uint16_t *table",
         &["`const uint16_t * table`, not `uint16_t * table`"],
     );
-    after("written", EXPORTS, "points: &[i32]", "points: &mut [i32]", &["not `int32_t * points`"]);
-    after("float", EXPORTS, "out: &mut [f32]", "out: &mut [f64]", &["not `double * out`"]);
-    after(
+    TRIAL.after("written", EXPORTS, "points: &[i32]", "points: &mut [i32]", &["not `int32_t * points`"]);
+    TRIAL.after("float", EXPORTS, "out: &mut [f32]", "out: &mut [f64]", &["not `double * out`"]);
+    TRIAL.after(
         "record",
         EXPORTS,
         "from: &Tally",
         "from: Tally",
         &["argument 2 is `const struct planner_tally * from`, not"],
     );
-    after(
+    TRIAL.after(
         "answer",
         HEADER,
         "int64_t planner_step",
         "int32_t planner_step",
         &["planner_step: answers int32_t in the header, i64"],
     );
-    after(
+    TRIAL.after(
         "unknown",
         EXPORTS,
         "e: u16",
@@ -112,7 +105,7 @@ fn a_changed_type() {
 /// `Standing` of the sources, a reader without the table, is `struct planner_reader` in C.
 #[test]
 fn a_record_of_another_name() {
-    after(
+    TRIAL.after(
         "standing",
         EXPORTS,
         "from: &Tally",
@@ -126,15 +119,15 @@ fn a_record_of_another_name() {
 
 #[test]
 fn another_name() {
-    after("pointer", HEADER, "*points", "*lifts", &["argument 5 is `const int32_t * lifts`, not"]);
-    after(
+    TRIAL.after("pointer", HEADER, "*points", "*lifts", &["argument 5 is `const int32_t * lifts`, not"]);
+    TRIAL.after(
         "size",
         HEADER,
         "n_points",
         "n_lifts",
         &["argument 6 is `size_t n_lifts`, not `size_t n_points or points_words or"],
     );
-    after(
+    TRIAL.after(
         "table-size",
         HEADER,
         "(uint16_t *table, size_t words",
@@ -145,7 +138,7 @@ fn another_name() {
 
 #[test]
 fn an_argument_more() {
-    after(
+    TRIAL.after(
         "more",
         HEADER,
         "int16_t k)",
@@ -157,22 +150,22 @@ fn an_argument_more() {
 #[test]
 fn a_function_on_one_side_alone() {
     let prototype = "int64_t planner_step(struct planner_tally *tally, const struct planner_tally *from);\n";
-    after(
+    TRIAL.after(
         "header",
         HEADER,
         prototype,
         "",
         &["include/planner.h: planner_step is missing", "no exported function is lent a struct"],
     );
-    after("twice", HEADER, prototype, &prototype.repeat(2), &["planner_step is declared twice"]);
-    after(
+    TRIAL.after("twice", HEADER, prototype, &prototype.repeat(2), &["planner_step is declared twice"]);
+    TRIAL.after(
         "exports",
         EXPORTS,
         "fn planner_insert",
         "fn planner_inserts",
         &["include/planner.h: planner_inserts is missing", "lib.rt: planner_insert is missing"],
     );
-    after(
+    TRIAL.after(
         "mangled",
         EXPORTS,
         "#[no_mangle]\npub extern \"C\" fn planner_step",
@@ -185,24 +178,24 @@ fn a_function_on_one_side_alone() {
 fn fields_of_a_record() {
     let exchanged =
         ["field 1 is `uint32_t overs`, not `uint32_t steps`", "field 2 is `uint32_t steps`, not `uint32_t overs`"];
-    after("fields", HEADER, "steps, overs", "overs, steps", &exchanged);
-    after(
+    TRIAL.after("fields", HEADER, "steps, overs", "overs, steps", &exchanged);
+    TRIAL.after(
         "field-type",
         TALLY,
         "start_kind: u16",
         "start_kind: u32",
         &["field 3 is `uint16_t start_type`, not `uint32_t start_type`"],
     );
-    after(
+    TRIAL.after(
         "field-more",
         TALLY,
         "pub overs: u32,",
         "pub overs: u32,\n    pub unders: u32,",
         &["3 fields in the header, 4 in", "field 3"],
     );
-    after("layout", TALLY, "#[repr(C)]\n", "", &["struct Tally is not #[repr(C)]"]);
-    after("struct", TALLY, "pub struct Tally", "pub struct Tallies", &["tally.rt: struct Tally is not there"]);
-    after(
+    TRIAL.after("layout", TALLY, "#[repr(C)]\n", "", &["struct Tally is not #[repr(C)]"]);
+    TRIAL.after("struct", TALLY, "pub struct Tally", "pub struct Tallies", &["tally.rt: struct Tally is not there"]);
+    TRIAL.after(
         "record-gone",
         HEADER,
         "struct planner_tally {",
@@ -213,6 +206,6 @@ fn fields_of_a_record() {
 
 #[test]
 fn what_cannot_be_read() {
-    after("typedef", HEADER, "#define A 1\n", "typedef int number;\n", &["cannot read `typedef int number;`"]);
-    after("unnamed", HEADER, "uint16_t e,", "uint16_t,", &["cannot read", "planner_insert is missing"]);
+    TRIAL.after("typedef", HEADER, "#define A 1\n", "typedef int number;\n", &["cannot read `typedef int number;`"]);
+    TRIAL.after("unnamed", HEADER, "uint16_t e,", "uint16_t,", &["cannot read", "planner_insert is missing"]);
 }

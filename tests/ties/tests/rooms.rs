@@ -1,7 +1,7 @@
 //! The two rooms of the specs on a small tree: nothing is found where all is well, and each kind of fault is found.
 
 use ties::rooms::faults;
-use ties::small::{assert_faults, Small};
+use ties::small::Trial;
 
 const GOOD: &str = "crates/table/specs/Good.antt";
 const CHECK: &str = "crates/table/specs/Check.antt";
@@ -21,23 +21,21 @@ const FILES: [(&str, &str); 5] = [
     ),
 ];
 
-fn after(name: &str, path: &str, old: &str, new: &str, expected: &[&str]) {
-    assert_faults(&faults(&Small::new(name, &FILES).change(path, old, new).tree()), expected);
-}
+const TRIAL: Trial = Trial { files: &FILES, faults };
 
 #[test]
 fn nothing_where_all_is_well() {
-    assert_faults(&faults(&Small::new("rooms", &FILES).tree()), &[]);
+    TRIAL.well("rooms");
 }
 
 #[test]
 fn a_definition_that_names_a_law() {
-    after("law", GOOD, "specs.Layout.", "specs.laws.Layout.", &["table/Good names a law"]);
-    after("other", CHECK, "laws.Decided", "laws.Deep", &["table/Check names a law"]);
+    TRIAL.after("law", GOOD, "specs.Layout.", "specs.laws.Layout.", &["table/Good names a law"]);
+    TRIAL.after("other", CHECK, "laws.Decided", "laws.Deep", &["table/Check names a law"]);
 }
 
 #[test]
 fn a_public_contract_that_names_a_law() {
-    after("contract", WHOLE, "Good r Deeper", "Good r Deep", &["the contract of check names `Deep`"]);
-    after("alias", WHOLE, "Good r Deeper", "Good (Away)", &["the contract of check names `Away`"]);
+    TRIAL.after("contract", WHOLE, "Good r Deeper", "Good r Deep", &["the contract of check names `Deep`"]);
+    TRIAL.after("alias", WHOLE, "Good r Deeper", "Good (Away)", &["the contract of check names `Away`"]);
 }

@@ -1,6 +1,6 @@
 //! Whether wrong programs are tried, on a small tree: nothing is found where all is well, and a function without one is.
 
-use ties::small::{assert_faults, Small};
+use ties::small::Trial;
 use ties::tried::faults;
 
 const SUMS: &str = "crates/sums/src/sums.rt";
@@ -18,24 +18,22 @@ const FILES: [(&str, &str); 2] = [
 
 const UNTRIED: [&str; 1] = ["no must-fail edit changes the body of one"];
 
-fn after(name: &str, path: &str, old: &str, new: &str, expected: &[&str]) {
-    assert_faults(&faults(&Small::new(name, &FILES).change(path, old, new).tree()), expected);
-}
+const TRIAL: Trial = Trial { files: &FILES, faults };
 
 #[test]
 fn nothing_where_all_is_well() {
-    assert_faults(&faults(&Small::new("tried", &FILES).tree()), &[]);
+    TRIAL.well("tried");
 }
 
 #[test]
 fn a_function_without_an_edit() {
-    assert_faults(&faults(&Small::new("untried", &FILES).remove(EDIT).tree()), &UNTRIED);
-    after("public", SUMS, "fn own()", "pub fn own()", &["the body of own"]);
+    TRIAL.found(&TRIAL.whole("untried").remove(EDIT), &UNTRIED);
+    TRIAL.after("public", SUMS, "fn own()", "pub fn own()", &["the body of own"]);
 }
 
 #[test]
 fn an_edit_elsewhere() {
-    after("statement", EDIT, "old:     1 + 0", "old:     ensures { λ r. ⌜ r ≡ 1 ⌝ }", &UNTRIED);
-    after("callee", EDIT, "old:     1 + 0", "old:     7", &UNTRIED);
-    after("file", EDIT, "src/sums.rt", "src/other.rt", &UNTRIED);
+    TRIAL.after("statement", EDIT, "old:     1 + 0", "old:     ensures { λ r. ⌜ r ≡ 1 ⌝ }", &UNTRIED);
+    TRIAL.after("callee", EDIT, "old:     1 + 0", "old:     7", &UNTRIED);
+    TRIAL.after("file", EDIT, "src/sums.rt", "src/other.rt", &UNTRIED);
 }

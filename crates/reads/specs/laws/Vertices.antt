@@ -9,7 +9,6 @@ use mathlib.Core.List.{List, [], _∷_}
 use mathlib.Core.Logic.{_≢_}
 use lib.Dec.{ltb}
 use borrow.Author.Tests.{eq-eqb, ne-eqb, lt-ltb, le-ltb}
-use Rattle.orbits.specs.laws.Truth.{both-left}
 use Rattle.orbits.specs.Iterate.{iter}
 use Rattle.orbits.specs.laws.Iterate.{period-le}
 use Rattle.table.specs.Layout.{darts, vertices, nothing, isolated, nextWord, leaves, vertexWord, Live}
@@ -24,16 +23,7 @@ use Rattle.table.specs.laws.Blocks.{vertexBlocks, LooseBlock}
 use Rattle.table.specs.declared.counted.Counted.{Counted}
 use Rattle.table.specs.declared.counted.Counted.the-variants.{Broken, Of}
 use Rattle.reads.specs.Reads.{reading, cycleTest, leadsNone, leadTests, vertexTests, vertexIn, vertexBlock, readsOf, passAll, allBelow, readsBelow}
-use Rattle.reads.specs.laws.Tests.{Told, told-all, told-goes, told-end, told-differs, told-same, told-past, told-low, Going, going-stops, true-case, both-case, all-case}
-
--- tests of a word each read as many words as there are, if all pass
-ones : (q : ℕ → Bool) (n : ℕ) → allBelow q n ≡ true → readsBelow (λ k. reading 1 (q k)) n ≡ n
-unfolding allBelow readsBelow
-ones q zero e = refl
-ones q (suc n) e =
-    let a = both-left (allBelow q n) (q n) e in
-    let s = ones q n a in
-    rw a (omega (arith, s))
+use Rattle.reads.specs.laws.Tests.{below-exact, Told, told-all, told-goes, told-end, told-differs, told-same, told-past, told-low, Going, going-stops, true-case, both-case, all-case}
 
 module _ (t : List ℕ) (r : Ruled t darts) (w : ℕ) (l : Live t w) where
   abbrev past : ℕ → Bool
@@ -51,7 +41,7 @@ module _ (t : List ℕ) (r : Ruled t darts) (w : ℕ) (l : Live t w) where
   cycle-reads n d o h =
       let some = o .some in
       let ahead = case-says (all-case {P = λ k. past k ≡ true} (n - 1) (λ k g. holds (round-past n d o k g) (round-past n d o k g))) (round-past n d o) in
-      let g : Going (λ k. reading 1 (past k)) (n - 1) 0 (n - 1) = record { passed = ahead; count = let s = ones past (n - 1) ahead in omega (arith, s) } in
+      let g : Going (λ k. reading 1 (past k)) (n - 1) 0 (n - 1) = record { passed = ahead; count = let s = below-exact (λ k. reading 1 (past k)) 1 (n - 1) (round-past n d o) (λ k h. refl) in omega (arith, s) } in
       let q : suc (n - 1) ≡ n = omega arith in
       let e = sym (iter-word t r n w l) ∙ o .at in
       let few = round-few n d o h in

@@ -5,7 +5,7 @@ use mathlib.Core.Bool.{Bool, true, false, not}
 use mathlib.Core.List.{List}
 use borrow.Author.Tests.{not-true, not-false}
 use Rattle.table.specs.Good.{Good}
-use Rattle.table.specs.laws.Rotation.{Case, case-yes, holds, fails}
+use Rattle.table.specs.laws.Rotation.{Case, case-yes, case-says, case-denies, holds, fails}
 use Rattle.table.specs.laws.Decided.{good-dec}
 use Rattle.table.specs.Check.{decided, good?}
 
@@ -19,16 +19,10 @@ good-case t = at (good-dec t)
 
 module _ (t : List ℕ) where
   pub good-yes : Good t → true ≡ good? t
-  good-yes g = elim (good-case t) [
-    | holds e _ ↦ sym e
-    | fails e n ↦ absurd (n g)
-  ]
+  good-yes g = sym (case-says (good-case t) g)
 
   pub good-no : (Good t → ⊥) → false ≡ good? t
-  good-no n = elim (good-case t) [
-    | holds e g ↦ absurd (n g)
-    | fails e _ ↦ sym e
-  ]
+  good-no n = sym (case-denies (good-case t) n)
 
 -- what an answer of the test tells
 pub seen-good : (t : List ℕ) {b : Bool} → b ≡ good? t → not b ≡ false → (good? t ≡ true) × Good t

@@ -74,24 +74,37 @@ CALL(parts, (table, WORDS, ours.counts, OUT), (table, WORDS, theirs.counts, OUT)
 CALL(alternates, (table, WORDS, 0, 0), (table, WORDS, 0, 0))
 CALL(plain, (table, WORDS), (table, WORDS))
 CALL(letters, (table, WORDS, 0, 0, ours.letters, LETTERS), (table, WORDS, 0, 0, theirs.letters, LETTERS))
-CALL(cut_length, (table, WORDS, 0, 0, lengths, PLANNER_EDGES), (table, WORDS, 0, 0, lengths, PLANNER_EDGES))
 CALL(float_path,
      (table, WORDS, 0, 0, points, 3 * PLANNER_VERTICES, lifts, 3 * PLANNER_EDGES, ours.words, OUT, ours.coords, 3 * OUT),
      (table, WORDS, 0, 0, points, 3 * PLANNER_VERTICES, lifts, 3 * PLANNER_EDGES, theirs.words, OUT, theirs.coords, 3 * OUT))
+
+/* Lengths, of a cut and in a tally, are not compared with an older build's: it may go by the rule before this one. */
+static int64_t cut(int64_t length) {
+    return OLDER && length > 0 ? 1 : length;
+}
+
+static int64_t our_cut_length(void) { return cut(planner_cut_length(table, WORDS, 0, 0, lengths, PLANNER_EDGES)); }
+static int64_t their_cut_length(void) { return cut(plain_cut_length(table, WORDS, 0, 0, lengths, PLANNER_EDGES)); }
+
+/* The answer of a step, and what it leaves, in one number; less than 0 if it was declined. */
+static int64_t stepped(int64_t ends, const struct planner_reader *reader, const struct planner_tally *tally) {
+    int64_t length = OLDER ? 0 : tally->length;
+    return ((2 * length + ends) * 100 + tally->overs) * 2 * PLANNER_DARTS + 2 * reader->dart + reader->type;
+}
 
 /* One step of a reader that is made anew, over a tally at zeros. */
 static int64_t our_walk_step(void) {
     struct planner_reader reader = {0, 0, 0, 0};
     struct planner_tally tally = {0, 0, 0, 0};
     int64_t ends = planner_walk_step(table, WORDS, &reader, lengths, PLANNER_EDGES, &tally);
-    return (100 * ends + tally.overs) * 2 * PLANNER_DARTS + 2 * reader.dart + reader.type;
+    return stepped(ends, &reader, &tally);
 }
 
 static int64_t their_walk_step(void) {
     struct planner_reader reader = {0, 0, 0, 0};
     struct planner_tally tally = {0, 0, 0, 0};
     int64_t ends = plain_walk_step(table, WORDS, &reader, lengths, PLANNER_EDGES, &tally);
-    return (100 * ends + tally.overs) * 2 * PLANNER_DARTS + 2 * reader.dart + reader.type;
+    return stepped(ends, &reader, &tally);
 }
 
 /* Two edits on each side, the second of which undoes the first. Their answers in one number, or -1 if one of them was declined; an older

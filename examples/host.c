@@ -1,8 +1,9 @@
 /*
  * A host to start from. It builds a small shell through the library and prints a line for each edit: how many faces there are
  * now, and why. Then it asks for the counts and prints the ribbon-lengths sheet, as CSV and as an aligned table: for each ribbon
- * its steps, overs, unders, whether it alternates, and the length of strip to cut, in millimetres; then the totals. Build it
- * with -I include and libplanner.a.
+ * its steps, overs, unders, whether it alternates, and what the saw takes, in millimetres: the strip along its sides, the
+ * allowance for its overs, the lap, and their total, the cut length; then the totals of all ribbons. Build it with -I include
+ * and libplanner.a.
  */
 #include "planner.h"
 
@@ -83,36 +84,56 @@ static void print_counts(void) {
            (int)counts[2], (int)counts[3], (int)counts[4], ask(planner_plain(table, WORDS), "plain") ? "plain" : "mixed");
 }
 
+/* Lengths in sixteenths of a millimetre. */
 struct row {
-    long steps, overs, unders, sixteenths;
+    long steps, overs, unders, strip, allowance, lap, total;
     int alternates;
 };
 
-/* The row of the ribbon through a step of so many steps. */
-static struct row row_of(uint16_t step, long steps) {
-    uint16_t dart = step / 2, type = step % 2;
-    struct row r = {0, 0, 0, 0, 0};
-    long i, n = (long)ask(planner_letters(table, WORDS, dart, type, letters, LETTERS), "letters");
-    r.steps = steps;
-    for (i = 0; i < n; i++) {
+/* The row of the ribbon of these steps, each 2*dart+type. The library answers the total; the host adds up the three parts
+   that the sheet shows, and ends if they are not the total. */
+static struct row row_of(const uint16_t *steps, long n_steps) {
+    const uint16_t dart = steps[0] / 2, type = steps[0] % 2;
+    struct row r = {0, 0, 0, 0, 0, 0, 0, 0};
+    long i, n_letters = (long)ask(planner_letters(table, WORDS, dart, type, letters, LETTERS), "letters");
+    r.steps = n_steps;
+    for (i = 0; i < n_letters; i++) {
         r.overs += letters[i] == 'O';
         r.unders += letters[i] == 'U';
     }
+    for (i = 0; i < n_steps; i++) {
+        r.strip += (long)lengths[steps[i] / 4]; /* dart d is on edge d/2 */
+    }
+    r.allowance = PLANNER_OVER_ALLOWANCE * r.overs;
+    r.lap = PLANNER_LAP;
+    r.total = (long)ask(planner_cut_length(table, WORDS, dart, type, lengths, PLANNER_EDGES), "cut length");
+    if (r.strip + r.allowance + r.lap != r.total) {
+        fprintf(stderr, "ribbon of dart %d: strip %ld, over-allowance %ld and lap %ld do not add up to %ld\n", (int)dart, r.strip,
+                r.allowance, r.lap, r.total);
+        exit(1);
+    }
     r.alternates = (int)ask(planner_alternates(table, WORDS, dart, type), "alternates");
-    r.sixteenths = (long)ask(planner_cut_length(table, WORDS, dart, type, lengths, PLANNER_EDGES), "cut length");
     return r;
 }
 
 /* Whole millimetres, and sixteenths as four decimals: nothing is rounded. */
-static void print_row(const char *format, const char *name, struct row r, const char *alternates) {
-    char length[32];
-    snprintf(length, sizeof length, "%ld.%04ld", r.sixteenths / 16, r.sixteenths % 16 * 625);
-    printf(format, name, r.steps, r.overs, r.unders, alternates, length);
+static const char *millimetres(long sixteenths, char *text, size_t size) {
+    snprintf(text, size, "%ld.%04ld", sixteenths / 16, sixteenths % 16 * 625);
+    return text;
+}
+
+static void print_row(const char *format, const char *name, struct row r) {
+    char texts[4][32];
+    const char *strip = millimetres(r.strip, texts[0], sizeof texts[0]);
+    const char *allowance = millimetres(r.allowance, texts[1], sizeof texts[1]);
+    const char *lap = millimetres(r.lap, texts[2], sizeof texts[2]);
+    const char *total = millimetres(r.total, texts[3], sizeof texts[3]);
+    printf(format, name, r.steps, r.overs, r.unders, r.alternates ? "yes" : "no", strip, allowance, lap, total);
 }
 
 /* The sheet, a line for each listed walk that has steps, then the totals. */
 static void print_sheet(const char *format) {
-    struct row total = {0, 0, 0, 0, 1};
+    struct row total = {0, 0, 0, 0, 0, 0, 0, 1};
     long at = 0, ribbon = 0, n = (long)ask(planner_listing(table, WORDS, listing, LISTING), "listing");
     while (at < n) {
         long steps = listing[at++];
@@ -120,26 +141,30 @@ static void print_sheet(const char *format) {
             at++;
             continue;
         }
-        struct row r = row_of(listing[at], steps);
+        struct row r = row_of(listing + at, steps);
         char name[16];
         snprintf(name, sizeof name, "%ld", ribbon++);
-        print_row(format, name, r, r.alternates ? "yes" : "no");
+        print_row(format, name, r);
         total.steps += r.steps;
         total.overs += r.overs;
         total.unders += r.unders;
-        total.sixteenths += r.sixteenths;
+        total.strip += r.strip;
+        total.allowance += r.allowance;
+        total.lap += r.lap;
+        total.total += r.total;
         total.alternates &= r.alternates;
         at += steps;
     }
-    print_row(format, "total", total, total.alternates ? "yes" : "no");
+    print_row(format, "total", total);
 }
 
 int main(void) {
     build();
     print_counts();
-    printf("ribbon,steps,overs,unders,alternates,millimetres\n");
-    print_sheet("%s,%ld,%ld,%ld,%s,%s\n");
-    printf("\n%-8s%8s%8s%8s%12s%14s\n", "ribbon", "steps", "overs", "unders", "alternates", "millimetres");
-    print_sheet("%-8s%8ld%8ld%8ld%12s%14s\n");
+    printf("ribbon,steps,overs,unders,alternates,strip mm,over-allowance mm,lap mm,total mm\n");
+    print_sheet("%s,%ld,%ld,%ld,%s,%s,%s,%s,%s\n");
+    printf("\n%-8s%6s%7s%8s%12s%12s%19s%9s%12s\n", "ribbon", "steps", "overs", "unders", "alternates", "strip mm",
+           "over-allowance mm", "lap mm", "total mm");
+    print_sheet("%-8s%6ld%7ld%8ld%12s%12s%19s%9s%12s\n");
     return 0;
 }

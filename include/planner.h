@@ -212,11 +212,16 @@ int64_t planner_plain(const uint16_t *table, size_t words);
 int64_t planner_letters(const uint16_t *table, size_t words, uint16_t dart, uint16_t type, uint8_t *out, size_t out_bytes);
 
 /*
- * Cut length of the ribbon through the step: the sum over its steps of edge lengths, in sixteenths of a millimetre; it
- * fits 32 bits. lengths[e] is edge e's, from 1 to 65535 for an edge on the ribbon; those of other edges are not looked at.
+ * Cut length of the ribbon through the step, as the saw takes it: the sum of edge lengths, one for each step, plus
+ * PLANNER_OVER_ALLOWANCE for each O among the ribbon's letters, plus PLANNER_LAP once, for a ribbon without letters too. In
+ * sixteenths of a millimetre; it fits 32 bits. It is the same for every step that names the ribbon, in either sense.
+ * lengths[e] is edge e's, from 1 to 65535 for an edge on the ribbon; those of other edges are not looked at. An isolated vertex
+ * has no ribbon, and so no step that names one.
  * Declines besides: PLANNER_SHORT_SLICE (fewer than PLANNER_EDGES lengths); PLANNER_FAR (an edge on the ribbon out of
  * that range).
  */
+#define PLANNER_OVER_ALLOWANCE 8 /* a strand that rides over takes up more strip: half a millimetre */
+#define PLANNER_LAP 320          /* a ribbon is closed with a lap: 20 millimetres */
 int64_t planner_cut_length(const uint16_t *table, size_t words, uint16_t dart, uint16_t type, const uint32_t *lengths,
                            size_t n_lengths);
 
@@ -242,15 +247,17 @@ int64_t planner_float_path(const uint16_t *table, size_t words, uint16_t dart, u
  * A walk, one step at a time. The host keeps a reader: dart and type of the step that it hands out next, dart and type of
  * the step that its walk began at. To begin, set both pairs to one step of the walk. A call hands out the step that the
  * reader stands at, which the host reads there before the call, moves the reader on, and brings the tally forward by the
- * step handed out: steps by 1, overs and unders by its letters, length by its edge's length. Answers 1 if the walk ends at
- * that step, that is, if the reader now stands at its start, else 0; the step after the last is the first again. A reader
- * whose start is not on the walk of its step goes round that walk and never answers 1.
+ * step handed out: steps by 1, overs and unders by its letters, length by its edge's length, PLANNER_OVER_ALLOWANCE for each O
+ * of the step and, with the walk's last step, PLANNER_LAP. Answers 1 if the walk ends at that step, that is, if the reader now
+ * stands at its start, else 0; the step after the last is the first again, and every time round has its lap. A reader whose
+ * start is not on the walk of its step goes round that walk, never answers 1, and has no lap.
  * Every call checks the table, so a whole walk costs its number of steps times the check; planner_listing, planner_letters
  * and planner_cut_length check it once.
  * Declines, in this order: PLANNER_TORN; PLANNER_NO_SUCH_NAME, then PLANNER_ABSENT (the step or the start);
  * PLANNER_SHORT_SLICE (fewer than PLANNER_EDGES lengths); PLANNER_FAR (the length of the step's own edge is not from 1 to
  * 65535); PLANNER_OVERTURNED (a field of the tally would pass 32 bits). Then neither the reader nor the tally has changed.
- * A tally begun at zeros fits over one walk. Neither `reader` nor `tally` may be NULL.
+ * A tally begun at zeros fits over one walk, and its length is then the ribbon's cut length. Neither `reader` nor `tally` may
+ * be NULL.
  */
 struct planner_reader {
     uint16_t dart, type, start_dart, start_type;

@@ -4,10 +4,10 @@ use crate::plane::{arc, direction, p, polar, sine, P};
 use crate::poles::pole;
 use crate::svg::{pen, Anchor, Pen, Picture, BLACK, GREY, LIGHT};
 use crate::tables::{add, insert, lone, made};
-use reference::length::cut_length;
+use reference::length::{cut_length, LAP, PER_OVER};
 use reference::table::*;
 use reference::trace::{corner_met, step, step_after, walk_from, Step};
-use reference::weave::{letters_along, step_letters, Letter};
+use reference::weave::{count, letters_along, step_letters, Letter};
 
 const BAND: &str = "#e8e8e8";
 const BOLD: Pen = pen(3.4, BLACK);
@@ -289,25 +289,48 @@ fn one_step(picture: &mut Picture, corner: P, table: &[u16], s: Step) {
 /// The length of the loop's strip in the picture, in sixteenths of a millimetre.
 const LOOP_LENGTH: u32 = 600 * 16;
 
+/// What the saw takes for these steps of the loop, in sixteenths of a millimetre: strip, over-allowance, lap.
+fn sawn(table: &[u16], steps: &[Step]) -> [u32; 3] {
+    [steps.len() as u32 * LOOP_LENGTH, PER_OVER * count(&letters_along(table, steps), Letter::O), LAP]
+}
+
+/// Sixteenths as millimetres; nothing is rounded.
+fn millimetres(sixteenths: u32) -> f64 {
+    f64::from(sixteenths) / 16.0
+}
+
+/// "600 + 0.5 + 20 = 620.5 mm"
+fn sum(parts: [u32; 3]) -> String {
+    let [strip, allowance, lap] = parts.map(millimetres);
+    format!("{strip} + {allowance} + {lap} = {} mm", millimetres(parts.iter().sum()))
+}
+
 pub fn half_length() -> Picture {
     let table = made(&[add(0), insert(0, lone(0), lone(0), 1)]);
     let walk = walk_from(&table, step(0, 0));
     let mut lengths = vec![0; EDGES];
     lengths[0] = LOOP_LENGTH;
-    let whole = cut_length(&table, 0, 0, &lengths).expect("a ribbon") / 16;
+    let whole = sawn(&table, &walk);
+    assert_eq!(cut_length(&table, 0, 0, &lengths), Ok(whole.iter().sum()), "its parts add up to the cut length");
     // The mistake: to stop at the starting dart, whatever the type.
     let stopped =
         1 + walk[1..].iter().position(|s| s.dart == walk[0].dart).expect("the dart again, with the other type");
-    let half = stopped as u32 * LOOP_LENGTH / 16;
+    let half = sawn(&table, &walk[..stopped]);
+    assert_eq!(2 * half[0], whole[0], "half of the strip is missing");
     let mut picture = Picture::new(
         800.0,
-        460.0,
+        482.0,
         "The ribbon that was cut at half its length",
         &format!(
             "A loop with one turn, its strip {} mm long. Left, wrong: the walk is stopped when it comes to its strip again; it is on \
-             the other side, and the ribbon is cut at {half} mm. Right: the walk goes on to its strip and side; the ribbon is \
-             {whole} mm long.",
-            LOOP_LENGTH / 16
+             the other side, and the ribbon is cut with {} mm of strip. Right: the walk goes on to its strip and side; the ribbon has \
+             {} mm of strip. With half a millimetre for the O and the lap of {} mm the saw takes {} and {} mm.",
+            LOOP_LENGTH / 16,
+            millimetres(half[0]),
+            millimetres(whole[0]),
+            millimetres(LAP),
+            millimetres(half.iter().sum()),
+            millimetres(whole.iter().sum())
         ),
     );
     let strip_words = format!("A loop with {}, its strip {} mm long", turns_words(turns(&table, 0)), LOOP_LENGTH / 16);
@@ -342,7 +365,7 @@ pub fn half_length() -> Picture {
             picture.label(last - p(0.0, 84.0), 13.0, "is back at its strip,");
             picture.label(last - p(0.0, 66.0), 13.0, "but on the other side");
         }
-        let (title, by, length) = if right {
+        let (title, by, parts) = if right {
             ("Right", "closed by strip and side", whole)
         } else {
             ("Wrong", "closed by the strip alone", half)
@@ -352,13 +375,9 @@ pub fn half_length() -> Picture {
         picture.typed(p(x, 400.0), Anchor::Middle, 15.0, &fields.join("  "));
         let letters: Vec<&str> = letters_along(&table, all).into_iter().map(letter).collect();
         let steps = format!("{} step{}", all.len(), if all.len() == 1 { "" } else { "s" });
-        picture.text(
-            p(x, 424.0),
-            Anchor::Middle,
-            14.0,
-            &format!("{steps}, letters {}, {length} mm", letters.join(" ")),
-        );
+        picture.text(p(x, 424.0), Anchor::Middle, 14.0, &format!("{steps}, letters {}", letters.join(" ")));
+        picture.text(p(x, 446.0), Anchor::Middle, 13.0, &format!("strip, over, lap: {}", sum(parts)));
     }
-    picture.text(p(600.0, 446.0), Anchor::Middle, 12.0, "solid: step 0/0; double: step 0/1");
+    picture.text(p(600.0, 468.0), Anchor::Middle, 12.0, "solid: step 0/0; double: step 0/1");
     picture
 }

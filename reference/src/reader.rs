@@ -1,9 +1,9 @@
 //! The walk reader, and the tally that its steps bring forward.
 
-use crate::length::{edge_length, lengths_are_there};
+use crate::length::{edge_length, lengths_are_there, LAP, PER_OVER};
 use crate::refusal::Refusal;
 use crate::trace::{named_step, named_steps, step_after, Step};
-use crate::weave::{step_letters, Letter};
+use crate::weave::{count, step_letters, Letter};
 
 /// "steps, overs, unders, length", each of 32 bits.
 #[derive(Clone, Copy, Debug, Default, PartialEq, Eq)]
@@ -50,18 +50,21 @@ impl<'a> Reader<'a> {
 pub fn read_step(table: &[u16], start: Step, at: Step, lengths: &[u32], tally: &mut Tally) -> Result<Read, Refusal> {
     named_steps(table, &[start, at].map(|s| (s.dart, s.t as u16)))?;
     lengths_are_there(lengths)?;
-    let length = edge_length(lengths, at.edge())?;
-    *tally = brought_forward(*tally, &step_letters(table, at), length).ok_or(Refusal::Overturned)?;
-    Ok(Read { step: at, ends: step_after(table, at) == start })
+    let edge = edge_length(lengths, at.edge())?;
+    let ends = step_after(table, at) == start;
+    *tally = brought_forward(*tally, &step_letters(table, at), edge, ends).ok_or(Refusal::Overturned)?;
+    Ok(Read { step: at, ends })
 }
 
-/// The tally with one step more, if no field passes 32 bits.
-fn brought_forward(tally: Tally, letters: &[Letter], length: u32) -> Option<Tally> {
-    let count = |letter: Letter| letters.iter().filter(|&&l| l == letter).count() as u32;
+/// The tally with one step more, if no field passes 32 bits. Its length goes by the rule of document 02, request d: the
+/// edge's length, 8 for each O of the step, and "the lap enters the tally with the walk's last step".
+fn brought_forward(tally: Tally, letters: &[Letter], edge: u32, ends: bool) -> Option<Tally> {
+    let (overs, unders) = (count(letters, Letter::O), count(letters, Letter::U));
+    let lap = if ends { LAP } else { 0 };
     Some(Tally {
         steps: tally.steps.checked_add(1)?,
-        overs: tally.overs.checked_add(count(Letter::O))?,
-        unders: tally.unders.checked_add(count(Letter::U))?,
-        length: tally.length.checked_add(length)?,
+        overs: tally.overs.checked_add(overs)?,
+        unders: tally.unders.checked_add(unders)?,
+        length: tally.length.checked_add(edge + PER_OVER * overs + lap)?,
     })
 }

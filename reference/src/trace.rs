@@ -72,3 +72,12 @@ pub fn corner_met(table: &[u16], s: Step) -> Dart {
         next(table, s.dart)
     }
 }
+
+/// "Every face is traced in two senses": the step of the other sense that meets the same corner.
+pub fn other_sense(table: &[u16], s: Step) -> Step {
+    if s.t == 0 {
+        step(previous(table, s.dart), 1)
+    } else {
+        step(next(table, s.dart), 0)
+    }
+}

@@ -34,6 +34,11 @@ pub fn letters_along(table: &[u16], steps: &[Step]) -> Vec<Letter> {
     steps.iter().flat_map(|&s| step_letters(table, s)).collect()
 }
 
+/// How many of the letters are this one.
+pub fn count(letters: &[Letter], letter: Letter) -> u32 {
+    letters.iter().filter(|&&l| l == letter).count() as u32
+}
+
 /// "It alternates if cyclic neighbours among its letters differ; none counts as alternating."
 pub fn alternate(letters: &[Letter]) -> bool {
     (0..letters.len()).all(|i| letters[i] != letters[(i + 1) % letters.len()])

@@ -103,7 +103,8 @@ static void try_the_counts(void) {
    corners having types 0 and 1; edge 2 joins vertex 1's face to another.
    From (0, 1): type 0, next after 1 is 4; (4, 0): type stays, next after 5 is 5; (5, 0): next after 4 is 2; (2, 0): type 1, before 3 is 0; (0, 1).
    From (1, 0): type 1, before 0 is 2; (2, 1): type 0, next after 3 is 1; (1, 0).
-   Letters of (0, 1): U; (4, 0) with turns -2: U O; (5, 0): U O; (2, 0): O. Letters of (1, 0): O; (2, 1): U. */
+   Letters of (0, 1): U; (4, 0) with turns -2: U O; (5, 0): U O; (2, 0): O. Letters of (1, 0): O; (2, 1): U.
+   Cut lengths: the edges, 8 for each O, 320 for the lap. The first ribbon has three O's, the second one. */
 static void try_dart_and_type(void) {
     static uint32_t lengths[PLANNER_EDGES];
     static int32_t points[3 * PLANNER_VERTICES], lifts[3 * PLANNER_EDGES];
@@ -117,8 +118,8 @@ static void try_dart_and_type(void) {
     lengths[0] = 1;
     lengths[1] = 10;
     lengths[2] = 100;
-    check(planner_cut_length(table, WORDS, 0, 1, lengths, PLANNER_EDGES) == 1 + 100 + 100 + 10, "cut length of dart 0, type 1");
-    check(planner_cut_length(table, WORDS, 1, 0, lengths, PLANNER_EDGES) == 1 + 10, "cut length of dart 1, type 0");
+    check(planner_cut_length(table, WORDS, 0, 1, lengths, PLANNER_EDGES) == 1 + 100 + 100 + 10 + 3 * 8 + 320, "cut length of dart 0, type 1");
+    check(planner_cut_length(table, WORDS, 1, 0, lengths, PLANNER_EDGES) == 1 + 10 + 8 + 320, "cut length of dart 1, type 0");
     check(planner_float_path(table, WORDS, 0, 1, points, 1536, lifts, 3072, kinds, 5, coords, 15) == -PLANNER_MANY_TURNS &&
               planner_float_path(table, WORDS, 1, 0, points, 1536, lifts, 3072, kinds, 5, coords, 15) == 3,
           "float path: dart and type");
@@ -196,7 +197,8 @@ static int counted(uint32_t steps, uint32_t overs, uint32_t unders, uint32_t len
     return tally.steps == steps && tally.overs == overs && tally.unders == unders && tally.length == length;
 }
 
-/* The walk of the chain, step by step, with lengths 100, 1,000 and 10,000; the tally begins at four different numbers. */
+/* The walk of the chain, step by step, with lengths 100, 1,000 and 10,000; the tally begins at four different numbers. A step brings its edge's
+   length, 8 if it goes over, and 320 if it is the last. */
 static void try_the_reader(void) {
     const uint32_t most = 4294967295u;
     lengths[0] = 100;
@@ -205,9 +207,9 @@ static void try_the_reader(void) {
     check(build_the_chain(), "the chain again");
     stand(4, 1, 3, 1);
     count_from(5, 70, 900, 11000);
-    check(step() == 0 && stands(5, 0, 3, 1) && counted(6, 71, 900, 21000), "step (4, 1) goes over on edge 2, and (5, 0) comes next");
-    check(step() == 1 && stands(3, 1, 3, 1) && counted(7, 71, 901, 31000), "step (5, 0) goes under, and the walk ends there");
-    check(step() == 0 && stands(1, 1, 3, 1) && counted(8, 71, 901, 32000), "step (3, 1) is flat");
+    check(step() == 0 && stands(5, 0, 3, 1) && counted(6, 71, 900, 21008), "step (4, 1) goes over on edge 2, and (5, 0) comes next");
+    check(step() == 1 && stands(3, 1, 3, 1) && counted(7, 71, 901, 31328), "step (5, 0) goes under, and the walk ends there with the lap");
+    check(step() == 0 && stands(1, 1, 3, 1) && counted(8, 71, 901, 32328), "step (3, 1) is flat");
     /* The step and the start, exchanged: after (2, 1) comes (4, 1), and after (4, 1) comes (5, 0). */
     stand(2, 1, 4, 1);
     check(step() == 1, "a reader at (2, 1) that began at (4, 1) ends");
@@ -218,16 +220,22 @@ static void try_the_reader(void) {
     check(step() == 1 && stands(0, 1, 0, 1), "a reader at (1, 0) that began at (0, 1) ends");
     stand(1, 0, 1, 0);
     check(step() == 0 && stands(0, 1, 1, 0), "a reader at (1, 0) that began there goes on");
-    /* Step (4, 1) adds 1 to the steps and the overs, 0 to the unders and 10,000 to the length: one field at a time has no room for it. */
+    /* Step (4, 1) adds 1 to the steps and the overs, 0 to the unders and 10,008 to the length: one field at a time has no room for it. */
     stand(4, 1, 4, 1);
     count_from(most, 0, 0, 0);
     check(step() == -PLANNER_OVERTURNED && counted(most, 0, 0, 0), "no room for the steps");
     count_from(0, most, 0, 0);
     check(step() == -PLANNER_OVERTURNED && counted(0, most, 0, 0) && stands(4, 1, 4, 1), "no room for the overs");
-    count_from(0, 0, 0, most - 9999);
-    check(step() == -PLANNER_OVERTURNED, "no room for the length");
-    count_from(0, 0, most, most - 10000);
+    count_from(0, 0, 0, most - 10007);
+    check(step() == -PLANNER_OVERTURNED && counted(0, 0, 0, most - 10007), "no room for the length");
+    count_from(0, 0, most, most - 10008);
     check(step() == 0 && counted(1, 1, most, most), "the unders need none");
+    /* Step (1, 0) that began at (0, 1) is the last and goes over: 100 + 8 + 320. */
+    stand(1, 0, 0, 1);
+    count_from(0, 0, 0, most - 427);
+    check(step() == -PLANNER_OVERTURNED && counted(0, 0, 0, most - 427) && stands(1, 0, 0, 1), "no room for all of length, O and lap");
+    count_from(0, 0, 0, most - 428);
+    check(step() == 1 && counted(1, 1, 0, most) && stands(0, 1, 0, 1), "room for all of them");
 }
 
 int main(void) {

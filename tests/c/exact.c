@@ -312,8 +312,9 @@ static void fill_lengths(uint32_t length) {
 }
 
 static void try_the_lengths(void) {
+    /* Four edges, one O, the lap. */
     fill_lengths(65535);
-    check(cut_length(0, 0) == 4 * 65535 && cut_length(2046, 1) == 4 * 65535, "a cut length");
+    check(cut_length(0, 0) == 4 * 65535 + 8 + 320 && cut_length(2046, 1) == 4 * 65535 + 8 + 320, "a cut length");
     n_lengths = PLANNER_EDGES - 1;
     check(cut_length(0, 0) == -7 && step_at(0, 0) == -7, "1,023 lengths: 7");
     n_lengths = 0;
@@ -356,13 +357,21 @@ static void try_the_reader(void) {
     while (steps < 4 && walk_step() == 0) {
         steps++;
     }
-    check(steps == 2 && tally.steps == 4 && tally.overs == 1 && tally.unders == 1 && tally.length == 4, "and three more, to the end");
+    /* Four lengths of 1, one O, the lap. */
+    check(steps == 2 && tally.steps == 4 && tally.overs == 1 && tally.unders == 1 && tally.length == 4 + 8 + 320, "and three more, to the end");
     reader.start_dart = 2048;
     check(walk_step() == -2, "a start that is no dart: 2");
     reader.start_dart = 2045;
     check(walk_step() == -4, "a start that is absent: 4");
     tally.steps = 4294967295u;
     check(step_at(0, 0) == -6, "a tally that is full: 6");
+    /* Step (1, 1) that began at (0, 0) is the last: 1 and the lap. */
+    memset(&tally, 0, sizeof tally);
+    reader.dart = reader.type = 1;
+    tally.length = 4294967295u - 320;
+    check(walk_step() == -6, "a length without room for the lap: 6");
+    tally.length = 4294967295u - 321;
+    check(walk_step() == 1 && tally.length == 4294967295u, "a length with just that room");
     memset(&tally, 0, sizeof tally);
 }
 

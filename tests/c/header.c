@@ -113,10 +113,16 @@ static void try_the_forecasts(void) {
     check(PLANNER_FACES_BEFORE(bare != 0 ? largest : bare) == 1536 && 2 * PLANNER_FACES_BEFORE(largest) == 3072, "the macro and expressions");
 }
 
+/* Document 02: "8 sixteenths for each O on the ribbon", "320 for the lap", which is "a lap of 20 mm". */
+static void try_the_lengths(void) {
+    check(PLANNER_OVER_ALLOWANCE == 8 && PLANNER_LAP == 320 && PLANNER_LAP == 16 * 20, "8 for each O, 320 for the lap");
+}
+
 int main(void) {
     try_empty();
     try_check();
     try_the_rules();
     try_the_forecasts();
+    try_the_lengths();
     return verdict();
 }

@@ -39,7 +39,9 @@ static void *lend(size_t bytes) {
 static uint16_t *table;
 static int64_t answers[24];
 
-/* A chain through all vertices, and loops in the corner of dart 0 for the other edges, every one with one turn: all names are used. */
+/* A chain through all vertices, and loops in the corner of dart 0 for the other edges, every one with one turn: all names are used. Each strip
+   of the chain joins a vertex's face, and each loop leaves one face one, so there is one ribbon, of 2,048 steps. It passes every edge twice,
+   once over and once under: 1,024 O's. */
 static int build(void) {
     uint16_t i;
     int fine = planner_empty(table, WORDS) == 0;
@@ -149,6 +151,7 @@ static void measure(void) {
 }
 
 int main(void) {
+    const int64_t length = 2048 * 65535 + 1024 * 8 + 320; /* the edges, the O's, the lap */
     int i, fine = 1;
     page = (size_t)sysconf(_SC_PAGESIZE);
     table = (uint16_t *)lend(WORDS * sizeof *table);
@@ -160,9 +163,9 @@ int main(void) {
     on_small_stack(calls_that_read);
     check(answers[0] == 0 && answers[1] == (int64_t)words && answers[2] == 5 && answers[3] == 6, "the listing, the counts, the part");
     check(answers[4] == 1 && answers[5] == 1 && answers[6] == (int64_t)steps, "one hand: the ribbons alternate");
-    check(answers[7] == 65535 * (int64_t)steps && answers[8] == (int64_t)steps + 1, "a cut length and a float path");
+    check(steps == 2048 && answers[7] == length && answers[8] == 2049, "a cut length and a float path");
     on_small_stack(read_a_walk);
-    check(answers[16] == 1 && tally->steps == steps && tally->overs + tally->unders == steps && tally->length == 65535 * steps,
+    check(answers[16] == 1 && tally->steps == 2048 && tally->overs == 1024 && tally->unders == 1024 && tally->length == length,
           "the walk again, step by step, with its tally");
     on_small_stack(calls_that_forecast);
     for (i = 17; i < 23; i += 2) {

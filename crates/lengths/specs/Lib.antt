@@ -1,2 +1,3 @@
 pub mod CutLength
 pub mod laws
+pub mod Theorems

@@ -1,5 +1,7 @@
-// The cut length of a ribbon: the sum of the lengths of the edges that its steps are on.
+// The cut length of a ribbon, as the saw takes it: the lengths of the edges that its steps are on, an allowance for each O, and the lap.
 use letters::call::named_step;
+use letters::letter::edge_word;
+use letters::letter::overs;
 use table::answer::Answer;
 use table::answer::Refusal;
 use table::layout::EDGES;
@@ -8,9 +10,7 @@ use weave::named::Named;
 ghost use Prim.Native.Nat.{_≤_};
 ghost use mathlib.Core.Path.{_≡_};
 ghost use lib.ListN.{length};
-ghost use Rattle.table.specs.Rotation.{rotation};
 ghost use Rattle.walks.specs.laws.Stands.{Stands};
-ghost use Rattle.tracing.specs.Walk.{walk};
 ghost use Rattle.lengths.specs.CutLength.{lengthAlong, cutLengthOf};
 ghost use Rattle.table.specs.Layout.{edges};
 
@@ -19,10 +19,15 @@ pub const SHORTEST: u32 = 1;
 
 pub const LONGEST: u32 = 65535;
 
+// What a strand that rides over takes up, and the lap that closes a ribbon, in sixteenths of a millimetre.
+pub const OVER_ALLOWANCE: u32 = 8;
+
+pub const LAP: u32 = 320;
+
 // The cut length of the ribbon through step s, or a refusal for an edge whose length is out of range.
 fn length_along(t: &[u16], s: u16, lengths: &[u32]) -> Answer
     requires { ⌜ Stands (now t) s × (edges ≤ length (now lengths)) ⌝ }
-    ensures { λ r. ⌜ r ≡ lengthAlong (now (lengths .entry)) (walk (rotation (now (t .entry))) s) ⌝ }
+    ensures { λ r. ⌜ r ≡ lengthAlong (now (t .entry)) (now (lengths .entry)) s ⌝ }
 {
     let mut at = s;
     let mut sum: u32 = 0;
@@ -34,10 +39,12 @@ fn length_along(t: &[u16], s: u16, lengths: &[u32]) -> Answer
         if LONGEST < l {
             return Answer::Declined(Refusal::Far);
         }
-        sum += l;
+        let o = overs(edge_word(t, at), at % 2);
+        sum += l + OVER_ALLOWANCE * o as u32;
         at = step(t, at);
         if at == s {
-            return Answer::Done(sum);
+            let whole = sum + LAP;
+            return Answer::Done(whole);
         }
     }
 }

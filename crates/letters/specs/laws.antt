@@ -1,2 +1,3 @@
 pub mod Crossing
+pub mod Counts
 pub mod Passing

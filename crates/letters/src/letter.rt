@@ -1,7 +1,9 @@
 // The crossings of one step and their letters, from the word of its edge and its type.
+ghost use Prim.Native.Nat.{_<_};
 ghost use mathlib.Core.Path.{_≡_};
+ghost use Rattle.tracing.specs.Met.{times};
 ghost use Rattle.walks.specs.laws.Stands.{Stands};
-ghost use Rattle.weave.specs.Letters.{crossings as crossingsOf, letterAt};
+ghost use Rattle.weave.specs.Letters.{over, crossings as crossingsOf, letterAt, lettersOn};
 ghost use Rattle.letters.specs.laws.Crossing.{EdgeWord};
 use table::layout::EDGE;
 
@@ -45,4 +47,16 @@ pub fn letter(w: u16, kind: u16, j: u16) -> u8
         return UNDER;
     }
     OVER
+}
+
+// The number of O's among the letters of a step: every other one, from the first on if it is O.
+pub fn overs(w: u16, kind: u16) -> u16
+    requires { ⌜ kind < 2 ⌝ }
+    ensures { λ r. ⌜ r ≡ times over (lettersOn w kind) ⌝ }
+{
+    let n = crossings(w);
+    if UNTURNED < w {
+        return (n + 1 - kind) / 2;
+    }
+    (n + kind) / 2
 }

@@ -55,10 +55,14 @@ placed t at first =
 abbrev pub stays : Step → Tally → Refusal → Stepped
 stays at y r = record { answer = Declined r; at = at; tally = y }
 
--- the reader goes on to step `next`. "With each step it says whether the walk ends there": 1 if the next step is the one that it began at, dart and type, else 0
+-- "whether the walk ends there": is the next step the one that it began at, dart and type
+abbrev pub endsAt : ℕ → Step → Bool
+endsAt next first = eqb next (wordAt first)
+
+-- the reader goes on to step `next`. "With each step it says whether the walk ends there": 1 if it does, else 0
 abbrev pub goesOn : ℕ → Step → Tally → Stepped
 goesOn next first z = record {
-  answer = Done (bit (eqb next (wordAt first)));
+  answer = Done (bit (endsAt next first));
   at = stepAt next;
   tally = z;
 }
@@ -68,9 +72,13 @@ abbrev pub steppedBy : List ℕ → Step → Step → Tally → ℕ → Tallied 
 steppedBy t at first y s (Brought z) = goesOn (step (rotation t) s) first z
 steppedBy t at first y s (Kept r) = stays at y r
 
+-- the tally with step s more, which is "the walk's last step" if the walk ends there
+abbrev pub tallyAt : List ℕ → Step → ℕ → List ℕ → Tally → Tallied
+tallyAt t first s lengths y = tallyOf t s (endsAt (step (rotation t) s) first) lengths y
+
 -- the step, once its place is known
 abbrev pub stepBy : List ℕ → Step → Step → List ℕ → Tally → Named → Stepped
-stepBy t at first lengths y (There s) = steppedBy t at first y s (tallyOf t s lengths y)
+stepBy t at first lengths y (There s) = steppedBy t at first y s (tallyAt t first s lengths y)
 stepBy t at first lengths y (Refused r) = stays at y r
 
 -- one step of a reader that stands at `at` and whose walk began at `first`

@@ -4,6 +4,7 @@ use mathlib.Core.Path.{_≡_}
 use mathlib.Core.Bool.{false}
 use mathlib.Core.List.{List}
 use mathlib.Core.Logic.{_≢_}
+use lib.Dec.{eqb}
 use lib.ListN.{length}
 use Rattle.table.specs.Layout.{edges}
 use Rattle.table.specs.Rotation.{rotation}
@@ -11,11 +12,12 @@ use Rattle.table.specs.declared.answer.Answer.the-variants.{Done}
 use Rattle.tracing.specs.Walk.{walk}
 use Rattle.tracing.specs.Listing.{has}
 use Rattle.weave.specs.Ribbon.{some}
-use Rattle.lengths.specs.CutLength.{farLength}
+use Rattle.lengths.specs.CutLength.{farLength, cutLengthOf}
 use Rattle.reader.specs.declared.place.Step.{Step}
 use Rattle.tally.specs.declared.tally.Tally.{Tally}
-use Rattle.reader.specs.Reader.{wordAt, beginOf, EachStep}
-use Rattle.reader.specs.Walked.{stepsFrom, Walked}
+use Rattle.tally.specs.Forward.{stepTally}
+use Rattle.reader.specs.Reader.{wordAt, beginOf, stepOf, EachStep}
+use Rattle.reader.specs.Walked.{stepsFrom, afterSteps, Walked}
 use Rattle.reader.specs.laws.Reader as reader
 use Rattle.reader.specs.laws.Walked as walked
 use Rattle.reader.specs.laws.Elsewhere as elsewhere
@@ -24,10 +26,21 @@ use Rattle.reader.specs.laws.Elsewhere as elsewhere
 pub each-step : (t lengths : List ℕ) (y : Tally) → EachStep t lengths y
 each-step = reader.each-step
 
+-- "the lap enters the tally with the walk's last step": an accepted step adds its letters and its length, with the lap exactly if it answers 1
+pub step-tallied : (t : List ℕ) (at first : Step) (lengths : List ℕ) (y : Tally) (n : ℕ) → stepOf t at first lengths y .answer ≡ Done n
+    → stepOf t at first lengths y .tally ≡ stepTally t (wordAt at) (eqb n 1) lengths y
+step-tallied = reader.step-tallied
+
 -- over a whole walk, of a reader that can be made, with lengths that are there and none of the walk's edges out of range
 pub reader-walks : (t : List ℕ) (first : Step) (lengths : List ℕ) → beginOf t (first .dart) (first .kind) ≡ Done 0 → edges ≤ length lengths
     → some (farLength lengths) (walk (rotation t) (wordAt first)) ≡ false → Walked t first lengths
 reader-walks = walked.reader-walks
+
+-- at the walk's end the tally's length is the cut length: what the call for it answers
+pub tally-cut : (t : List ℕ) (first : Step) (lengths : List ℕ) → beginOf t (first .dart) (first .kind) ≡ Done 0 → edges ≤ length lengths
+    → some (farLength lengths) (walk (rotation t) (wordAt first)) ≡ false
+    → cutLengthOf t (first .dart) (first .kind) lengths ≡ Done (afterSteps t first lengths (length (walk (rotation t) (wordAt first))) .tally .length)
+tally-cut = walked.tally-cut
 
 -- a reader whose step is there and whose start is not on that step's walk never says that the walk ends
 pub never-ends : (t : List ℕ) (at first : Step) (lengths : List ℕ) (y : Tally) → beginOf t (at .dart) (at .kind) ≡ Done 0

@@ -11,7 +11,7 @@ use weave::named::Named;
 ghost use mathlib.Core.Path.{_≡_};
 ghost use Prim.Native.Nat.{_<_};
 ghost use Rattle.table.specs.Layout.{darts};
-ghost use Rattle.reader.specs.Reader.{goesOn as movedTo, stays as staysAt, stepOf};
+ghost use Rattle.reader.specs.Reader.{endsAt, goesOn as movedTo, stays as staysAt, stepOf};
 
 // The step handed out is the one that the reader stood at, and the answer is 1 where the walk ends there, else 0. `at` is where
 // the reader then stands. A declined step leaves it and the tally as they were.
@@ -32,12 +32,20 @@ fn stays(at: Step, y: Tally, r: Refusal) -> Stepped
     }
 }
 
-// The reader goes on to step `next`; the step handed out was the walk's last one if that is where the walk began.
+// Is the step that leads on to `next` the walk's last one: is that where the walk began.
+fn ends(next: u16, first: Step) -> bool
+    requires { ⌜ (first .dart < darts) × (first .kind < 2) ⌝ }
+    ensures { λ b. ⌜ b ≡ endsAt next first ⌝ }
+{
+    next == 2 * first.dart + first.kind
+}
+
+// The reader goes on to step `next`.
 fn moved(next: u16, first: Step, z: Tally) -> Stepped
     requires { ⌜ (first .dart < darts) × (first .kind < 2) ⌝ }
     ensures { λ q. ⌜ q ≡ movedTo next first z ⌝ }
 {
-    let end = next == 2 * first.dart + first.kind;
+    let end = ends(next, first);
     Stepped {
         answer: Answer::Done(end as u32),
         at: Step {
@@ -56,13 +64,12 @@ pub fn walk_step(t: &[u16], at: Step, first: Step, lengths: &[u32], y: Tally) ->
     match n {
         Named::Refused(r) => stays(at, y, r),
         Named::There(s) => {
-            let m = tally_step(t, s, lengths, y);
+            let next = step(t, s);
+            let last = ends(next, first);
+            let m = tally_step(t, s, last, lengths, y);
             match m {
                 Tallied::Kept(r) => stays(at, y, r),
-                Tallied::Brought(z) => {
-                    let next = step(t, s);
-                    moved(next, first, z)
-                }
+                Tallied::Brought(z) => moved(next, first, z),
             }
         }
     }

@@ -1,11 +1,10 @@
 -- The parts of a mesh, upward by their smallest vertices, document 01, "Counts".
 --     parts                the smallest vertices of the parts
 --     Together             two vertices are in one part
---     total                the sum over a list
-use Prim.Native.Nat.{ℕ, zero, suc, _+_}
+use Prim.Native.Nat.{ℕ, zero, suc}
 use mathlib.Core.Path.{_≡_}
 use mathlib.Core.Bool.{Bool, true, _&&_}
-use mathlib.Core.List.{List, [], _∷_, _++_}
+use mathlib.Core.List.{List, [], _++_}
 use lib.Dec.{eqb}
 use Rattle.table.specs.Layout.{vertices}
 use Rattle.table.specs.Rotation.{Rotation}
@@ -30,7 +29,3 @@ pub record Together (R : Rotation) (u v : ℕ) : Type 0 where
   pub listed : has part (parts R) ≡ true
   pub first : inPart R part u ≡ true
   pub second : inPart R part v ≡ true
-
-unfoldable pub total : (ℕ → ℕ) → List ℕ → ℕ
-total f [] = 0
-total f (x ∷ l) = f x + total f l

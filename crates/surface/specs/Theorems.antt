@@ -9,11 +9,11 @@ use lib.IntN.{pos}
 use Rattle.table.specs.Good.{Good}
 use Rattle.table.specs.Rotation.{Rotation, Lawful, rotation}
 use Rattle.tracing.specs.Listing.{has, faces, faceCount}
-use Rattle.tracing.specs.Met.{countIn, cornersOf, edgeCount}
+use Rattle.tracing.specs.Met.{countIn, cornersOf, total, edgeCount}
 use Rattle.surface.specs.Chain.{Chain, Orientable}
 use Rattle.surface.specs.Labels.{label, inPart, orientable}
 use Rattle.surface.specs.Counts.{cornerVertex, vertexCount, verticesIn, edgesIn, walksIn}
-use Rattle.surface.specs.Parts.{parts, total, Together}
+use Rattle.surface.specs.Parts.{parts, Together}
 use Rattle.surface.specs.Signed.{PartLaws, partEuler, meshEuler, totalℤ}
 use Rattle.surface.specs.laws.Labels as labels
 use Rattle.surface.specs.laws.Listed as listed

@@ -1,6 +1,6 @@
--- A tally brought forward by one step, document 01, "Corners and walks", and when the step is declined: 7, then 9, then 6.
+-- A tally brought forward by one step, document 01, "Corners and walks", with the length of document 02, d, and when the step is declined: 7, then 9, then 6.
 use Prim.Native.Nat.{ℕ, _+_}
-use mathlib.Core.Bool.{Bool, not, _&&_}
+use mathlib.Core.Bool.{Bool, true, false, not, _&&_}
 use mathlib.Core.List.{List}
 use lib.Dec.{ltb, leb}
 use lib.ListN.{length}
@@ -8,7 +8,7 @@ use Rattle.table.specs.Layout.{edges}
 use Rattle.table.specs.declared.answer.Refusal.the-variants.{Overturned, ShortSlice, Far}
 use Rattle.tracing.specs.Met.{times}
 use Rattle.weave.specs.Letters.{over, under, stepLetters}
-use Rattle.lengths.specs.CutLength.{lengthOf, farLength}
+use Rattle.lengths.specs.CutLength.{farLength, takenBy, lap}
 use Rattle.tally.specs.declared.tally.Tally.{Tally}
 use Rattle.tally.specs.declared.tally.Tallied.{Tallied}
 use Rattle.tally.specs.declared.tally.Tallied.the-variants.{Brought, Kept}
@@ -30,13 +30,22 @@ fits32 y = ltb (y .steps) past32 && (ltb (y .overs) past32 && (ltb (y .unders) p
 unfoldable pub forwardOf : Tally → ℕ → ℕ → ℕ → Tallied
 forwardOf y o u l = unless (fits32 (forward y o u l)) (Kept Overturned) (Brought (forward y o u l))
 
--- the tally with step s more: its letters, and its edge's length
-abbrev pub stepTally : List ℕ → ℕ → List ℕ → Tally → Tally
-stepTally t s lengths y = forward y (times over (stepLetters t s)) (times under (stepLetters t s)) (lengthOf lengths s)
+-- "the lap enters the tally with the walk's last step"
+abbrev pub lapAt : Bool → ℕ
+lapAt true = lap
+lapAt false = 0
+
+-- what step s adds to the length: what it takes up, and the lap if it is the walk's last one
+abbrev pub stepLength : List ℕ → ℕ → Bool → List ℕ → ℕ
+stepLength t s last lengths = takenBy t lengths s + lapAt last
+
+-- the tally with step s more: its letters and its length
+abbrev pub stepTally : List ℕ → ℕ → Bool → List ℕ → Tally → Tally
+stepTally t s last lengths y = forward y (times over (stepLetters t s)) (times under (stepLetters t s)) (stepLength t s last lengths)
 
 -- "7 if they are short, and 9 for its own edge's length alone, which a step tests before 6"
-unfoldable pub tallyOf : List ℕ → ℕ → List ℕ → Tally → Tallied
-tallyOf t s lengths y =
+unfoldable pub tallyOf : List ℕ → ℕ → Bool → List ℕ → Tally → Tallied
+tallyOf t s last lengths y =
     unless (leb edges (length lengths)) (Kept ShortSlice)
     (unless (not (farLength lengths s)) (Kept Far)
-    (forwardOf y (times over (stepLetters t s)) (times under (stepLetters t s)) (lengthOf lengths s)))
+    (forwardOf y (times over (stepLetters t s)) (times under (stepLetters t s)) (stepLength t s last lengths)))

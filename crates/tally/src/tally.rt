@@ -1,16 +1,15 @@
 // A tally, brought forward by one step: its letters are counted without a loop, and no field may pass 32 bits.
+use lengths::length::LAP;
 use lengths::length::LONGEST;
+use lengths::length::OVER_ALLOWANCE;
 use lengths::length::SHORTEST;
-use letters::letter::UNTURNED;
 use letters::letter::crossings;
 use letters::letter::edge_word;
+use letters::letter::overs;
 use table::answer::Refusal;
 use table::layout::EDGES;
-ghost use Prim.Native.Nat.{_<_};
 ghost use mathlib.Core.Path.{_≡_};
-ghost use Rattle.tracing.specs.Met.{times};
 ghost use Rattle.walks.specs.laws.Stands.{Stands};
-ghost use Rattle.weave.specs.Letters.{over, lettersOn};
 ghost use Rattle.tally.specs.Forward.{forwardOf, tallyOf};
 
 // "steps, overs, unders, length"
@@ -30,18 +29,6 @@ pub enum Tallied {
 
 // The largest number of 32 bits.
 pub const MOST: u32 = 4294967295;
-
-// The number of O's among the letters of a step: every other one, from the first on if it is O.
-fn overs(w: u16, kind: u16) -> u16
-    requires { ⌜ kind < 2 ⌝ }
-    ensures { λ r. ⌜ r ≡ times over (lettersOn w kind) ⌝ }
-{
-    let n = crossings(w);
-    if UNTURNED < w {
-        return (n + 1 - kind) / 2;
-    }
-    (n + kind) / 2
-}
 
 // The tally with a step more of so many O's and U's and this length.
 fn forward(y: Tally, o: u16, u: u16, length: u32) -> Tallied
@@ -67,10 +54,10 @@ fn forward(y: Tally, o: u16, u: u16, length: u32) -> Tallied
     })
 }
 
-// The tally with step s more.
-pub fn tally_step(t: &[u16], s: u16, lengths: &[u32], y: Tally) -> Tallied
+// The tally with step s more, which is the walk's last one or is not.
+pub fn tally_step(t: &[u16], s: u16, last: bool, lengths: &[u32], y: Tally) -> Tallied
     requires { ⌜ Stands (now t) s ⌝ }
-    ensures { λ r. ⌜ r ≡ tallyOf (now (t .entry)) s (now (lengths .entry)) y ⌝ }
+    ensures { λ r. ⌜ r ≡ tallyOf (now (t .entry)) s last (now (lengths .entry)) y ⌝ }
 {
     if lengths.len() < EDGES {
         return Tallied::Kept(Refusal::ShortSlice);
@@ -84,5 +71,7 @@ pub fn tally_step(t: &[u16], s: u16, lengths: &[u32], y: Tally) -> Tallied
     }
     let w = edge_word(t, s);
     let o = overs(w, s % 2);
-    forward(y, o, crossings(w) - o, l)
+    let u = crossings(w) - o;
+    let length = l + OVER_ALLOWANCE * o as u32 + LAP * last as u32;
+    forward(y, o, u, length)
 }

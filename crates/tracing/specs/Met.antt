@@ -1,5 +1,5 @@
 -- What the listed walks meet and pass: their corners, their steps, and how often. "A step is on its dart's edge"; "E: live edges".
-use Prim.Native.Nat.{ℕ, _*_, _/_}
+use Prim.Native.Nat.{ℕ, _+_, _*_, _/_}
 use mathlib.Core.Bool.{Bool, true, false}
 use mathlib.Core.List.{List, [], _∷_}
 use lib.Dec.{eqb, ltb}
@@ -33,6 +33,11 @@ countIn q (x ∷ l) = more (q x) (countIn q l)
 -- how often x is among these
 abbrev pub times : ℕ → List ℕ → ℕ
 times x l = countIn (λ y. eqb x y) l
+
+-- the sum over a list of what each member gives
+unfoldable pub total : (ℕ → ℕ) → List ℕ → ℕ
+total f [] = 0
+total f (x ∷ l) = f x + total f l
 
 -- "E: live edges"
 unfoldable pub edgeCount : Rotation → ℕ

@@ -16,3 +16,4 @@ pub mod Edges
 pub mod Length
 pub mod Met
 pub mod Sides
+pub mod Totals

@@ -5,12 +5,13 @@ use reference::length::cut_length;
 use reference::reader::{read_step, Read, Reader, Tally};
 use reference::refusal::Refusal;
 use reference::table::live_darts;
-use reference::trace::{step, walk_from};
+use reference::trace::{step, walk_from, Step};
 use reference::trial::random::Random;
 use reference::trial::tables::random_table;
-use reference::weave::{letters_along, Letter};
+use reference::weave::{count, letters_along, Letter};
 
-/// A loop of turns 3: one walk, (0,0) with OUO and (0,1) with UOU.
+/// A loop of turns 3: one walk, (0,0) with OUO and (0,1) with UOU. Over an edge of length l the first step brings the
+/// tally l+16, the second l+8 and the lap of 320.
 fn sample() -> Vec<u16> {
     made(&[add(0), insert(0, around(0), around(0), 3)])
 }
@@ -32,7 +33,56 @@ fn steps_come_round_and_round() {
         assert_eq!(reader.step(&lengths(5), &mut tally), Ok(first));
         assert_eq!(reader.step(&lengths(5), &mut tally), Ok(last));
     }
-    assert_eq!(tally, Tally { steps: 6, overs: 9, unders: 9, length: 30 });
+    // 6 steps of 5, 9 O's of 8, and 3 laps: 30 + 72 + 960.
+    assert_eq!(tally, Tally { steps: 6, overs: 9, unders: 9, length: 1_062 });
+}
+
+/// "the lap enters the tally with the walk's last step", each time round, whichever step is the first.
+#[test]
+fn the_lap_comes_with_the_last_step() {
+    let table = sample();
+    let lengths_from = |start: Step| {
+        let mut reader = Reader::new(&table, start.dart, start.t as u16).unwrap();
+        let mut tally = Tally::default();
+        [(); 6].map(|_| reader.step(&lengths(100), &mut tally).map(|_| tally.length).unwrap())
+    };
+    // From (0,0): 100+16, then 100+8+320, and so on: 544 a round.
+    assert_eq!(lengths_from(step(0, 0)), [116, 544, 660, 1_088, 1_204, 1_632]);
+    // From (0,1): 100+8, then 100+16+320.
+    assert_eq!(lengths_from(step(0, 1)), [108, 544, 652, 1_088, 1_196, 1_632]);
+}
+
+/// A loop without turns or with an even number of them has two walks of one step, which is the first and the last.
+#[test]
+fn a_walk_of_one_step() {
+    for (k, overs) in [(0, 0), (2, 1), (-2, 1), (98, 49), (-98, 49)] {
+        let table = made(&[add(0), insert(0, around(0), around(0), k)]);
+        for start in [step(0, 0), step(1, 0), step(0, 1), step(1, 1)] {
+            let mut reader = Reader::new(&table, start.dart, start.t as u16).unwrap();
+            let mut tally = Tally::default();
+            for round in 1..=3 {
+                assert_eq!(reader.step(&lengths(100), &mut tally), Ok(Read { step: start, ends: true }));
+                assert_eq!(tally.length, round * (100 + 8 * overs + 320), "{k} turns");
+            }
+        }
+    }
+}
+
+/// A reader whose start is not on the walk of its step never ends, so no lap enters its tally. One whose start is
+/// another step of that walk has its lap with the step before it.
+#[test]
+fn a_start_elsewhere() {
+    let table = made(&[add(0), insert(0, around(0), around(0), 2)]);
+    let mut tally = Tally::default();
+    for round in 1..=3 {
+        let read = read_step(&table, step(1, 0), step(0, 0), &lengths(100), &mut tally);
+        assert_eq!(read, Ok(Read { step: step(0, 0), ends: false }));
+        assert_eq!(tally.length, round * 108);
+    }
+    let mut tally = Tally::default();
+    let read = read_step(&sample(), step(0, 1), step(0, 0), &lengths(100), &mut tally);
+    assert_eq!(read, Ok(Read { step: step(0, 0), ends: true }));
+    assert_eq!(tally.length, 436, "100 + 16 + 320");
 }
 
 #[test]
@@ -42,7 +92,7 @@ fn one_step_at_a_time_is_tallied() {
     let mut tally = Tally { steps: 10, overs: 20, unders: 30, length: 40 };
     let read = reader.step(&lengths(65_535), &mut tally);
     assert_eq!(read, Ok(Read { step: step(0, 1), ends: false }));
-    assert_eq!(tally, Tally { steps: 11, overs: 21, unders: 32, length: 65_575 });
+    assert_eq!(tally, Tally { steps: 11, overs: 21, unders: 32, length: 65_583 }, "40 + 65,535 + 8");
 }
 
 #[test]
@@ -69,15 +119,27 @@ fn a_declined_step_moves_nothing() {
         (lengths(1), full, Refusal::Overturned),
         (lengths(1), Tally { overs: u32::MAX - 1, ..Tally::default() }, Refusal::Overturned),
         (lengths(1), Tally { unders: u32::MAX, ..Tally::default() }, Refusal::Overturned),
-        (lengths(2), Tally { length: u32::MAX - 1, ..Tally::default() }, Refusal::Overturned),
+        // The step brings 9 and two O's, 25.
+        (lengths(9), Tally { length: u32::MAX - 24, ..Tally::default() }, Refusal::Overturned),
+        (lengths(9), Tally { length: u32::MAX - 9, ..Tally::default() }, Refusal::Overturned),
     ] {
         let mut now = tally;
         assert_eq!(reader.step(&lent, &mut now), Err(refusal));
         assert_eq!(now, tally);
     }
-    let mut tally = Tally { steps: u32::MAX - 1, overs: u32::MAX - 2, unders: u32::MAX - 1, length: u32::MAX - 9 };
+    let full = Tally { steps: u32::MAX, overs: u32::MAX, unders: u32::MAX, length: u32::MAX };
+    let mut tally = Tally { steps: u32::MAX - 1, overs: u32::MAX - 2, unders: u32::MAX - 1, length: u32::MAX - 25 };
     assert_eq!(reader.step(&lengths(9), &mut tally), Ok(Read { step: step(0, 0), ends: false }));
-    assert_eq!(tally, Tally { steps: u32::MAX, overs: u32::MAX, unders: u32::MAX, length: u32::MAX });
+    assert_eq!(tally, full);
+    // The last step brings 9, one O and the lap: 9 + 8 + 320 is 337.
+    for length in [336, 17, 9, 328, 0].map(|room| u32::MAX - room) {
+        let mut tally = Tally { length, ..Tally::default() };
+        assert_eq!(reader.step(&lengths(9), &mut tally), Err(Refusal::Overturned));
+        assert_eq!(tally, Tally { length, ..Tally::default() });
+    }
+    let mut tally = Tally { steps: u32::MAX - 1, overs: u32::MAX - 1, unders: u32::MAX - 2, length: u32::MAX - 337 };
+    assert_eq!(reader.step(&lengths(9), &mut tally), Ok(Read { step: step(0, 1), ends: true }));
+    assert_eq!(tally, full);
 }
 
 #[test]
@@ -122,10 +184,9 @@ fn a_tally_over_one_walk() {
                 assert_eq!(reader.step(&lent, &mut tally), Ok(Read { step: s, ends }));
             }
             let letters = letters_along(&table, &walk);
-            let count = |letter: Letter| letters.iter().filter(|&&l| l == letter).count() as u32;
             assert_eq!(
                 (tally.steps as usize, tally.overs, tally.unders),
-                (walk.len(), count(Letter::O), count(Letter::U))
+                (walk.len(), count(&letters, Letter::O), count(&letters, Letter::U))
             );
             assert_eq!(Ok(tally.length), cut_length(&table, start, 1, &lent));
         }

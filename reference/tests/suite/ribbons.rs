@@ -5,10 +5,10 @@ use reference::length::cut_length;
 use reference::path::float_path;
 use reference::refusal::Refusal;
 use reference::table::*;
-use reference::trace::{step, walk_from};
+use reference::trace::{corner_met, other_sense, step, walk_from, Step};
 use reference::trial::random::Random;
 use reference::trial::tables::random_table;
-use reference::weave::{alternate, crossings, ribbon_alternates, ribbon_letters, Letter::*};
+use reference::weave::{alternate, count, crossings, ribbon_alternates, ribbon_letters, Letter::*};
 
 #[test]
 fn letters_of_a_step() {
@@ -48,8 +48,9 @@ fn letters_of_a_ribbon_decline_as_they_should() {
     assert_eq!(ribbon_alternates(&table, 0, 0), Ok(true));
 }
 
+/// The ribbon (0,0), (1,1), (2,0) has the letters O and U, the one of step (3,0) has none.
 #[test]
-fn a_cut_length_is_the_sum_over_the_steps() {
+fn a_cut_length_is_edges_overs_and_the_lap() {
     let table = sample();
     let mut lengths = vec![0; 1_024];
     (lengths[0], lengths[1]) = (1_000, 65_535);
@@ -57,9 +58,89 @@ fn a_cut_length_is_the_sum_over_the_steps() {
     // type is 0 again, and next after dart 0 comes dart 2; its reverse is 3, and next after that is 0.
     assert_eq!(walk_from(&table, step(0, 0)), [step(0, 0), step(1, 1), step(2, 0)]);
     for (dart, t) in [(0, 0), (1, 1), (2, 0)] {
-        assert_eq!(cut_length(&table, dart, t, &lengths), Ok(1_000 + 1_000 + 65_535));
+        assert_eq!(cut_length(&table, dart, t, &lengths), Ok(1_000 + 1_000 + 65_535 + 8 + 320));
     }
-    assert_eq!(cut_length(&table, 3, 0, &lengths), Ok(65_535));
+    assert_eq!(cut_length(&table, 3, 0, &lengths), Ok(65_535 + 320), "no letters, and yet a lap");
+}
+
+/// An edge of turns k between two vertices: its ribbon passes both sides, so at each crossing it is over once.
+#[test]
+fn eight_for_each_letter_o() {
+    for (k, overs) in [(0, 0), (1, 1), (-1, 1), (2, 2), (-3, 3), (99, 99), (-99, 99)] {
+        let table = made(&[add(0), add(1), insert(0, around(0), around(1), k)]);
+        assert_eq!(cut_length(&table, 0, 0, &[1_000; 1_024]), Ok(2_000 + 8 * overs + 320), "{k} turns");
+    }
+}
+
+/// Two loops with the darts 0, 3, 1, 2 around their vertex, of 99 and -3 turns. From (1,0) the type is 1 and dart 2 is
+/// before 0; from (2,1) it is 0 again, and dart 1 comes next after 3. From (0,1) likewise (2,0) and back.
+/// O's: (1,0) 50 of 99, (2,1) OUO two; (0,1) 49 of 99, (2,0) UOU one.
+#[test]
+fn each_side_has_its_own_overs() {
+    let table = made(&[add(0), insert(0, around(0), around(0), 99), insert(1, 0, 1, -3)]);
+    assert_eq!(walk_from(&table, step(1, 0)), [step(1, 0), step(2, 1)]);
+    assert_eq!(walk_from(&table, step(0, 1)), [step(0, 1), step(2, 0)]);
+    let mut lengths = vec![0; 1_024];
+    (lengths[0], lengths[1]) = (1_000, 70);
+    assert_eq!(cut_length(&table, 1, 0, &lengths), Ok(1_000 + 70 + 8 * 52 + 320));
+    assert_eq!(cut_length(&table, 0, 1, &lengths), Ok(1_000 + 70 + 8 * 50 + 320));
+}
+
+/// "An isolated vertex still yields no ribbon": no step names its empty walk, and the ribbons beside it stay.
+#[test]
+fn an_isolated_vertex_has_no_cut_length() {
+    let alone = made(&[add(7)]);
+    assert_eq!(cut_length(&alone, around(7), 0, &[1; 1_024]), Err(Refusal::NoSuchName));
+    assert_eq!(cut_length(&alone, 7, 0, &[1; 1_024]), Err(Refusal::Absent));
+    let mut table = sample();
+    edit(&mut table, add(7)).unwrap();
+    assert_eq!(cut_length(&table, around(7), 0, &[1; 1_024]), Err(Refusal::NoSuchName));
+    assert_eq!(cut_length(&table, 0, 0, &[1; 1_024]), Ok(3 + 8 + 320));
+}
+
+/// A ribbon is "named by any step on it", in either sense; where one length is far, it is far from each of them.
+#[test]
+fn every_step_names_the_same_cut_length() {
+    let mut random = Random::new(0xc07);
+    let mut named = 0;
+    for _ in 0..30 {
+        let table = random_table(&mut random);
+        let mut lengths: Vec<u32> = (0..1_024).map(|_| 1 + random.below(65_535) as u32).collect();
+        for ribbon in ribbons(&table).iter().filter(|ribbon| ribbon.len() < 300).take(8) {
+            let mut names: Vec<Step> = ribbon.clone();
+            names.extend(ribbon.iter().map(|&s| other_sense(&table, s)));
+            assert!(ribbon.iter().all(|&s| corner_met(&table, s) == corner_met(&table, other_sense(&table, s))));
+            assert_eq!(walk_from(&table, names[ribbon.len()]).len(), ribbon.len());
+            let all = |lengths: &[u32]| {
+                let mut answers: Vec<_> =
+                    names.iter().map(|s| cut_length(&table, s.dart, s.t as u16, lengths)).collect();
+                answers.dedup();
+                answers
+            };
+            let letters = ribbon_letters(&table, ribbon[0].dart, ribbon[0].t as u16).unwrap();
+            let edges: u32 = ribbon.iter().map(|s| lengths[s.edge() as usize]).sum();
+            assert_eq!(all(&lengths), [Ok(edges + 8 * count(&letters, O) + 320)]);
+            let far = random.pick(ribbon).edge() as usize;
+            let before = std::mem::replace(&mut lengths[far], random.pick(&[0, 65_536, u32::MAX]));
+            assert_eq!(all(&lengths), [Err(Refusal::Far)]);
+            lengths[far] = before;
+            named += names.len();
+        }
+    }
+    assert!(named > 3_000, "{named}");
+}
+
+/// The longest ribbon there is: 1,024 loops of 99 turns beside each other. From (0,0) the type is 1, and dart 0 is before
+/// dart 1; from (0,1) it is 0, and dart 2 comes next after dart 1; and so on over all of them.
+#[test]
+fn the_largest_cut_length() {
+    let mut edits = vec![add(0), insert(0, around(0), around(0), 99)];
+    edits.extend((1..1_024).map(|e| insert(e, 0, 0, 99)));
+    let table = made(&edits);
+    assert_eq!(walk_sizes(&table), [2_048]);
+    // 134,215,680 for the edges; (2e,0) has 50 O's and (2e,1) has 49: 811,008 for the O's; and the lap.
+    assert_eq!(cut_length(&table, 0, 0, &[65_535; 1_024]), Ok(2_048 * 65_535 + 8 * 1_024 * 99 + 320));
+    assert_eq!(cut_length(&table, 0, 0, &[65_535; 1_024]), Ok(135_027_008));
 }
 
 #[test]
@@ -73,15 +154,16 @@ fn a_cut_length_declines() {
     far[1] = 0;
     assert_eq!(cut_length(&table, 0, 0, &far), Err(Refusal::Far));
     far[1] = 1;
-    assert_eq!(cut_length(&table, 0, 0, &far), Ok(3), "only edges on the ribbon count");
+    // Three edges of 1, one O, the lap.
+    assert_eq!(cut_length(&table, 0, 0, &far), Ok(331), "only edges on the ribbon count");
     far[0] = u32::MAX;
-    assert_eq!(cut_length(&table, 3, 0, &far), Ok(1));
+    assert_eq!(cut_length(&table, 3, 0, &far), Ok(321));
     assert_eq!(cut_length(&table, 0, 0, &far[..1_023]), Err(Refusal::ShortSlice), "7 before 9");
     assert_eq!(cut_length(&table, 0, 0, &good[..1_023]), Err(Refusal::ShortSlice));
     assert_eq!(cut_length(&table, 4, 0, &[]), Err(Refusal::Absent), "4 before 7");
     assert_eq!(cut_length(&table, 4, 2, &[]), Err(Refusal::NoSuchName));
     assert_eq!(cut_length(&[], 4, 2, &[]), Err(Refusal::Torn));
-    assert_eq!(cut_length(&table, 0, 0, &[vec![1; 1_024], vec![0]].concat()), Ok(3), "a longer slice");
+    assert_eq!(cut_length(&table, 0, 0, &[vec![1; 1_024], vec![0]].concat()), Ok(331), "a longer slice");
 }
 
 /// The float path with room to spare; what is written, and that nothing past it is.

@@ -1,17 +1,17 @@
-//! planner_walk_step: the reference's steps, ends and tallies over whole walks and twice round, every refusal, and nothing changed by
-//! a declined step.
+//! planner_walk_step: the reference's steps, ends and tallies over whole walks and twice round, the lap with the last step alone, every
+//! refusal, and nothing changed by a declined step.
 
 use host::guarded::Guarded;
 use host::planner::{self, Reader, Tally};
-use host::tables::{any_step, whole_or_damaged};
+use host::tables::{any_step, crossed_loops, loops_in_a_row, whole_or_damaged};
 use reference::length::cut_length;
 use reference::reader::{read_step, Tally as Expected};
-use reference::table::{live_darts, DARTS, EDGES};
-use reference::trace::{step, step_after, walk_from, Step};
+use reference::table::{live_darts, DARTS, EDGES, WORDS};
+use reference::trace::{other_sense, step, step_after, walk_from, Step};
 use reference::trial::random::Random;
 use reference::trial::solids::{cube, solid};
 use reference::trial::tables::random_table;
-use reference::weave::ribbon_letters;
+use reference::weave::{count, ribbon_letters, step_letters, Letter};
 use std::collections::BTreeMap;
 
 const GUARD: Reader = Reader { dart: 0xa5c3, kind: 0xc3a5, start_dart: 0x5a3c, start_kind: 0x3c5a };
@@ -67,10 +67,57 @@ fn a_cube_by_hand() {
     let ends: Vec<i64> = (0..12).map(|_| compare(&table, &mut reader, &lengths, &mut tally)).collect();
     assert_eq!(ends, [0, 0, 0, 0, 0, 1, 0, 0, 0, 0, 0, 1]);
     assert_eq!(reader, begun(0, 0));
-    assert_eq!(tally, Tally { steps: 12, overs: 6, unders: 6, length: 12_000 });
+    // Twelve edges, six O's, two laps.
+    assert_eq!(tally, Tally { steps: 12, overs: 6, unders: 6, length: 12_000 + 6 * 8 + 2 * 320 });
 }
 
-/// 1, 2, 4, 7: each before the next, for the step and for the start.
+/// The crossed loops of 99 and -3 turns, and lengths for them. Step (1, 0) has 50 O's of its 99 letters and (2, 1) has OUO; (0, 1) has 49 and
+/// (2, 0) has UOU. So they bring 1,000 + 400, 70 + 16, 1,000 + 392 and 70 + 8, and the last one of a walk 320 more.
+fn known() -> (Vec<u16>, Vec<u32>) {
+    let mut lengths = vec![0; EDGES];
+    (lengths[0], lengths[1]) = (1_000, 70);
+    (crossed_loops(99, -3), lengths)
+}
+
+/// The length of the tally after each of six steps, and whether it was the last one.
+fn six_steps(table: &[u16], mut reader: Reader, lengths: &[u32]) -> [(u32, i64); 6] {
+    let mut tally = Tally::default();
+    [(); 6].map(|()| {
+        let ends = compare(table, &mut reader, lengths, &mut tally);
+        (tally.length, ends)
+    })
+}
+
+/// Each time round, the lap comes with the last step: not with the first, and not with every one.
+#[test]
+fn the_lap_comes_with_the_last_step() {
+    let (table, lengths) = known();
+    let six = |start: Reader| six_steps(&table, start, &lengths);
+    // 1,806 a round: 1,400 and 406, or begun at the other step 86 and 1,720.
+    assert_eq!(six(begun(1, 0)), [(1_400, 0), (1_806, 1), (3_206, 0), (3_612, 1), (5_012, 0), (5_418, 1)]);
+    assert_eq!(six(begun(2, 1)), [(86, 0), (1_806, 1), (1_892, 0), (3_612, 1), (3_698, 0), (5_418, 1)]);
+    // 1,790 a round: 1,392 and 398.
+    assert_eq!(six(begun(0, 1)), [(1_392, 0), (1_790, 1), (3_182, 0), (3_580, 1), (4_972, 0), (5_370, 1)]);
+    // A reader that stands at the second step: its first step is the last of the walk.
+    assert_eq!(six(reader(2, 1, 1, 0)), [(406, 1), (1_806, 0), (2_212, 1), (3_612, 0), (4_018, 1), (5_418, 0)]);
+}
+
+/// A walk of one step: each is the first and the last, and brings the lap at once.
+#[test]
+fn a_walk_of_one_step() {
+    let lengths = vec![100; EDGES];
+    // Half of the letters of an even number of turns are O's.
+    for (turns, overs) in [(0, 0), (2, 1), (-2, 1), (98, 49), (-98, 49)] {
+        let table = loops_in_a_row(1, turns);
+        let once = 100 + 8 * overs + 320;
+        for (dart, kind) in [(0, 0), (1, 0), (0, 1), (1, 1)] {
+            let expected = [1, 2, 3, 4, 5, 6].map(|round| (round * once, 1));
+            assert_eq!(six_steps(&table, begun(dart, kind), &lengths), expected, "{turns} turns");
+        }
+    }
+}
+
+/// 1, 2, 4, 7: each before the next, for the step and for the start; then 9 and 6, each where those after it hold too.
 #[test]
 fn the_order_of_the_refusals() {
     let table = solid(&cube(), 1);
@@ -87,9 +134,15 @@ fn the_order_of_the_refusals() {
     assert_eq!(declined(&table, reader(0, 0, 24, 0), &[]), -4);
     assert_eq!(declined(&table, begun(0, 0), &lengths[1..]), -7);
     assert_eq!(declined(&table, begun(0, 0), &lengths), 0);
+    let on_full = |lengths: &[u32]| {
+        compare(&table, &mut begun(0, 0), lengths, &mut Tally { length: u32::MAX, ..Tally::default() })
+    };
+    assert_eq!(on_full(&vec![0; EDGES - 1]), -7);
+    assert_eq!(on_full(&vec![0; EDGES]), -9);
+    assert_eq!(on_full(&lengths), -6);
 }
 
-/// A reader whose start is not on the walk of its step goes round it and never answers 1.
+/// A reader whose start is not on the walk of its step goes round it, never answers 1 and has no lap.
 #[test]
 fn a_start_on_another_walk() {
     let table = solid(&cube(), 0);
@@ -101,22 +154,35 @@ fn a_start_on_another_walk() {
     for taken in 0..3 * steps.len() {
         assert_eq!((reader.dart, reader.kind), (steps[taken % steps.len()].dart, 0));
         assert_eq!(compare(&table, &mut reader, &lengths, &mut tally), 0);
+        assert_eq!(tally.length as usize, taken + 1, "no letters, no lap");
+    }
+}
+
+/// The same among letters: a start on the other ribbon, and one on the other sense of the same face.
+#[test]
+fn a_start_on_another_walk_has_no_lap() {
+    let (table, lengths) = known();
+    let other = other_sense(&table, named(1, 0));
+    for start in [named(0, 1), named(2, 0), other] {
+        let reader = reader(1, 0, start.dart, u16::from(start.t));
+        let expected = [(1_400, 0), (1_486, 0), (2_886, 0), (2_972, 0), (4_372, 0), (4_458, 0)];
+        assert_eq!(six_steps(&table, reader, &lengths), expected, "start {start:?}");
     }
 }
 
 /// A tally that a step would carry past 32 bits, in each of its fields; 9 comes before 6.
 #[test]
 fn full_tallies() {
-    // A cube with three turns on each edge: a step of type 0 has two overs and one under.
+    // A cube with three turns on each edge: a step of type 0 has two overs and one under, and brings 10 + 16.
     let table = solid(&cube(), 3);
     let most = u32::MAX;
     let mut lengths = vec![10; EDGES];
     let at = |steps, overs, unders, length| Tally { steps, overs, unders, length };
-    let full = [at(most, 0, 0, 0), at(0, most - 1, 0, 0), at(0, 0, most, 0), at(0, 0, 0, most - 9)];
+    let full = [at(most, 0, 0, 0), at(0, most - 1, 0, 0), at(0, 0, most, 0), at(0, 0, 0, most - 25)];
     for tally in full {
         assert_eq!(compare(&table, &mut begun(0, 0), &lengths, &mut tally.clone()), -6);
     }
-    assert_eq!(compare(&table, &mut begun(0, 0), &lengths, &mut at(most - 1, most - 2, most - 1, most - 10)), 0);
+    assert_eq!(compare(&table, &mut begun(0, 0), &lengths, &mut at(most - 1, most - 2, most - 1, most - 26)), 0);
     for far in [0, 65_536] {
         lengths[0] = far;
         assert_eq!(compare(&table, &mut begun(0, 0), &lengths, &mut at(most, 0, 0, 0)), -9);
@@ -125,6 +191,45 @@ fn full_tallies() {
     lengths.fill(0);
     lengths[0] = 65_535;
     assert_eq!(compare(&table, &mut begun(0, 0), &lengths, &mut Tally::default()), 0);
+}
+
+/// The length at the edge of 32 bits, with room for all that the step brings and with one less; with room for a part of it alone.
+#[test]
+fn full_lengths() {
+    let (table, lengths) = known();
+    let step_with = |room: u32, mut reader: Reader| {
+        let mut tally = Tally { length: u32::MAX - room, ..Tally::default() };
+        let answer = compare(&table, &mut reader, &lengths, &mut tally);
+        (answer, u32::MAX - tally.length)
+    };
+    // Not the last: 1,000 and 400 for the O's. No room is needed for a lap.
+    for room in [0, 999, 1_000, 1_319, 1_320, 1_399] {
+        assert_eq!(step_with(room, begun(1, 0)), (-6, room));
+    }
+    for room in [1_400, 1_401, 1_719, 1_720] {
+        assert_eq!(step_with(room, begun(1, 0)), (0, room - 1_400));
+    }
+    // The last: 70, 16 for the O's and 320 for the lap. Without the lap it is 86, without the O's 390.
+    for room in [0, 69, 70, 85, 86, 320, 389, 390, 405] {
+        assert_eq!(step_with(room, reader(2, 1, 1, 0)), (-6, room));
+    }
+    for room in [406, 407] {
+        assert_eq!(step_with(room, reader(2, 1, 1, 0)), (1, room - 406));
+    }
+    // The same step where the start is elsewhere: 86.
+    assert_eq!(step_with(85, reader(2, 1, 0, 1)), (-6, 85));
+    assert_eq!(step_with(86, reader(2, 1, 0, 1)), (0, 0));
+}
+
+/// 9 comes before 6 with a last step too.
+#[test]
+fn far_before_overturned_at_the_last_step() {
+    let (table, mut lengths) = known();
+    for far in [0, 65_536, u32::MAX] {
+        lengths[1] = far;
+        let mut tally = Tally { length: u32::MAX, ..Tally::default() };
+        assert_eq!(compare(&table, &mut reader(2, 1, 1, 0), &lengths, &mut tally), -9);
+    }
 }
 
 /// Whole walks, twice round: at the end of each the tally has the ribbon's steps, letters and cut length.
@@ -143,8 +248,11 @@ fn whole_walks() {
         for _ in 0..2 {
             let mut tally = Tally::default();
             for taken in 1..=steps {
+                let (edge, before) = (lengths[usize::from(reader.dart / 2)], tally);
                 let ends = compare(&table, &mut reader, &lengths, &mut tally);
                 assert_eq!(ends, i64::from(taken == steps));
+                let lap = if taken == steps { 320 } else { 0 };
+                assert_eq!(tally.length - before.length, edge + 8 * (tally.overs - before.overs) + lap);
             }
             assert_eq!((tally.steps as usize, tally.overs + tally.unders, tally.length), (steps, letters, length));
             assert_eq!(reader, begun(dart, kind));
@@ -152,29 +260,80 @@ fn whole_walks() {
     }
 }
 
+/// What a step that is not declined brings to the length: its edge, its O's, the lap if it is the last. None where it is declined whatever
+/// the tally is.
+fn brings(table: &[u16], reader: Reader, lengths: &[u32]) -> Option<[u32; 3]> {
+    let (at, start) = (named(reader.dart, reader.kind), named(reader.start_dart, reader.start_kind));
+    let read = read_step(table, start, at, lengths, &mut Expected::default()).ok()?;
+    let overs = count(&step_letters(table, at), Letter::O);
+    Some([lengths[usize::from(at.edge())], 8 * overs, if read.ends { 320 } else { 0 }])
+}
+
+/// A step of a live dart if there is one, at times any step.
+fn some_step(random: &mut Random, table: &[u16]) -> (u16, u16) {
+    let live: Vec<u16> = if table.len() == WORDS { live_darts(table).collect() } else { Vec::new() };
+    if live.is_empty() || random.once_in(3) {
+        return any_step(random, DARTS);
+    }
+    (random.pick(&live), random.below(2) as u16)
+}
+
 #[test]
 fn random_readers_on_whole_and_damaged_tables() {
     let mut random = Random::new(0x4ead);
-    let mut seen: BTreeMap<i64, usize> = BTreeMap::new();
+    let mut seen: BTreeMap<(&str, i64), usize> = BTreeMap::new();
     for round in 0..2_000 {
         let table = whole_or_damaged(&mut random, round);
         for _ in 0..5 {
-            let ((dart, kind), start) = (any_step(&mut random, DARTS), any_step(&mut random, DARTS));
-            let (first, first_kind) = if random.once_in(2) { (dart, kind) } else { start };
+            let (dart, kind) = some_step(&mut random, &table);
             let mut lengths: Vec<u32> = vec![1 + random.below(65_535) as u32; EDGES];
             match random.below(8) {
                 0 => lengths.truncate(random.below(EDGES)),
                 1 => lengths.fill(random.pick(&[0, 65_536, u32::MAX])),
                 _ => {}
             }
+            // The start is the step itself, any step, or the one that comes after it: then it is the last.
+            let mut reader = begun(dart, kind);
+            let there = brings(&table, reader, &lengths).is_some();
+            match random.below(3) {
+                0 => (reader.start_dart, reader.start_kind) = some_step(&mut random, &table),
+                1 if there => {
+                    let after = step_after(&table, named(dart, kind));
+                    (reader.start_dart, reader.start_kind) = (after.dart, u16::from(after.t));
+                }
+                _ => {}
+            }
             let mut near_full =
-                || if random.once_in(6) { u32::MAX - random.below(4) as u32 } else { random.below(99) as u32 };
+                || if random.once_in(12) { u32::MAX - random.below(4) as u32 } else { random.below(99) as u32 };
             let mut tally = Tally { steps: near_full(), overs: near_full(), unders: near_full(), length: near_full() };
-            let answer = compare(&table, &mut reader(dart, kind, first, first_kind), &lengths, &mut tally);
-            *seen.entry(answer.min(0)).or_insert(0) += 1;
+            let mut what = "as drawn";
+            let brought = if random.once_in(5) { None } else { brings(&table, reader, &lengths) };
+            if let Some([edge, overs, lap]) = brought {
+                // Room for the whole of it, for one more or less, or for a part.
+                let whole = edge + overs + lap;
+                let room = random.pick(&[whole, whole, whole + 1, whole - 1, edge, edge + overs, edge + lap]);
+                tally.length = u32::MAX - room;
+                what = match (lap > 0, room >= whole) {
+                    (true, true) => "room at the last step",
+                    (true, false) if room >= edge + overs => "no room for the lap",
+                    (_, false) if room >= edge + lap => "no room for the O's",
+                    (true, false) => "no room at the last step",
+                    (false, true) => "room",
+                    (false, false) => "no room",
+                };
+            }
+            let answer = compare(&table, &mut reader, &lengths, &mut tally);
+            *seen.entry((what, answer)).or_insert(0) += 1;
         }
     }
-    for outcome in [0, -1, -2, -4, -6, -7, -9] {
-        assert!(seen.get(&outcome).copied().unwrap_or(0) > 20, "{outcome} in {seen:?}");
+    for answer in [1, 0, -1, -2, -4, -6, -7, -9] {
+        assert!(seen[&("as drawn", answer)] > 20, "{answer} in {seen:?}");
+    }
+    for (what, answer) in [("room", 0), ("room at the last step", 1)] {
+        assert!(seen[&(what, answer)] > 200 && seen[&(what, -6)] > 20, "{what} in {seen:?}");
+    }
+    for what in ["no room", "no room at the last step", "no room for the lap", "no room for the O's"] {
+        assert!(seen[&(what, -6)] > 50, "{what} in {seen:?}");
+        assert!(seen.keys().all(|&(other, answer)| other != what || answer == -6), "{what} in {seen:?}");
     }
 }

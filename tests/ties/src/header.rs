@@ -1,4 +1,4 @@
-//! The prototypes and records of include/planner.h. It reads the plain C that the header is written in, and names what it
+//! The prototypes, records and numbers of include/planner.h. It reads the plain C that the header is written in, and names what it
 //! cannot read.
 
 pub struct Prototype {
@@ -22,8 +22,7 @@ pub struct Header {
     pub unread: Vec<String>,
 }
 
-/// The text without comments and without the preprocessor's lines; `extern "C" {` and its brace stand for C++ alone.
-fn stripped(text: &str) -> String {
+fn without_comments(text: &str) -> String {
     let mut rest = text;
     let mut kept = String::new();
     while let Some((before, comment)) = rest.split_once("/*") {
@@ -31,6 +30,19 @@ fn stripped(text: &str) -> String {
         rest = comment.split_once("*/").map_or("", |(_, after)| after);
     }
     kept.push_str(rest);
+    kept
+}
+
+/// What `#define name number` gives a name.
+pub fn number(text: &str, name: &str) -> Option<u64> {
+    let text = without_comments(text);
+    let defined = text.lines().find_map(|line| line.strip_prefix("#define ")?.strip_prefix(name)?.strip_prefix(' '));
+    defined?.trim().parse().ok()
+}
+
+/// The text without comments and without the preprocessor's lines; `extern "C" {` and its brace stand for C++ alone.
+fn stripped(text: &str) -> String {
+    let kept = without_comments(text);
     // A preprocessor's line that ends in \ goes on in the next one.
     let (mut for_cpp, mut goes_on) = (false, false);
     let mut lines = Vec::new();

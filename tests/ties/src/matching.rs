@@ -1,5 +1,6 @@
 //! include/planner.h against the exported signatures of crates/planner/src/lib.rt: contracts name arguments, and C goes by
 //! their places, so names, order and types have to be the same in both, and so the fields of the records that are lent.
+//! And the numbers that a host works with as the sources do.
 //!
 //! In C a slice `x` is a pointer `x` and then its size, `n_x`, `x_words` or `x_bytes`. A struct `Name` of the sources is
 //! `struct planner_name`. Three names differ, and keep document 01's words in the header: the table's slice is `words` in the
@@ -14,11 +15,18 @@ use std::collections::BTreeSet;
 const HEADER: &str = "include/planner.h";
 const EXPORTS: &str = "crates/planner/src/lib.rt";
 
+/// Numbers of the header, each with the source and the constant that it is.
+const NUMBERS: [(&str, &str, &str); 2] = [
+    ("PLANNER_OVER_ALLOWANCE", "crates/lengths/src/length.rt", "OVER_ALLOWANCE"),
+    ("PLANNER_LAP", "crates/lengths/src/length.rt", "LAP"),
+];
+
 /// One line for each difference.
 pub fn faults(tree: &Tree) -> Vec<String> {
     let (Some(header), Some(source)) = (tree.read(HEADER), tree.read(EXPORTS)) else {
         return vec![format!("{HEADER} or {EXPORTS} is not there")];
     };
+    let other_numbers = numbers_apart(tree, &header);
     let header = header::read(&header);
     let functions = rattle::functions(&source);
     let mut faults: Vec<String> = header.unread.iter().map(|item| format!("{HEADER}: cannot read `{item}`")).collect();
@@ -37,7 +45,23 @@ pub fn faults(tree: &Tree) -> Vec<String> {
             faults.push(format!("{HEADER}: no exported function is lent a struct {}", record.name));
         }
     }
+    faults.extend(other_numbers);
     faults
+}
+
+/// Numbers that are missing or differ.
+fn numbers_apart(tree: &Tree, header: &str) -> Vec<String> {
+    let compared = NUMBERS.iter().filter_map(|(name, path, constant)| {
+        let declared = tree.read(path).and_then(|text| rattle::constant(&text, constant));
+        match (header::number(header, name), declared) {
+            (None, _) => Some(format!("{HEADER}: the number {name} is missing")),
+            (_, None) => Some(format!("{path}: the constant {constant} is missing")),
+            (Some(given), Some(wanted)) => {
+                (given != wanted).then(|| format!("{HEADER}: {name} is {given}, {constant} of {path} is {wanted}"))
+            }
+        }
+    });
+    compared.collect()
 }
 
 /// Functions that stand on one side alone, or are not exported.

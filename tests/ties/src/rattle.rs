@@ -1,4 +1,4 @@
-//! What a Rattle source declares: its functions with their contracts, and its structs. It relies on the layout that
+//! What a Rattle source declares: its functions with their contracts, its structs and its constants. It relies on the layout that
 //! `rt fmt` keeps: a body's opening brace ends its line, and after a contract stands alone on it.
 
 pub struct Function {
@@ -98,6 +98,13 @@ pub fn structs(text: &str) -> Vec<Struct> {
         }
     }
     found
+}
+
+/// The number that `pub const NAME: type = number;` gives a name.
+pub fn constant(text: &str, name: &str) -> Option<u64> {
+    let declared =
+        code(text).into_iter().find_map(|line| line.strip_prefix("pub const ")?.strip_prefix(name)?.strip_prefix(": "));
+    declared?.split_once(" = ")?.1.strip_suffix(';')?.parse().ok()
 }
 
 /// `a: T, b: U`, as arguments and fields are written.

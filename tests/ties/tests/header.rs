@@ -6,11 +6,13 @@ use ties::small::Trial;
 const HEADER: &str = "include/planner.h";
 const EXPORTS: &str = "crates/planner/src/lib.rt";
 const TALLY: &str = "crates/reader/src/tally.rt";
+const LENGTH: &str = "crates/lengths/src/length.rt";
 
-const FILES: [(&str, &str); 3] = [
+const FILES: [(&str, &str); 4] = [
     (
         HEADER,
         "/* int64_t planner_no(int x); */\n#include <stdint.h>\n#ifdef __cplusplus\nextern \"C\" {\n#endif\n#define A 1\n#define B(x) \\\n    (x)\n\
+         /* #define PLANNER_LAP 5 */\n#define PLANNER_OVER_ALLOWANCE 8 /* each */\n#define PLANNER_LAP 320\n\
          int64_t planner_insert(uint16_t *table, size_t words, uint16_t e, uint16_t c1, uint16_t c2, int16_t k);\n\
          int64_t planner_path(const uint16_t *table, size_t words, uint16_t dart, uint16_t type, const int32_t *points,\n\
          \x20                    size_t n_points, float *out, size_t out_words);\n\
@@ -29,6 +31,10 @@ const FILES: [(&str, &str); 3] = [
          fn own(x: u16) -> bool {\n    true\n}\n",
     ),
     (TALLY, "// A tally.\n#[repr(C)]\npub struct Tally {\n    pub steps: u32,\n    // over\n    pub overs: u32,\n    pub start_kind: u16,\n}\n"),
+    (
+        LENGTH,
+        "// pub const LAP: u32 = 5;\npub const OVER_ALLOWANCE: u32 = 8;\n\n// once\npub const LAP: u32 = 320; // sixteenths\n",
+    ),
 ];
 
 const TRIAL: Trial = Trial { files: &FILES, faults };
@@ -202,6 +208,32 @@ fn fields_of_a_record() {
         "struct planner_tale {",
         &["include/planner.h: struct planner_tally is missing", "no exported function is lent a struct planner_tale"],
     );
+}
+
+#[test]
+fn numbers() {
+    TRIAL.after(
+        "lap",
+        HEADER,
+        "PLANNER_LAP 320",
+        "PLANNER_LAP 20",
+        &["include/planner.h: PLANNER_LAP is 20, LAP of crates/lengths/src/length.rt is 320"],
+    );
+    TRIAL.after(
+        "allowance",
+        LENGTH,
+        "OVER_ALLOWANCE: u32 = 8",
+        "OVER_ALLOWANCE: u32 = 16",
+        &["PLANNER_OVER_ALLOWANCE is 8, OVER_ALLOWANCE of crates/lengths/src/length.rt is 16"],
+    );
+    let undefined = ["include/planner.h: the number PLANNER_LAP is missing"];
+    TRIAL.after("undefined", HEADER, "#define PLANNER_LAP 320\n", "", &undefined);
+    TRIAL.after("longer-name", HEADER, "PLANNER_LAP 320", "PLANNER_LAPS 320", &undefined);
+    let undeclared = ["crates/lengths/src/length.rt: the constant LAP is missing"];
+    TRIAL.after("undeclared", LENGTH, "pub const LAP: u32 = 320; ", "", &undeclared);
+    TRIAL.after("of-its-own", LENGTH, "pub const LAP: u32 = 320;", "const LAP: u32 = 320;", &undeclared);
+    let without = ["the constant OVER_ALLOWANCE is missing", "the constant LAP is missing"];
+    TRIAL.found(&TRIAL.whole("no-lengths").remove(LENGTH), &without);
 }
 
 #[test]

@@ -5,12 +5,10 @@ use mathlib.Core.List.{List}
 use lib.ListN.{length}
 use borrow.Author.Tests.{lt-leb, le-leb}
 use Rattle.table.specs.Layout.{edges}
-use Rattle.table.specs.Rotation.{rotation}
 use Rattle.table.specs.declared.answer.Answer.{Answer}
 use Rattle.table.specs.declared.answer.Answer.the-variants.{Declined}
 use Rattle.table.specs.declared.answer.Refusal.{Refusal}
 use Rattle.table.specs.declared.answer.Refusal.the-variants.{ShortSlice}
-use Rattle.tracing.specs.Walk.{walk}
 use Rattle.weave.specs.declared.named.Named.{Named}
 use Rattle.weave.specs.declared.named.Named.the-variants.{There, Refused}
 use Rattle.weave.specs.Calls.{namedStep}
@@ -25,5 +23,5 @@ module _ (t : List ℕ) (d k : ℕ) (lengths : List ℕ) {n : Named} (e : n ≡ 
   pub cut-short : {s : ℕ} → n ≡ There s → length lengths < edges → Declined ShortSlice ≡ cutLengthOf t d k lengths
   cut-short {s} f h = sym (ap (cutLengthBy t lengths) (sym e ∙ f) ∙ rw (lt-leb edges (length lengths) h))
 
-  pub cut-along : {s : ℕ} {a : Answer} → n ≡ There s → edges ≤ length lengths → a ≡ lengthAlong lengths (walk (rotation t) s) → a ≡ cutLengthOf t d k lengths
+  pub cut-along : {s : ℕ} {a : Answer} → n ≡ There s → edges ≤ length lengths → a ≡ lengthAlong t lengths s → a ≡ cutLengthOf t d k lengths
   cut-along {s} f h g = g ∙ sym (ap (cutLengthBy t lengths) (sym e ∙ f) ∙ rw (le-leb edges (length lengths) h))

@@ -23,8 +23,7 @@ use Rattle.reader.specs.declared.place.Step.{Step}
 use Rattle.tally.specs.declared.tally.Tally.{Tally}
 use Rattle.tally.specs.declared.tally.Tallied.{Tallied}
 use Rattle.tally.specs.declared.tally.Tallied.the-variants.{Brought, Kept}
-use Rattle.tally.specs.Forward.{tallyOf}
-use Rattle.reader.specs.Reader.{beginOf, wordAt, placed, steppedBy, stepBy, stepOf}
+use Rattle.reader.specs.Reader.{beginOf, wordAt, placed, steppedBy, tallyAt, stepBy, stepOf}
 use Rattle.reader.specs.Walked.{stepsFrom}
 use Rattle.reader.specs.laws.Reader.{there-placed, each-step}
 use Rattle.reader.specs.laws.Walked.{begun-placed}
@@ -48,7 +47,7 @@ module _ (t : List ℕ) (at first : Step) (lengths : List ℕ) (y : Tally) where
           subst (Reach f (wordAt at)) word (reach-trans (subst (Reach f (wordAt at)) (sym (h .word)) r) one)
 
       by : (n : Named) → n ≡ placed t here first → On (stepBy t here first lengths z n .at)
-      by (There s) p = tallied s p (tallyOf t s lengths z)
+      by (There s) p = tallied s p (tallyAt t first s lengths z)
       by (Refused q) p = r
 
   on-walk : (n : ℕ) → On (stepsFrom t at first lengths y n .at)

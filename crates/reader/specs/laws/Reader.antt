@@ -5,14 +5,14 @@ use mathlib.Core.Path.{_≡_, refl, sym, _∙_, ap}
 use mathlib.Core.Bool.{Bool, true, false, _&&_}
 use mathlib.Core.List.{List}
 use lib.Dec.{ltb, eqb}
-use borrow.Author.Tests.{lt-ltb, le-ltb, ltb-true, eqb-true}
+use borrow.Author.Tests.{lt-ltb, le-ltb, ltb-true, eqb-true, eq-eqb, ne-eqb}
 use Rattle.orbits.specs.laws.Truth.{truth, holds, fails, both-left, both-right}
 use Rattle.table.specs.Layout.{darts, edgeOf, edgeWord}
 use Rattle.table.specs.Rotation.{rotation, live?}
 use Rattle.table.specs.laws.Rotation.{yes-live, not-live, case-yes}
 use Rattle.table.specs.Check.{good?}
 use Rattle.table.specs.laws.Check.{good-case}
-use Rattle.table.specs.laws.Output.{done-declined}
+use Rattle.table.specs.laws.Output.{done-same, done-declined}
 use Rattle.table.specs.declared.answer.Answer.the-variants.{Done, Declined}
 use Rattle.table.specs.declared.answer.Refusal.{Refusal}
 use Rattle.table.specs.declared.answer.Refusal.the-variants.{Torn, NoSuchName, Absent}
@@ -27,8 +27,9 @@ use Rattle.tally.specs.declared.tally.Tally.{Tally}
 use Rattle.tally.specs.declared.tally.Tallied.{Tallied}
 use Rattle.tally.specs.declared.tally.Tallied.the-variants.{Brought, Kept}
 use Rattle.reader.specs.declared.walk.Stepped.{Stepped}
-use Rattle.tally.specs.Forward.{tallyOf}
-use Rattle.reader.specs.Reader.{beginBy, beginOf, wordAt, stepAt, isStep, placed, stays, goesOn, steppedBy, stepBy, stepOf, EachStep}
+use Rattle.tally.specs.Forward.{stepTally, tallyOf}
+use Rattle.tally.specs.laws.Forward.{brought-is}
+use Rattle.reader.specs.Reader.{beginBy, beginOf, wordAt, stepAt, isStep, placed, stays, endsAt, goesOn, steppedBy, tallyAt, stepBy, stepOf, EachStep}
 
 -- "Every step declines as the making of the reader would"
 pub placed-begun : (t : List ℕ) (s : Step) → placed t s s ≡ namedStep t (s .dart) (s .kind)
@@ -135,19 +136,24 @@ there-placed {t} {at} {first} {s} e = elim (truth (good? t)) [
 
 -- the ends of a step
 
+pub moved-on : (next : ℕ) (first : Step) (z : Tally) {end : Bool} → end ≡ endsAt next first → record { answer = Done (bit end); at = stepAt next; tally = z } ≡ goesOn next first z
+moved-on next first z e = ap (λ b. record { answer = Done (bit b); at = stepAt next; tally = z }) e
+
 module _ (t : List ℕ) (at first : Step) (lengths : List ℕ) (y : Tally) {n : Named} (e : n ≡ placed t at first) where
   pub step-refused : {r : Refusal} {q : Stepped} → n ≡ Refused r → q ≡ stays at y r → q ≡ stepOf t at first lengths y
   step-refused f h = h ∙ sym (ap (stepBy t at first lengths y) (sym e ∙ f))
 
-  module _ {s : ℕ} {m : Tallied} (f : n ≡ There s) (g : m ≡ tallyOf t s lengths y) where
+  module _ {s next : ℕ} {last : Bool} {m : Tallied} (f : n ≡ There s) (h : next ≡ step (rotation t) s) (l : last ≡ endsAt next first) (g : m ≡ tallyOf t s last lengths y) where
     stepped : steppedBy t at first y s m ≡ stepOf t at first lengths y
-    stepped = ap (steppedBy t at first y s) g ∙ sym (ap (stepBy t at first lengths y) (sym e ∙ f))
+    stepped =
+        let own : last ≡ endsAt (step (rotation t) s) first = l ∙ ap (λ x. endsAt x first) h in
+        ap (steppedBy t at first y s) (g ∙ ap (λ b. tallyOf t s b lengths y) own) ∙ sym (ap (stepBy t at first lengths y) (sym e ∙ f))
 
     pub step-kept : {r : Refusal} {q : Stepped} → m ≡ Kept r → q ≡ stays at y r → q ≡ stepOf t at first lengths y
-    step-kept k h = h ∙ sym (ap (steppedBy t at first y s) k) ∙ stepped
+    step-kept k i = i ∙ sym (ap (steppedBy t at first y s) k) ∙ stepped
 
-    pub step-moved : {z : Tally} {next : ℕ} {q : Stepped} → m ≡ Brought z → next ≡ step (rotation t) s → q ≡ goesOn next first z → q ≡ stepOf t at first lengths y
-    step-moved {z} k h i = i ∙ ap (λ x. goesOn x first z) h ∙ sym (ap (steppedBy t at first y s) k) ∙ stepped
+    pub step-moved : {z : Tally} {q : Stepped} → m ≡ Brought z → q ≡ goesOn next first z → q ≡ stepOf t at first lengths y
+    step-moved {z} k i = i ∙ ap (λ x. goesOn x first z) h ∙ sym (ap (steppedBy t at first y s) k) ∙ stepped
 
 -- a step goes on, or it leaves the reader and the tally as they were
 data Settled (at : Step) (y : Tally) (q : Stepped) : Type 0 where
@@ -162,7 +168,7 @@ settled t at first lengths y = by (placed t at first)
     tallied s (Kept r) = rests r refl
 
     by : (n : Named) → Settled at y (stepBy t at first lengths y n)
-    by (There s) = tallied s (tallyOf t s lengths y)
+    by (There s) = tallied s (tallyAt t first s lengths y)
     by (Refused r) = rests r refl
 
 module _ (t lengths : List ℕ) (y : Tally) where
@@ -191,8 +197,30 @@ module _ (t lengths : List ℕ) (y : Tally) where
       tallied s low (Kept r) e = absurd (done-declined e)
 
       by : (n : Named) → n ≡ placed t at first → stepBy t at first lengths y n .answer ≡ Done 1 → stepBy t at first lengths y n .at ≡ first
-      by (There s) p e = tallied s (there-placed p .first-type) (tallyOf t s lengths y) e
+      by (There s) p e = tallied s (there-placed p .first-type) (tallyAt t first s lengths y) e
       by (Refused r) p e = absurd (done-declined e)
+
+-- an accepted step's answer says whether the lap is in the tally
+pub step-tallied : (t : List ℕ) (at first : Step) (lengths : List ℕ) (y : Tally) (n : ℕ) → stepOf t at first lengths y .answer ≡ Done n
+    → stepOf t at first lengths y .tally ≡ stepTally t (wordAt at) (eqb n 1) lengths y
+step-tallied t at first lengths y n = by (placed t at first) refl
+  where
+    told : (b : Bool) → Done (bit b) ≡ Done n → b ≡ eqb n 1
+    told true e = sym (eq-eqb n 1 (done-same e))
+    told false e = let none = done-same e in sym (ne-eqb n 1 (λ f. omega arith))
+
+    tallied : (s : ℕ) (m : Tallied) → m ≡ tallyAt t first s lengths y → steppedBy t at first y s m .answer ≡ Done n
+        → steppedBy t at first y s m .tally ≡ stepTally t s (eqb n 1) lengths y
+    tallied s (Brought z) g e =
+        let last = endsAt (step (rotation t) s) first in
+        brought-is t s last lengths y g ∙ ap (λ b. stepTally t s b lengths y) (told last e)
+    tallied s (Kept r) g e = absurd (done-declined e)
+
+    by : (m : Named) → m ≡ placed t at first → stepBy t at first lengths y m .answer ≡ Done n
+        → stepBy t at first lengths y m .tally ≡ stepTally t (wordAt at) (eqb n 1) lengths y
+    by (There s) p e =
+        tallied s (tallyAt t first s lengths y) refl e ∙ ap (λ x. stepTally t x (eqb n 1) lengths y) (there-placed p .word)
+    by (Refused r) p e = absurd (done-declined e)
 
 pub each-step : (t lengths : List ℕ) (y : Tally) → EachStep t lengths y
 each-step t lengths y = record {

@@ -2,15 +2,13 @@
 -- a tally begun at zeros holds the ribbon's numbers.
 use Prim.Native.Nat.{ℕ, zero, suc, _+_, _*_, _/_, _%_, _<_, _≤_}
 use native.Mathlib.Omega.{arith}
-use native.Mathlib.Numerals.{add-one}
 use native.Mathlib.Decide.{ℕ-discrete}
 use mathlib.Core.Path.{_≡_, refl, sym, _∙_, ap, ap₂}
-use mathlib.Core.Bool.{true, false, _||_, or-true}
+use mathlib.Core.Bool.{true, false}
 use mathlib.Core.List.{List, [], _∷_, _++_}
-use lib.Dec.{ltb, eqb}
+use lib.Dec.{eqb}
 use lib.ListN.{length}
-use borrow.Author.Tests.{lt-ltb, le-leb, ltb-false, eq-eqb, ne-eqb}
-use Rattle.orbits.specs.laws.Truth.{clash, false-unless}
+use borrow.Author.Tests.{lt-ltb, le-leb, eq-eqb, ne-eqb}
 use Rattle.orbits.specs.Iterate.{iter}
 use Rattle.orbits.specs.laws.Iterate.{iter-suc, iter-keeps, Period}
 use Rattle.table.specs.Layout.{edges}
@@ -25,44 +23,32 @@ use Rattle.tracing.specs.Walk.{walk}
 use Rattle.tracing.specs.laws.Walk.{iterates, run-suc, run-length, walk-run, walk-period, walk-period-le}
 use Rattle.tracing.specs.Listing.{gather, bit}
 use Rattle.tracing.specs.laws.Meets.{run-has}
+use Rattle.tracing.specs.laws.Totals.{total-last}
 use Rattle.walks.specs.laws.Stands.{Stands, stands-low, stands-step}
 use Rattle.weave.specs.declared.named.Named.{Named}
 use Rattle.weave.specs.declared.named.Named.the-variants.{There, Refused}
-use Rattle.weave.specs.Letters.{over, under, wordOf, stepLetters, letters}
-use Rattle.letters.specs.laws.Crossing.{edge-read, crossings-few}
+use Rattle.weave.specs.Letters.{over, under, stepLetters, letters}
+use Rattle.letters.specs.laws.Counts.{letters-few}
 use Rattle.letters.specs.laws.Passing.{lettersBefore, before-suc}
 use Rattle.weave.specs.Ribbon.{some}
-use Rattle.weave.specs.laws.Ribbon.{passes-some}
+use Rattle.weave.specs.laws.Ribbon.{none-passes}
 use Rattle.weave.specs.Calls.{namedStep}
-use Rattle.lengths.specs.CutLength.{lengthOf, farLength, cutLength, longest}
-use Rattle.lengths.specs.laws.Summing.{cut-append}
+use Rattle.weave.specs.laws.Calls.{there-steps}
+use Rattle.lengths.specs.CutLength.{farLength, takenBy, lap, lengthAlong, cutLengthBy, cutLengthOf}
+use Rattle.lengths.specs.laws.Summing.{saw-total, takenBefore, takenMost, taken-most, length-most}
 use Rattle.reader.specs.declared.place.Step.{Step}
 use Rattle.tally.specs.declared.tally.Tally.{Tally}
-use Rattle.tracing.specs.Met.{times, countIn}
+use Rattle.tracing.specs.Met.{times, countIn, total}
 use Rattle.tracing.specs.laws.Has.{countIn-append}
-use Rattle.tally.specs.laws.Counts.{unders-left}
-use Rattle.tally.specs.Forward.{past32, fits32, forwardOf, stepTally, tallyOf}
-use Rattle.reader.specs.Reader.{beginBy, beginOf, wordAt, stepAt, goesOn, stepBy, stepOf}
+use Rattle.tally.specs.Forward.{past32, fits32, forwardOf, lapAt, stepTally, tallyOf}
+use Rattle.tally.specs.laws.Forward.{lap-most}
+use Rattle.reader.specs.Reader.{beginBy, beginOf, wordAt, stepAt, endsAt, goesOn, stepBy, stepOf}
 use Rattle.reader.specs.laws.Reader.{in-range, placed-begun, placed-there, Placed, there-placed}
 use Rattle.reader.specs.Walked.{stepsFrom, afterSteps, handed, Walked}
 
--- a step has at most 99 letters
-letters-few : {t : List ℕ} {s : ℕ} → Stands t s → (times over (stepLetters t s) ≤ 99) × (times under (stepLetters t s) ≤ 99)
-unfolding stepLetters
-letters-few {t} {s} h =
-    let e = edge-read h in
-    let most = crossings-few (e .some) (e .most) in
-    let u = unders-left (wordOf t s) (s % 2) refl refl (omega arith) in
-    let few = u .0 in
-    let rest = u .1 in
-    (omega arith, omega arith)
-
--- a length that is not too long
-length-most : (lengths : List ℕ) (x : ℕ) → farLength lengths x ≡ false → lengthOf lengths x ≤ longest
-length-most lengths x e = ltb-false longest (lengthOf lengths x) (false-unless (ltb longest (lengthOf lengths x)) (λ h.
-    clash (ap (λ b. ltb (lengthOf lengths x) 1 || b) h ∙ or-true (ltb (lengthOf lengths x) 1)) e))
-
-module _ (t : List ℕ) (first : Step) (lengths : List ℕ) (start : Stands t (wordAt first)) (type : first .kind < 2) (size : edges ≤ length lengths) where
+module _ (t : List ℕ) (first : Step) (lengths : List ℕ) (start : Stands t (wordAt first)) (type : first .kind < 2) (size : edges ≤ length lengths)
+    (near : some (farLength lengths) (walk (rotation t) (wordAt first)) ≡ false) (p : Period (step (rotation t)) (wordAt first)) (few : p .steps ≤ steps)
+    (all : walk (rotation t) (wordAt first) ≡ iterates (step (rotation t)) (wordAt first) (p .steps)) where
   abbrev s : ℕ
   s = wordAt first
 
@@ -70,8 +56,8 @@ module _ (t : List ℕ) (first : Step) (lengths : List ℕ) (start : Stands t (w
   f = step (rotation t)
 
   -- one step that is not declined
-  one-step : (x : ℕ) (y : Tally) → Stands t x → farLength lengths x ≡ false → fits32 (stepTally t x lengths y) ≡ true
-      → stepOf t (stepAt x) first lengths y ≡ goesOn (f x) first (stepTally t x lengths y)
+  one-step : (x : ℕ) (y : Tally) → Stands t x → farLength lengths x ≡ false → fits32 (stepTally t x (endsAt (f x) first) lengths y) ≡ true
+      → stepOf t (stepAt x) first lengths y ≡ goesOn (f x) first (stepTally t x (endsAt (f x) first) lengths y)
   unfolding tallyOf forwardOf
   one-step x y h near fits =
       let half : s / 2 ≡ first .dart = omega arith in
@@ -81,13 +67,17 @@ module _ (t : List ℕ) (first : Step) (lengths : List ℕ) (start : Stands t (w
       let word : 2 * (x / 2) + x % 2 ≡ x = omega arith in
       ap (stepBy t (stepAt x) first lengths y) (sym there ∙ ap There word) ∙ rw (le-leb edges (length lengths) size, near, fits)
 
+  -- the lap, once n steps have been all of the walk's
+  abbrev lapped : ℕ → ℕ
+  lapped n = lapAt (eqb n (p .steps))
+
   -- the tally of the first n steps of the walk
   abbrev tallied : ℕ → Tally
   tallied n = record {
     steps = n;
     overs = times over (lettersBefore t s n);
     unders = times under (lettersBefore t s n);
-    length = cutLength lengths (iterates f s n);
+    length = takenBefore t lengths s n + lapped n;
   }
 
   -- what n steps have come to, none of them past the walk's last
@@ -97,7 +87,7 @@ module _ (t : List ℕ) (first : Step) (lengths : List ℕ) (start : Stands t (w
     steps : handed t first lengths n ≡ iterates f s n
     overs : times over (lettersBefore t s n) ≤ 99 * n
     unders : times under (lettersBefore t s n) ≤ 99 * n
-    length : cutLength lengths (iterates f s n) ≤ longest * n
+    length : takenBefore t lengths s n ≤ takenMost * n
 
   first-at : first ≡ stepAt s
   first-at = ap₂ pair (omega arith) (omega arith)
@@ -105,11 +95,33 @@ module _ (t : List ℕ) (first : Step) (lengths : List ℕ) (start : Stands t (w
       pair : ℕ → ℕ → Step
       pair d k = record { dart = d; kind = k }
 
-  reads-none : Reads zero
-  unfolding stepsFrom handed iterates gather countIn cutLength iter
-  reads-none = record { at = first-at; tally = refl; steps = refl; overs = omega arith; unders = omega arith; length = omega arith }
+  not-yet : (n : ℕ) → n < p .steps → lapped n ≡ 0
+  not-yet n h = ap lapAt (ne-eqb n (p .steps) (λ e. omega arith))
 
-  module _ (n : ℕ) (k : Reads n) (low : n < steps) (near : farLength lengths (iter f n s) ≡ false) where
+  reads-none : Reads zero
+  unfolding stepsFrom handed iterates gather countIn total iter
+  reads-none = let none = not-yet zero (p .some) in record {
+    at = first-at;
+    tally = ap (λ l. record { steps = 0; overs = 0; unders = 0; length = l }) (omega arith);
+    steps = refl;
+    overs = omega arith;
+    unders = omega arith;
+    length = omega arith;
+  }
+
+  near-at : (n : ℕ) → n < p .steps → farLength lengths (iter f n s) ≡ false
+  near-at n h =
+      none-passes (farLength lengths) (walk (rotation t) s) (iter f n s) near
+      (rw all (run-has f s (iter f n s) (p .steps) (record { steps = n; few = h; lands = refl })))
+
+  -- the step after leads back exactly at the walk's end
+  end-at : (n : ℕ) → n < p .steps → endsAt (f (iter f n s)) first ≡ eqb (suc n) (p .steps)
+  end-at n h = elim (ℕ-discrete (suc n) (p .steps)) [
+    | yes e ↦ eq-eqb (f (iter f n s)) s (sym (iter-suc f n s) ∙ ap (λ j. iter f j s) e ∙ p .back) ∙ sym (eq-eqb (suc n) (p .steps) e)
+    | no e ↦ ne-eqb (f (iter f n s)) s (λ b. p .least (suc n) (omega arith) (omega arith) (iter-suc f n s ∙ b)) ∙ sym (ne-eqb (suc n) (p .steps) e)
+  ]
+
+  module _ (n : ℕ) (k : Reads n) (low : n < p .steps) where
     abbrev x : ℕ
     x = iter f n s
 
@@ -119,50 +131,55 @@ module _ (t : List ℕ) (first : Step) (lengths : List ℕ) (start : Stands t (w
     times-suc : (l : ℕ) → times l (lettersBefore t s (suc n)) ≡ times l (lettersBefore t s n) + times l (stepLetters t x)
     times-suc l = ap (times l) (before-suc t s n) ∙ countIn-append (λ y. eqb l y) (lettersBefore t s n) (stepLetters t x)
 
-    cut-suc : cutLength lengths (iterates f s (suc n)) ≡ cutLength lengths (iterates f s n) + lengthOf lengths x
-    unfolding cutLength
-    cut-suc = ap (cutLength lengths) (run-suc f s n) ∙ cut-append lengths (iterates f s n) (x ∷ []) ∙ omega arith
+    length-suc : takenBefore t lengths s n + lapped n + (takenBy t lengths x + lapped (suc n)) ≡ takenBefore t lengths s (suc n) + lapped (suc n)
+    length-suc = let taken = total-last f s (takenBy t lengths) n in let none = not-yet n low in omega arith
 
-    tally-suc : stepTally t x lengths (tallied n) ≡ tallied (suc n)
-    tally-suc = rw (times-suc over, times-suc under, cut-suc, add-one)
+    tally-suc : stepTally t x (eqb (suc n) (p .steps)) lengths (tallied n) ≡ tallied (suc n)
+    tally-suc =
+        let one : n + 1 ≡ suc n = omega arith in
+        (λ i. record { steps = one i; overs = sym (times-suc over) i; unders = sym (times-suc under) i; length = length-suc i })
 
-    tally-fits : fits32 (stepTally t x lengths (tallied n)) ≡ true
+    tally-fits : fits32 (stepTally t x (eqb (suc n) (p .steps)) lengths (tallied n)) ≡ true
     tally-fits =
-        let few = letters-few there in
-        let o = few .0 in
-        let u = few .1 in
-        let l = length-most lengths x near in
+        let letters = letters-few there in
+        let o = letters .0 in
+        let u = letters .1 in
+        let l = taken-most lengths there (length-most lengths x (near-at n low)) in
         let overs = k .overs in
         let unders = k .unders in
         let length = k .length in
+        let lap = lap-most (eqb (suc n) (p .steps)) in
+        let none = not-yet n low in
         rw (
           lt-ltb (n + 1) past32 (omega arith),
           lt-ltb (times over (lettersBefore t s n) + times over (stepLetters t x)) past32 (omega arith),
           lt-ltb (times under (lettersBefore t s n) + times under (stepLetters t x)) past32 (omega arith),
-          lt-ltb (cutLength lengths (iterates f s n) + lengthOf lengths x) past32 (omega arith),
+          lt-ltb (takenBefore t lengths s n + lapped n + (takenBy t lengths x + lapped (suc n))) past32 (omega arith),
         )
 
     -- one step more is not declined
     reads-step : afterSteps t first lengths (suc n) ≡ goesOn (f x) first (tallied (suc n))
     unfolding stepsFrom
     reads-step =
+        let last = end-at n low in
         ap₂ (λ a y. stepOf t a first lengths y) (k .at) (k .tally)
-        ∙ one-step x (tallied n) there near tally-fits
+        ∙ one-step x (tallied n) there (near-at n low) (ap (λ b. fits32 (stepTally t x b lengths (tallied n))) last ∙ tally-fits)
+        ∙ ap (λ b. goesOn (f x) first (stepTally t x b lengths (tallied n))) last
         ∙ ap (goesOn (f x) first) tally-suc
 
     reads-more : Reads (suc n)
     unfolding handed
     reads-more =
-        let few = letters-few there in
-        let o = few .0 in
-        let u = few .1 in
-        let l = length-most lengths x near in
+        let letters = letters-few there in
+        let o = letters .0 in
+        let u = letters .1 in
+        let l = taken-most lengths there (length-most lengths x (near-at n low)) in
         let overs = k .overs in
         let unders = k .unders in
         let length = k .length in
         let overs-suc = times-suc over in
         let unders-suc = times-suc under in
-        let length-suc = cut-suc in
+        let taken = total-last f s (takenBy t lengths) n in
         let word : wordAt (stepAt x) ≡ x = omega arith in
         record {
           at = ap (λ r. r .at) reads-step ∙ ap stepAt (sym (iter-suc f n s));
@@ -173,46 +190,40 @@ module _ (t : List ℕ) (first : Step) (lengths : List ℕ) (start : Stands t (w
           length = omega arith;
         }
 
-  module _ (near : some (farLength lengths) (walk (rotation t) s) ≡ false) (p : Period f s) (few : p .steps ≤ steps) (all : walk (rotation t) s ≡ iterates f s (p .steps)) where
-    near-at : (n : ℕ) → n < p .steps → farLength lengths (iter f n s) ≡ false
-    near-at n h = false-unless (farLength lengths (iter f n s)) (λ e.
-        clash (passes-some (farLength lengths) (walk (rotation t) s) (iter f n s) (rw all (run-has f s (iter f n s) (p .steps) (record { steps = n; few = h; lands = refl }))) e) near)
+  reads : (n : ℕ) → n ≤ p .steps → Reads n
+  reads zero h = reads-none
+  reads (suc n) h = reads-more n (reads n (omega arith)) (omega arith)
 
-    reads : (n : ℕ) → n ≤ p .steps → Reads n
-    reads zero h = reads-none
-    reads (suc n) h = reads-more n (reads n (omega arith)) (omega arith) (near-at n (omega arith))
-
-    -- the step after leads back exactly at the walk's end
-    end-at : (n : ℕ) → n < p .steps → eqb (f (iter f n s)) s ≡ eqb (suc n) (p .steps)
-    end-at n h = elim (ℕ-discrete (suc n) (p .steps)) [
-      | yes e ↦ eq-eqb (f (iter f n s)) s (sym (iter-suc f n s) ∙ ap (λ j. iter f j s) e ∙ p .back) ∙ sym (eq-eqb (suc n) (p .steps) e)
-      | no e ↦ ne-eqb (f (iter f n s)) s (λ b. p .least (suc n) (omega arith) (omega arith) (iter-suc f n s ∙ b)) ∙ sym (ne-eqb (suc n) (p .steps) e)
-    ]
-
-    walked : Walked t first lengths
-    unfolding letters
-    walked =
-        let size-is : length (walk (rotation t) s) ≡ p .steps = ap length all ∙ run-length f s (p .steps) in
-        let last = reads (p .steps) (omega arith) in
-        record {
-          steps = rw size-is (last .steps ∙ sym all);
-          ends = λ n h.
-              let l : n < p .steps = omega arith in
-              rw size-is
-              (ap (λ r. r .answer) (reads-step n (reads n (omega arith)) (omega arith) (near-at n l)) ∙ ap (λ b. Done (bit b)) (end-at n l));
-          again = rw size-is (last .at ∙ ap stepAt (p .back) ∙ sym first-at);
-          tally = rw (size-is, all) (last .tally);
-        }
+  walked : Walked t first lengths
+  unfolding letters
+  walked =
+      let size-is : length (walk (rotation t) s) ≡ p .steps = ap length all ∙ run-length f s (p .steps) in
+      let last = reads (p .steps) (omega arith) in
+      let lap-is : lapped (p .steps) ≡ lap = ap lapAt (eq-eqb (p .steps) (p .steps) refl) in
+      record {
+        steps = rw size-is (last .steps ∙ sym all);
+        ends = λ n h.
+            let l : n < p .steps = omega arith in
+            rw size-is
+            (ap (λ r. r .answer) (reads-step n (reads n (omega arith)) l) ∙ ap (λ b. Done (bit b)) (end-at n l));
+        again = rw size-is (last .at ∙ ap stepAt (p .back) ∙ sym first-at);
+        tally = rw (size-is, saw-total t lengths s, all) (rw lap-is at (last .tally));
+      }
 
 -- a step that a reader can be made at
+begun-named : (n : Named) → beginBy n ≡ Done 0 → (x : ℕ) × (There x ≡ n)
+begun-named (There x) e = (x, refl)
+begun-named (Refused r) e = absurd (done-declined e)
+
 pub begun-placed : (t : List ℕ) (s : Step) → beginOf t (s .dart) (s .kind) ≡ Done 0 → Placed t s s (wordAt s)
 begun-placed t s b =
-    let n = begun (namedStep t (s .dart) (s .kind)) b in
+    let n = begun-named (namedStep t (s .dart) (s .kind)) b in
     let h = there-placed (n .1 ∙ sym (placed-begun t s)) in rw (h .word) at h
-  where
-    begun : (n : Named) → beginBy n ≡ Done 0 → (x : ℕ) × (There x ≡ n)
-    begun (There x) e = (x, refl)
-    begun (Refused r) e = absurd (done-declined e)
+
+begun-there : (t : List ℕ) (s : Step) → beginOf t (s .dart) (s .kind) ≡ Done 0 → namedStep t (s .dart) (s .kind) ≡ There (wordAt s)
+begun-there t s b =
+    let n = begun-named (namedStep t (s .dart) (s .kind)) b in
+    sym (n .1) ∙ ap There (there-steps t (s .dart) (s .kind) (n .1) .word)
 
 -- a reader that can be made, lengths that are there, and none of the walk's edges out of range
 pub reader-walks : (t : List ℕ) (first : Step) (lengths : List ℕ) → beginOf t (first .dart) (first .kind) ≡ Done 0 → edges ≤ length lengths
@@ -226,3 +237,13 @@ reader-walks t first lengths b size near =
     let p = walk-period R L (wordAt first) low in
     let few = walk-period-le R L (wordAt first) low p in
     walked t first lengths start (h .first-type) size near p few (walk-run R (wordAt first) p few)
+
+-- and the call for the cut length answers what the tally then has
+pub tally-cut : (t : List ℕ) (first : Step) (lengths : List ℕ) → beginOf t (first .dart) (first .kind) ≡ Done 0 → edges ≤ length lengths
+    → some (farLength lengths) (walk (rotation t) (wordAt first)) ≡ false
+    → cutLengthOf t (first .dart) (first .kind) lengths ≡ Done (afterSteps t first lengths (length (walk (rotation t) (wordAt first))) .tally .length)
+unfolding lengthAlong
+tally-cut t first lengths b size near =
+    let there = begun-there t first b in
+    let tally = reader-walks t first lengths b size near .tally in
+    ap (cutLengthBy t lengths) there ∙ rw (le-leb edges (length lengths) size, near) (ap (λ y. Done (y .length)) (sym tally))

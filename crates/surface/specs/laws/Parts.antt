@@ -1,6 +1,5 @@
 -- The parts of a mesh, upward by their smallest vertices; V, E and F of the mesh are the sums of those of its parts, document 01, "Counts".
 --     parts                the smallest vertices of the parts
---     total                the sum over a list
 --     additive             any count that adds up over exclusive parts is the sum over the parts
 --     vertices-sum, edges-sum, faces-sum     V, E and F
 --     empty-parts          "The empty mesh has no parts", and no vertex, edge or walk
@@ -9,7 +8,7 @@ use native.Mathlib.Omega.{arith}
 use native.Mathlib.Decide.{ℕ-discrete, decLt}
 use mathlib.Core.Path.{_≡_, refl, sym, _∙_, ap, fun-ext}
 use mathlib.Core.Bool.{Bool, true, false, _&&_, _||_, and-or-distrib-left, true-or, or-true}
-use mathlib.Core.List.{List, [], _∷_, _++_}
+use mathlib.Core.List.{[]}
 use lib.Dec.{eqb, ltb}
 use borrow.Author.Tests.{eq-eqb, ne-eqb, eqb-true, lt-ltb, le-ltb, ltb-true}
 use Rattle.table.specs.Layout.{vertices, edges}
@@ -29,13 +28,9 @@ use Rattle.surface.specs.laws.Labels.{label-joined, label-smallest, same
 use Rattle.surgery.specs.laws.PlacesIn.{placeVertex, vertex-step, vertex-still, placesIn}
 use Rattle.surface.specs.Counts.{vertexCount, verticesIn, edgesIn, walksIn}
 use Rattle.surface.specs.laws.Counts.{walks-faces}
-use Rattle.surface.specs.Parts.{root?, partsBelow, parts, total}
-use Rattle.tracing.specs.Met.{edgeCount}
-
-total-append : (f : ℕ → ℕ) (a b : List ℕ) → total f (a ++ b) ≡ total f a + total f b
-unfolding total
-total-append f [] b = omega arith
-total-append f (x ∷ a) b = let e = total-append f a b in omega arith
+use Rattle.surface.specs.Parts.{root?, partsBelow, parts}
+use Rattle.tracing.specs.Met.{total, edgeCount}
+use Rattle.tracing.specs.laws.Totals.{total-append}
 
 total-only : (f : ℕ → ℕ) (b : Bool) (x : ℕ) → (b ≡ false → f x ≡ 0) → total f (only b x) ≡ f x
 unfolding total

@@ -11,11 +11,12 @@ use lib.Dec.{le→leb}
 use lib.IntN.{ℤ, pos, negℤ, natAbs, _+ℤ_, _-ℤ_, +ℤ-assoc, +ℤ-comm, negℤ-+ℤ}
 use lib.Signed.{_≤ℤ_}
 use Rattle.table.specs.Rotation.{Rotation, Lawful}
+use Rattle.tracing.specs.Met.{total}
 use Rattle.surface.specs.Labels.{inPart}
 use Rattle.surface.specs.laws.Labels.{inPart-of}
 use Rattle.surface.specs.Counts.{verticesIn, edgesIn, walksIn}
 use Rattle.surface.specs.laws.Euler.{Closed, euler}
-use Rattle.surface.specs.Parts.{root?, parts, total}
+use Rattle.surface.specs.Parts.{root?, parts}
 use Rattle.surface.specs.laws.Parts.{root-there, root-label, vertices-sum, edges-sum, faces-sum, empty-vertices, empty-edges, empty-faces}
 use Rattle.surface.specs.Signed.{eulerOf, partEuler, meshEuler, PartLaws, totalℤ}
 use Rattle.table.specs.laws.Signed.{minus-difference, above, below}

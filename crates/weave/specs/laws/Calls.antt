@@ -54,6 +54,7 @@ module _ (t : List ℕ) (d k : ℕ) where
   pub record NamedThere (s : ℕ) : Type 0 where
     pub stands : Stands t s
     pub word : s ≡ 2 * d + k
+    pub type : k < 2
 
   pub there-steps : {s : ℕ} → There s ≡ namedStep t d k → NamedThere s
   unfolding namedStep
@@ -68,7 +69,7 @@ module _ (t : List ℕ) (d k : ℕ) where
             let f : There s ≡ There (2 * d + k) = rw (g, n, l) at e in
             let word : s ≡ 2 * d + k = cc in
             let half : s / 2 ≡ d = omega arith in
-            record { stands = record { good = case-yes (good-case t) g; live = rw half l }; word = word }
+            record { stands = record { good = case-yes (good-case t) g; live = rw half l }; word = word; type = low }
       ]
     ]
   ]

@@ -9,7 +9,7 @@ use mathlib.Core.Logic.{_↔_}
 use lib.Dec.{ltb}
 use lib.ListN.{length, replicate, length-append, length-replicate}
 use borrow.Author.Tests.{lt-ltb, le-ltb, ltb-true, ltb-false}
-use Rattle.orbits.specs.laws.Truth.{truth, holds, fails, clash, not-both, both}
+use Rattle.orbits.specs.laws.Truth.{truth, holds, fails, clash, false-unless, not-both, both}
 use Rattle.orbits.specs.Iterate.{iter}
 use Rattle.table.specs.Good.{Good}
 use Rattle.table.specs.Rotation.{rotation, turnsOf}
@@ -53,6 +53,10 @@ passes-some q (y ∷ l) x h e = elim (has-cons x y l h) [
   | here p ↦ rw (← p, e)
   | later r ↦ rw (passes-some q l x r e) (or-true (q y))
 ]
+
+-- where none of them passes, no member does
+pub none-passes : (q : ℕ → Bool) (l : List ℕ) (x : ℕ) → some q l ≡ false → has x l ≡ true → q x ≡ false
+none-passes q l x n h = false-unless (q x) (λ e. clash (passes-some q l x h e) n)
 
 -- the hands of an edge's crossings, and of those along some steps
 

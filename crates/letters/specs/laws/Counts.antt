@@ -1,12 +1,15 @@
 -- How many of a step's letters are O and U: every other one.
-use Prim.Native.Nat.{ℕ, zero, suc, _+_, _-_, _/_, _<_, _≤_}
+use Prim.Native.Nat.{ℕ, zero, suc, _+_, _-_, _/_, _%_, _<_, _≤_}
 use native.Mathlib.Omega.{arith}
-use mathlib.Core.Path.{_≡_, refl}
+use mathlib.Core.Path.{_≡_, refl, sym}
 use mathlib.Core.Bool.{Bool, true, false}
+use mathlib.Core.List.{List}
 use borrow.Author.Tests.{lt-ltb, le-ltb}
 use Rattle.tracing.specs.Met.{times, countIn}
-use Rattle.tracing.specs.laws.Step.{type-of, is-zero, is-one}
-use Rattle.weave.specs.Letters.{over, under, unturned, positive, crossings, letter, crossed, lettersOn}
+use Rattle.tracing.specs.laws.Step.{type-of, type?, is-zero, is-one}
+use Rattle.walks.specs.laws.Stands.{Stands}
+use Rattle.weave.specs.Letters.{over, under, unturned, positive, crossings, letter, crossed, lettersOn, wordOf, stepLetters}
+use Rattle.letters.specs.laws.Crossing.{EdgeWord, edge-read, crossings-few}
 
 -- "the strand goes over (O) .., else under (U)": each crossing has one of the two letters
 times-both : (h : Bool) (n : ℕ) → (times over (crossed h 0 n) + times under (crossed h 0 n) ≡ n) × (times over (crossed h 1 n) + times under (crossed h 1 n) ≡ n)
@@ -62,4 +65,44 @@ unders-left w kind e f h = let both = by in (omega arith, omega arith)
     by = elim (type-of kind h) [
       | is-zero z ↦ rw z (times-both (positive w) (crossings w) .0)
       | is-one z ↦ rw z (times-both (positive w) (crossings w) .1)
+    ]
+
+-- a step has at most 99 letters
+pub letters-few : {t : List ℕ} {s : ℕ} → Stands t s → (times over (stepLetters t s) ≤ 99) × (times under (stepLetters t s) ≤ 99)
+unfolding stepLetters
+letters-few {t} {s} h =
+    let e = edge-read h in
+    let most = crossings-few (e .some) (e .most) in
+    let u = unders-left (wordOf t s) (s % 2) refl refl (omega arith) in
+    let few = u .0 in
+    let rest = u .1 in
+    (omega arith, omega arith)
+
+-- the O's that are counted by the word of the step's edge are those of the step
+pub overs-step : {t : List ℕ} {s w o : ℕ} → EdgeWord t s w → o ≡ times over (lettersOn w (s % 2)) → o ≡ times over (stepLetters t s)
+unfolding stepLetters
+overs-step e f = rw (← (e .word)) f
+
+-- over stays over when an edge is travelled back
+
+crossings-parity : (w : ℕ) → crossings w % 2 ≡ w % 2
+unfolding crossings
+crossings-parity w = omega arith
+
+-- an even number of crossings has as many O's from either type on
+overs-even : (hand : Bool) (n : ℕ) → n % 2 ≡ 0 → times over (crossed hand 0 n) ≡ times over (crossed hand 1 n)
+overs-even true n e = let h = halves n in let zero = h .positive-zero in let one = h .positive-one in omega arith
+overs-even false n e = let h = halves n in let zero = h .negative-zero in let one = h .negative-one in omega arith
+
+-- the way back begins with the other type than that which the step came to
+pub overs-back : (w s : ℕ) → times over (lettersOn w (1 - (s + w) % 2)) ≡ times over (lettersOn w (s % 2))
+unfolding lettersOn
+overs-back w s =
+    let parity = crossings-parity w in
+    elim (type? (crossings w)) [
+      | is-zero even ↦ elim (type? s) [
+        | is-zero e ↦ let from : 1 - (s + w) % 2 ≡ 1 = omega arith in rw (from, e) (sym (overs-even (positive w) (crossings w) even))
+        | is-one e ↦ let from : 1 - (s + w) % 2 ≡ 0 = omega arith in rw (from, e) (overs-even (positive w) (crossings w) even)
+      ]
+      | is-one odd ↦ let from : 1 - (s + w) % 2 ≡ s % 2 = omega arith in rw from
     ]

@@ -1,9 +1,9 @@
--- `tally::overs` meets its contract: half of the crossings, and the odd one by the hand and the type.
-use Rattle.tally.specs.laws.Counts.{overs-positive, overs-negative, crossings-most}
+-- `letter::overs` meets its contract: half of the crossings, and the odd one by the hand and the type.
+use Rattle.letters.specs.laws.Counts.{overs-positive, overs-negative, crossings-most}
 use native.Mathlib.Omega.{arith}
 use borrow.Author.Needs.{needs}
-use Rattle.tally.proofs.tally.overs.Statement.{statement}
-use Rattle.tally.proofs.tally.overs.Tie as tie
+use Rattle.letters.proofs.letter.overs.Statement.{statement}
+use Rattle.letters.proofs.letter.overs.Tie as tie
 
 crossings-requires : tie.Need-crossings-requires
 crossings-requires c κs = search needs

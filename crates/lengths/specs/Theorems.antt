@@ -1,0 +1,40 @@
+-- The theorems of this crate, document 02, d. Each is proved by the law of its name.
+use Prim.Native.Nat.{ℕ, _/_, _<_, _≤_}
+use mathlib.Core.Path.{_≡_}
+use mathlib.Core.Bool.{true, false}
+use mathlib.Core.List.{List}
+use mathlib.Core.Logic.{_≢_}
+use Rattle.table.specs.Layout.{leaves}
+use Rattle.table.specs.Good.{Good}
+use Rattle.table.specs.Rotation.{rotation, live?, alone?}
+use Rattle.table.specs.declared.answer.Answer.the-variants.{Done}
+use Rattle.tracing.specs.Step.{steps, mirror}
+use Rattle.tracing.specs.Walk.{walk}
+use Rattle.tracing.specs.Listing.{has, loneCorner}
+use Rattle.weave.specs.Ribbon.{some}
+use Rattle.lengths.specs.CutLength.{farLength, sawLength, lengthAlong, cutLengthOf}
+use Rattle.lengths.specs.laws.Sense as sense
+
+-- the cut length does not depend on the step that names the ribbon
+pub saw-named : (t : List ℕ) (g : Good t) (lengths : List ℕ) (s x : ℕ) → s < steps → has x (walk (rotation t) s) ≡ true → sawLength t lengths s ≡ sawLength t lengths x
+saw-named = sense.saw-named
+
+-- nor on the sense in which its face is traced: over stays over when it is travelled back
+pub saw-mirror : (t : List ℕ) (g : Good t) (lengths : List ℕ) (s : ℕ) → s < steps → sawLength t lengths s ≡ sawLength t lengths (mirror (rotation t) s)
+saw-mirror = sense.saw-mirror
+
+-- and so what the call answers, 9 too
+pub along-named : (t : List ℕ) (g : Good t) (lengths : List ℕ) (s x : ℕ) → s < steps → has x (walk (rotation t) s) ≡ true → lengthAlong t lengths s ≡ lengthAlong t lengths x
+along-named = sense.along-named
+
+pub along-mirror : (t : List ℕ) (g : Good t) (lengths : List ℕ) (s : ℕ) → s < steps → lengthAlong t lengths s ≡ lengthAlong t lengths (mirror (rotation t) s)
+along-mirror = sense.along-mirror
+
+-- "any cut length" fits 32 bits: it is at most 135,838,016
+pub saw-most : (t : List ℕ) (g : Good t) (lengths : List ℕ) (s : ℕ) → live? t (s / 2) ≡ true → some (farLength lengths) (walk (rotation t) s) ≡ false
+    → sawLength t lengths s ≤ 135838016
+saw-most = sense.saw-most
+
+-- "An isolated vertex still yields no ribbon": a dart that has a cut length does not leave one, and is not the corner of one
+pub lone-none : (t lengths : List ℕ) (d k n : ℕ) → cutLengthOf t d k lengths ≡ Done n → (v : ℕ) → alone? t v ≡ true → (leaves t d ≢ v) × (d ≢ loneCorner v)
+lone-none = sense.lone-none

@@ -11,8 +11,10 @@ use Rattle.table.specs.declared.answer.Answer.the-variants.{Done}
 use Rattle.tracing.specs.Step.{steps, mirror}
 use Rattle.tracing.specs.Walk.{walk}
 use Rattle.tracing.specs.Listing.{has, loneCorner}
+use Rattle.weave.specs.declared.named.Named.the-variants.{There}
+use Rattle.weave.specs.Calls.{namedStep}
 use Rattle.weave.specs.Ribbon.{some}
-use Rattle.lengths.specs.CutLength.{farLength, sawLength, lengthAlong, cutLengthOf}
+use Rattle.lengths.specs.CutLength.{farLength, sawLength, cutLengthOf}
 use Rattle.lengths.specs.laws.Sense as sense
 
 -- the cut length does not depend on the step that names the ribbon
@@ -23,12 +25,14 @@ saw-named = sense.saw-named
 pub saw-mirror : (t : List ℕ) (g : Good t) (lengths : List ℕ) (s : ℕ) → s < steps → sawLength t lengths s ≡ sawLength t lengths (mirror (rotation t) s)
 saw-mirror = sense.saw-mirror
 
--- and so what the call answers, 9 too
-pub along-named : (t : List ℕ) (g : Good t) (lengths : List ℕ) (s x : ℕ) → s < steps → has x (walk (rotation t) s) ≡ true → lengthAlong t lengths s ≡ lengthAlong t lengths x
-along-named = sense.along-named
+-- nor does the call's answer, refusals too: of two names of one ribbon, and of two names of its face, one in each sense
+pub cut-named : (t lengths : List ℕ) (d k d′ k′ : ℕ) {s x : ℕ} → namedStep t d k ≡ There s → namedStep t d′ k′ ≡ There x
+    → has x (walk (rotation t) s) ≡ true → cutLengthOf t d k lengths ≡ cutLengthOf t d′ k′ lengths
+cut-named = sense.cut-named
 
-pub along-mirror : (t : List ℕ) (g : Good t) (lengths : List ℕ) (s : ℕ) → s < steps → lengthAlong t lengths s ≡ lengthAlong t lengths (mirror (rotation t) s)
-along-mirror = sense.along-mirror
+pub cut-mirror : (t lengths : List ℕ) (d k d′ k′ : ℕ) {s x : ℕ} → namedStep t d k ≡ There s → namedStep t d′ k′ ≡ There x
+    → x ≡ mirror (rotation t) s → cutLengthOf t d k lengths ≡ cutLengthOf t d′ k′ lengths
+cut-mirror = sense.cut-mirror
 
 -- "any cut length" fits 32 bits: it is at most 135,838,016
 pub saw-most : (t : List ℕ) (g : Good t) (lengths : List ℕ) (s : ℕ) → live? t (s / 2) ≡ true → some (farLength lengths) (walk (rotation t) s) ≡ false

@@ -6,7 +6,8 @@ use mathlib.Core.Path.{_≡_, refl, sym, _∙_, ap, ap₂, subst}
 use mathlib.Core.Bool.{Bool, true, false, not, _||_}
 use mathlib.Core.List.{List, [], _∷_}
 use mathlib.Core.Logic.{_≢_}
-use lib.Dec.{ltb}
+use lib.Dec.{ltb, leb}
+use lib.ListN.{length}
 use borrow.Author.Tests.{lt-ltb}
 use Rattle.orbits.specs.laws.Count.{count-le}
 use Rattle.orbits.specs.laws.Iterate.{iter-keeps}
@@ -18,7 +19,7 @@ use Rattle.table.specs.laws.Lawful.{good-lawful, rev-edge}
 use Rattle.table.specs.laws.Output.{done-declined}
 use Rattle.table.specs.declared.answer.Answer.{Answer}
 use Rattle.table.specs.declared.answer.Answer.the-variants.{Done, Declined}
-use Rattle.table.specs.declared.answer.Refusal.the-variants.{Far}
+use Rattle.table.specs.declared.answer.Refusal.the-variants.{ShortSlice, Far}
 use Rattle.tracing.specs.Step.{steps, stepType, step, mirror, back}
 use Rattle.tracing.specs.laws.Step.{back-dart, back-type}
 use Rattle.tracing.specs.Walk.{walk}
@@ -77,7 +78,7 @@ module _ (t : List ℕ) (g : Good t) (lengths : List ℕ) where
   pub saw-named : (s x : ℕ) → s < steps → has x (walk R s) ≡ true → sawLength t lengths s ≡ sawLength t lengths x
   saw-named s x h e = saw-total t lengths s ∙ ap (λ n. n + lap) (total-named R L (takenBy t lengths) s x h e) ∙ sym (saw-total t lengths x)
 
-  pub along-named : (s x : ℕ) → s < steps → has x (walk R s) ≡ true → lengthAlong t lengths s ≡ lengthAlong t lengths x
+  along-named : (s x : ℕ) → s < steps → has x (walk R s) ≡ true → lengthAlong t lengths s ≡ lengthAlong t lengths x
   unfolding lengthAlong
   along-named s x h e = ap₂ answered far (saw-named s x h e)
     where
@@ -90,7 +91,7 @@ module _ (t : List ℕ) (g : Good t) (lengths : List ℕ) where
   saw-mirror s h =
       saw-total t lengths s ∙ ap (λ n. n + lap) (total-mirror R L (takenBy t lengths) (taken-back t lengths) s h) ∙ sym (saw-total t lengths (mirror R s))
 
-  pub along-mirror : (s : ℕ) → s < steps → lengthAlong t lengths s ≡ lengthAlong t lengths (mirror R s)
+  along-mirror : (s : ℕ) → s < steps → lengthAlong t lengths s ≡ lengthAlong t lengths (mirror R s)
   unfolding lengthAlong
   along-mirror s h = ap₂ answered far (saw-mirror s h)
     where
@@ -116,6 +117,21 @@ module _ (t : List ℕ) (g : Good t) (lengths : List ℕ) where
       taken-most lengths stands (length-most lengths x (none-passes (farLength lengths) (walk R s) x near e))) in
       let whole = saw-total t lengths s in
       omega arith
+
+-- what the call answers, from any step of the ribbon, and from either sense
+
+module _ (t lengths : List ℕ) (d k d′ k′ : ℕ) {s x : ℕ} (a : namedStep t d k ≡ There s) (b : namedStep t d′ k′ ≡ There x) where
+  stands : Stands t s
+  stands = there-steps t d k (sym a) .stands
+
+  same-call : lengthAlong t lengths s ≡ lengthAlong t lengths x → cutLengthOf t d k lengths ≡ cutLengthOf t d′ k′ lengths
+  same-call e = ap (cutLengthBy t lengths) a ∙ ap (unless (leb edges (length lengths)) (Declined ShortSlice)) e ∙ sym (ap (cutLengthBy t lengths) b)
+
+  pub cut-named : has x (walk (rotation t) s) ≡ true → cutLengthOf t d k lengths ≡ cutLengthOf t d′ k′ lengths
+  cut-named e = same-call (along-named t (stands .good) lengths s x (stands-low stands) e)
+
+  pub cut-mirror : x ≡ mirror (rotation t) s → cutLengthOf t d k lengths ≡ cutLengthOf t d′ k′ lengths
+  cut-mirror e = same-call (along-mirror t (stands .good) lengths s (stands-low stands) ∙ ap (lengthAlong t lengths) (sym e))
 
 -- "An isolated vertex still yields no ribbon": a dart that has a cut length does not leave one, and is not the corner of one
 pub lone-none : (t lengths : List ℕ) (d k n : ℕ) → cutLengthOf t d k lengths ≡ Done n → (v : ℕ) → alone? t v ≡ true → (leaves t d ≢ v) × (d ≢ loneCorner v)

@@ -41,7 +41,8 @@ module _ (t : List ℕ) (r : Ruled t darts) (w : ℕ) (l : Live t w) where
   cycle-reads n d o h =
       let some = o .some in
       let ahead = case-says (all-case {P = λ k. past k ≡ true} (n - 1) (λ k g. holds (round-past n d o k g) (round-past n d o k g))) (round-past n d o) in
-      let g : Going (λ k. reading 1 (past k)) (n - 1) 0 (n - 1) = record { passed = ahead; count = let s = below-exact (λ k. reading 1 (past k)) 1 (n - 1) (round-past n d o) (λ k h. refl) in omega (arith, s) } in
+      let sum = below-exact (λ k. reading 1 (past k)) 1 (n - 1) (round-past n d o) (λ k h. refl) in
+      let g : Going (λ k. reading 1 (past k)) (n - 1) 0 (n - 1) = record { passed = ahead; count = omega (arith, sum) } in
       let q : suc (n - 1) ≡ n = omega arith in
       let e = sym (iter-word t r n w l) ∙ o .at in
       let few = round-few n d o h in

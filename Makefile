@@ -1,6 +1,6 @@
 # Build the library and the job program, check everything, and install both.
 PREFIX ?= /usr/local
-VERSION := 4.0.0
+VERSION := 4.1.0
 
 .PHONY: all check uninstall install
 

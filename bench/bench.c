@@ -1,13 +1,15 @@
 /* The calls of the planner against plain C (plain.c): the same tables, the same arguments, one run. Before a call is timed, both
    sides' answers and outputs are compared. Prints a table for docs/BENCHMARK.md: microseconds a call, medians, and their ratio.
    bench/against builds it with OLDER: then the other side is an older build of the planner, under plain.h's names, and ask and commit
-   are timed against its plain edits too; with OLDER_ASKS where that build has ask and commit itself. */
+   are timed against its plain edits too, the whole path against its float path; with OLDER_ASKS where that build has ask and commit itself,
+   with OLDER_WHOLE where it has the whole path. */
 
 #define _POSIX_C_SOURCE 199309L
 
 #include "plain.h"
 #include "planner.h"
 
+#include <stddef.h>
 #include <stdio.h>
 #include <stdlib.h>
 #include <string.h>
@@ -19,25 +21,35 @@
 #ifndef OLDER_ASKS
 #define OLDER_ASKS 0
 #endif
+#ifndef OLDER_WHOLE
+#define OLDER_WHOLE 0
+#endif
 
-enum { WORDS = PLANNER_TABLE_WORDS, OUT = 4096, LETTERS = 2048 * 99, ROUNDS = 21 };
+enum { WORDS = PLANNER_TABLE_WORDS, OUT = 4096, LETTERS = 2048 * 99, PIECES = LETTERS + 1, ROUNDS = 21 };
 
-/* A table under test and what calls are lent beside it. Edits leave it as it was, two by two. One more to be filled, and one whose live names lie apart. */
+/* A table under test and what calls are lent beside it. Edits leave it as it was, two by two. One more to be filled, and one whose live names lie
+   apart. Two with more turns on every edge and the same walks: those of a ropework shell, and as many as there can be. */
 static uint16_t table[WORDS];
 static uint16_t scratch[WORDS];
 static uint16_t spread_table[WORDS];
+static uint16_t rope_table[WORDS];
+static uint16_t turned_table[WORDS];
 static uint32_t lengths[PLANNER_EDGES];
 static int32_t points[3 * PLANNER_VERTICES];
 static int32_t lifts[3 * PLANNER_EDGES];
 
-/* What both sides write. */
+/* What both sides write. The pieces of a whole path come last: they are many, so that only the rows that write them clear and compare them. */
 struct output {
     uint16_t words[OUT];
     int32_t counts[OUT];
     uint8_t letters[LETTERS];
     float coords[3 * OUT];
     int64_t forecasts[2];
+    uint16_t kinds[PIECES];
+    int32_t wholes[3 * PIECES];
+    uint16_t remainders[3 * PIECES];
 };
+enum { FEW = offsetof(struct output, kinds), ALL = sizeof(struct output) };
 static struct output ours, theirs;
 
 /* The names that the edits use: a free vertex, a free edge (those below it are live), a live one, and one that moves on. */
@@ -77,6 +89,37 @@ CALL(letters, (table, WORDS, 0, 0, ours.letters, LETTERS), (table, WORDS, 0, 0, 
 CALL(float_path,
      (table, WORDS, 0, 0, points, 3 * PLANNER_VERTICES, lifts, 3 * PLANNER_EDGES, ours.words, OUT, ours.coords, 3 * OUT),
      (table, WORDS, 0, 0, points, 3 * PLANNER_VERTICES, lifts, 3 * PLANNER_EDGES, theirs.words, OUT, theirs.coords, 3 * OUT))
+
+/* The whole path, on a table. */
+static int64_t our_whole(const uint16_t *t) {
+    return planner_whole_path(t, WORDS, 0, 0, points, 3 * PLANNER_VERTICES, lifts, 3 * PLANNER_EDGES, ours.kinds, PIECES, ours.wholes, 3 * PIECES,
+                              ours.remainders, 3 * PIECES);
+}
+
+static int64_t our_whole_path(void) { return our_whole(table); }
+
+#if !OLDER || OLDER_WHOLE
+static int64_t their_whole(const uint16_t *t) {
+    return plain_whole_path(t, WORDS, 0, 0, points, 3 * PLANNER_VERTICES, lifts, 3 * PLANNER_EDGES, theirs.kinds, PIECES, theirs.wholes, 3 * PIECES,
+                            theirs.remainders, 3 * PIECES);
+}
+
+static int64_t their_whole_path(void) { return their_whole(table); }
+static int64_t our_rope_path(void) { return our_whole(rope_table); }
+static int64_t their_rope_path(void) { return their_whole(rope_table); }
+static int64_t our_turned_path(void) { return our_whole(turned_table); }
+static int64_t their_turned_path(void) { return their_whole(turned_table); }
+#endif
+
+#if OLDER
+/* The float path in the place of a whole one. No edge of the table has more than one turn, so both have the same pieces; only their number is
+   compared. */
+static float floats[3 * OUT];
+
+static int64_t their_path_in_floats(void) {
+    return plain_float_path(table, WORDS, 0, 0, points, 3 * PLANNER_VERTICES, lifts, 3 * PLANNER_EDGES, scratch, WORDS, floats, 3 * OUT);
+}
+#endif
 
 /* Lengths, of a cut and in a tally, are not compared with an older build's: it may go by the rule before this one. */
 static int64_t cut(int64_t length) {
@@ -173,35 +216,44 @@ static const struct {
     int64_t (*ours)(void);
     int64_t (*theirs)(void);
     int calls;
+    size_t written;
 } rows[] = {
-    {"planner_empty", our_empty, their_empty, 1},
-    {"planner_check", our_check, their_check, 1},
-    {"planner_check, 32 edges, each in another block", our_spread_check, their_spread_check, 1},
-    {"planner_listing", our_listing, their_listing, 1},
-    {"planner_counts", our_counts, their_counts, 1},
-    {"planner_parts", our_parts, their_parts, 1},
-    {"planner_add_vertex, planner_remove_vertex", our_vertex, their_vertex, 2},
-    {"planner_insert_edge, planner_delete_edge", our_edge, their_edge, 2},
-    {"planner_turn_edge", our_turn, their_turn, 2},
-    {"planner_turn_edge, edge after edge", our_each_turn, their_each_turn, 2},
+    {"planner_empty", our_empty, their_empty, 1, FEW},
+    {"planner_check", our_check, their_check, 1, FEW},
+    {"planner_check, 32 edges, each in another block", our_spread_check, their_spread_check, 1, FEW},
+    {"planner_listing", our_listing, their_listing, 1, FEW},
+    {"planner_counts", our_counts, their_counts, 1, FEW},
+    {"planner_parts", our_parts, their_parts, 1, FEW},
+    {"planner_add_vertex, planner_remove_vertex", our_vertex, their_vertex, 2, FEW},
+    {"planner_insert_edge, planner_delete_edge", our_edge, their_edge, 2, FEW},
+    {"planner_turn_edge", our_turn, their_turn, 2, FEW},
+    {"planner_turn_edge, edge after edge", our_each_turn, their_each_turn, 2, FEW},
 #if !OLDER || OLDER_ASKS
-    {"planner_ask_insert_edge, planner_ask_delete_edge", our_ask_edge, their_ask_edge, 2},
-    {"planner_ask_turn_edge", our_ask_turn, their_ask_turn, 2},
-    {"planner_commit_insert_edge, planner_commit_delete_edge", our_commit_edge, their_commit_edge, 2},
-    {"planner_commit_turn_edge", our_commit_turn, their_commit_turn, 2},
+    {"planner_ask_insert_edge, planner_ask_delete_edge", our_ask_edge, their_ask_edge, 2, FEW},
+    {"planner_ask_turn_edge", our_ask_turn, their_ask_turn, 2, FEW},
+    {"planner_commit_insert_edge, planner_commit_delete_edge", our_commit_edge, their_commit_edge, 2, FEW},
+    {"planner_commit_turn_edge", our_commit_turn, their_commit_turn, 2, FEW},
 #endif
 #if OLDER
-    {"planner_ask_insert_edge, planner_ask_delete_edge; old: the plain edits", our_ask_edge, their_edge, 2},
-    {"planner_ask_turn_edge; old: planner_turn_edge", our_ask_turn, their_turn, 2},
-    {"planner_commit_insert_edge, planner_commit_delete_edge; old: the plain edits", our_commit_edge, their_edge, 2},
-    {"planner_commit_turn_edge; old: planner_turn_edge", our_commit_turn, their_turn, 2},
+    {"planner_ask_insert_edge, planner_ask_delete_edge; old: the plain edits", our_ask_edge, their_edge, 2, FEW},
+    {"planner_ask_turn_edge; old: planner_turn_edge", our_ask_turn, their_turn, 2, FEW},
+    {"planner_commit_insert_edge, planner_commit_delete_edge; old: the plain edits", our_commit_edge, their_edge, 2, FEW},
+    {"planner_commit_turn_edge; old: planner_turn_edge", our_commit_turn, their_turn, 2, FEW},
 #endif
-    {"planner_alternates", our_alternates, their_alternates, 1},
-    {"planner_plain", our_plain, their_plain, 1},
-    {"planner_letters", our_letters, their_letters, 1},
-    {"planner_cut_length", our_cut_length, their_cut_length, 1},
-    {"planner_float_path", our_float_path, their_float_path, 1},
-    {"planner_walk_step", our_walk_step, their_walk_step, 1},
+    {"planner_alternates", our_alternates, their_alternates, 1, FEW},
+    {"planner_plain", our_plain, their_plain, 1, FEW},
+    {"planner_letters", our_letters, their_letters, 1, FEW},
+    {"planner_cut_length", our_cut_length, their_cut_length, 1, FEW},
+    {"planner_float_path", our_float_path, their_float_path, 1, FEW},
+#if !OLDER || OLDER_WHOLE
+    {"planner_whole_path", our_whole_path, their_whole_path, 1, ALL},
+    {"planner_whole_path, two or three turns an edge", our_rope_path, their_rope_path, 1, ALL},
+    {"planner_whole_path, 98 or 99 turns an edge", our_turned_path, their_turned_path, 1, ALL},
+#endif
+#if OLDER
+    {"planner_whole_path; old: planner_float_path", our_whole_path, their_path_in_floats, 1, FEW},
+#endif
+    {"planner_walk_step", our_walk_step, their_walk_step, 1, FEW},
 };
 enum { ROWS = sizeof rows / sizeof rows[0] };
 
@@ -277,6 +329,15 @@ static void build_spread(void) {
     }
 }
 
+/* The table with so many turns more on every edge. An even number leaves the walks as they are. */
+static void turn_all(uint16_t *turned, int more) {
+    int e;
+    memcpy(turned, table, sizeof table);
+    for (e = 0; e < free_edge; e++) {
+        turned[PLANNER_EDGE_AT + e] = (uint16_t)(turned[PLANNER_EDGE_AT + e] + more);
+    }
+}
+
 static void lend(void) {
     int i;
     for (i = 0; i < PLANNER_EDGES; i++) {
@@ -332,12 +393,13 @@ static double median(double *values) {
 
 /* Both sides once, compared. */
 static void compare(size_t row) {
+    const size_t written = rows[row].written;
     int64_t a, b;
-    memset(&ours, 0x5a, sizeof ours);
-    memset(&theirs, 0x5a, sizeof theirs);
+    memset(&ours, 0x5a, written);
+    memset(&theirs, 0x5a, written);
     a = rows[row].ours();
     b = rows[row].theirs();
-    if (a != b || a < 0 || memcmp(&ours, &theirs, sizeof ours) != 0) {
+    if (a != b || a < 0 || memcmp(&ours, &theirs, written) != 0) {
         fprintf(stderr, "bench: %s differs: %lld and %lld\n", rows[row].name, (long long)a, (long long)b);
         exit(1);
     }
@@ -413,6 +475,8 @@ int main(void) {
     for (size = 0; size < SIZES; size++) {
         build_grid(sizes[size].columns, sizes[size].lines);
         add_loops(sizes[size].edges);
+        turn_all(rope_table, 2);
+        turn_all(turned_table, 98);
         lend();
         foretell();
         for (row = 0; row < ROWS; row++) {

@@ -27,6 +27,9 @@ int64_t plain_letters(const uint16_t *t, size_t words, uint16_t dart, uint16_t t
 int64_t plain_cut_length(const uint16_t *t, size_t words, uint16_t dart, uint16_t type, const uint32_t *lengths, size_t n);
 int64_t plain_float_path(const uint16_t *t, size_t words, uint16_t dart, uint16_t type, const int32_t *points, size_t n_points,
                          const int32_t *lifts, size_t n_lifts, uint16_t *kinds, size_t n_kinds, float *coords, size_t n_coords);
+int64_t plain_whole_path(const uint16_t *t, size_t words, uint16_t dart, uint16_t type, const int32_t *points, size_t n_points,
+                         const int32_t *lifts, size_t n_lifts, uint16_t *kinds, size_t n_kinds, int32_t *coords, size_t n_coords,
+                         uint16_t *remainders, size_t n_remainders);
 
 struct planner_reader;
 struct planner_tally;

@@ -2,21 +2,28 @@
  * A host to start from. It builds a small shell through the library and prints a line for each edit: how many faces there are
  * now, and why. Then it asks for the counts and prints the ribbon-lengths sheet, as CSV and as an aligned table: for each ribbon
  * its steps, overs, unders, whether it alternates, and what the saw takes, in millimetres: the strip along its sides, the
- * allowance for its overs, the lap, and their total, the cut length; then the totals of all ribbons. Build it with -I include
- * and libplanner.a.
+ * allowance for its overs, the lap, and their total, the cut length; then the totals of all ribbons. Last it makes ropework of
+ * two strips and prints a ribbon's path over them, point by point. Build it with -I include and libplanner.a.
  */
 #include "planner.h"
 
 #include <stdio.h>
 #include <stdlib.h>
 
-enum { WORDS = PLANNER_TABLE_WORDS, LISTING = 4096, LETTERS = 2048 * 99 };
+enum { WORDS = PLANNER_TABLE_WORDS, LISTING = 4096, LETTERS = 2048 * 99, PIECES = LETTERS + 1 };
+enum { POINTS = 3 * PLANNER_VERTICES, LIFTS = 3 * PLANNER_EDGES, FLOATS = 3 * (PLANNER_DARTS + 1) };
 #define LONE(v) (PLANNER_LONE_CORNER + (v))
 
 static uint16_t table[WORDS];
 static uint32_t lengths[PLANNER_EDGES]; /* sixteenths of a millimetre */
 static uint16_t listing[LISTING];
 static uint8_t letters[LETTERS];
+
+/* A path: what is lent, in sixteenths of a millimetre, and what is written. */
+static int32_t points[POINTS], lifts[LIFTS];
+static uint16_t kinds[PIECES], remainders[3 * PIECES];
+static int32_t coords[3 * PIECES];
+static float floats[FLOATS];
 
 /* A pavilion: poles 0 to 3 below, 4 to 7 above them; a strip with one turn along each of its twelve sides. Each strip
    has the corners that its two ends go into, and its length. */
@@ -63,6 +70,10 @@ static void print_edit(const char *what, int number, int64_t answer) {
     printf("%-12s %7d  %s\n", edit, (int)PLANNER_FACES(answer), why(answer));
 }
 
+static uint32_t sixteenths(double millimetres) {
+    return (uint32_t)(16.0 * millimetres + 0.5);
+}
+
 static void build(void) {
     uint16_t i;
     ask(planner_empty(table, WORDS), "empty mesh");
@@ -72,7 +83,7 @@ static void build(void) {
     }
     for (i = 0; i < STRIPS; i++) {
         print_edit("add strip", i, planner_insert_edge(table, WORDS, i, strips[i].first, strips[i].second, 1));
-        lengths[i] = (uint32_t)(16.0 * strips[i].millimetres + 0.5);
+        lengths[i] = sixteenths(strips[i].millimetres);
     }
     printf("\n");
 }
@@ -158,6 +169,66 @@ static void print_sheet(const char *format) {
     print_row(format, "total", total);
 }
 
+/* Where the poles stand, and how far a ribbon is lifted where it crosses: 10 mm, across a post and upward elsewhere. */
+static void place(void) {
+    static const double corners[4][2] = {{0.0, 0.0}, {2400.0, 0.0}, {2400.0, 1800.5}, {0.0, 1800.5}};
+    int i;
+    for (i = 0; i < POLES; i++) {
+        points[3 * i] = (int32_t)sixteenths(corners[i % 4][0]);
+        points[3 * i + 1] = (int32_t)sixteenths(corners[i % 4][1]);
+        points[3 * i + 2] = i < 4 ? 0 : (int32_t)sixteenths(1950.25);
+    }
+    for (i = 0; i < STRIPS; i++) {
+        lifts[3 * i + (i / 4 == 1 ? 1 : 2)] = 16 * 10;
+    }
+}
+
+/* A piece on a strip of n crossings. Each coordinate is a whole number and a remainder, which counts parts of 2n. */
+static void print_piece(long piece, int strip, int n) {
+    static const char *const names[] = {"flat", "over", "under", "close"};
+    int axis;
+    printf("%-8d%-5s", strip, names[kinds[piece]]);
+    for (axis = 0; axis < 3; axis++) {
+        printf("%9d %d/%d", (int)coords[3 * piece + axis], (int)remainders[3 * piece + axis], 2 * n);
+    }
+    printf("\n");
+}
+
+/* The path of the first listed ribbon: where it meets each strip, and each crossing of one with several turns. */
+static void print_path(void) {
+    uint16_t dart, type;
+    long i, steps, piece = 0;
+    int64_t in_floats, pieces;
+    ask(planner_listing(table, WORDS, listing, LISTING), "listing");
+    steps = listing[0];
+    dart = listing[1] / 2;
+    type = listing[1] % 2;
+    in_floats = planner_float_path(table, WORDS, dart, type, points, POINTS, lifts, LIFTS, kinds, PIECES, floats, FLOATS);
+    pieces = planner_whole_path(table, WORDS, dart, type, points, POINTS, lifts, LIFTS, kinds, PIECES, coords, 3 * PIECES,
+                                remainders, 3 * PIECES);
+    ask(pieces, "whole path");
+    printf("ribbon 0: the float path answers %d; the whole path has %d pieces, the last of them Close\n", (int)in_floats,
+           (int)pieces);
+    printf("%-8s%-5s%13s%13s%13s   sixteenths of a millimetre\n", "strip", "kind", "x", "y", "z");
+    for (i = 1; i <= steps; i++) {
+        const int strip = listing[i] / 4, turns = table[PLANNER_EDGE_AT + strip] - 100, n = turns == 0 ? 1 : abs(turns);
+        int met;
+        for (met = 0; met < n; met++) {
+            print_piece(piece++, strip, n);
+        }
+    }
+}
+
+/* Ropework: two turns more on a sill and on a post, so three. */
+static void rope(void) {
+    printf("\n");
+    print_edit("turn strip", 1, planner_turn_edge(table, WORDS, 1, 2));
+    print_edit("turn strip", 4, planner_turn_edge(table, WORDS, 4, 2));
+    printf("\n");
+    place();
+    print_path();
+}
+
 int main(void) {
     build();
     print_counts();
@@ -166,5 +237,6 @@ int main(void) {
     printf("\n%-8s%6s%7s%8s%12s%12s%19s%9s%12s\n", "ribbon", "steps", "overs", "unders", "alternates", "strip mm",
            "over-allowance mm", "lap mm", "total mm");
     print_sheet("%-8s%6ld%7ld%8ld%12s%12s%19s%9s%12s\n");
+    rope();
     return 0;
 }

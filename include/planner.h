@@ -9,8 +9,9 @@
  * Every function returns int64_t: the answer, 0 or more, or minus the number of the refusal. A declined call
  * leaves every lent slice and record as it was.
  *
- * A call needs less than 16 KiB of stack (measured). Its time is linear in the size of the table, which it checks first; for
- * planner_counts and planner_parts, which join parts by pointers that are shortened on the way, with a logarithm more at most.
+ * A call needs less than 16 KiB of stack (measured). Its time is linear in the size of the table, which it checks first, and of
+ * what it writes; for planner_counts and planner_parts, which join parts by pointers that are shortened on the way, with a
+ * logarithm more at most.
  *
  * Link with libplanner.a.
  */
@@ -48,7 +49,7 @@ extern "C" {
 #define PLANNER_JOINED 5          /* vertex to remove has an edge */
 #define PLANNER_OVERTURNED 6      /* turns would pass 99 either way, or a tally field 32 bits */
 #define PLANNER_SHORT_SLICE 7     /* a lent slice is shorter than the call needs */
-#define PLANNER_MANY_TURNS 8      /* float path over an edge with more than one turn */
+#define PLANNER_MANY_TURNS 8      /* float path over an edge with more than one turn (the whole path takes any) */
 #define PLANNER_FAR 9             /* length, point or lift out of range on an edge of the walk */
 #define PLANNER_BAD_MARK 10       /* job record with an unknown mark */
 #define PLANNER_CUT_RECORD 11     /* fewer bytes than the record needs */
@@ -242,6 +243,28 @@ int64_t planner_cut_length(const uint16_t *table, size_t words, uint16_t dart, u
 int64_t planner_float_path(const uint16_t *table, size_t words, uint16_t dart, uint16_t type, const int32_t *points,
                            size_t n_points, const int32_t *lifts, size_t n_lifts, uint16_t *kinds, size_t n_kinds,
                            float *coords, size_t n_coords);
+
+/*
+ * The whole path of the ribbon through the step, in whole sixteenths, over edges of any turns: one piece for each crossing and
+ * one for each step on an edge without turns, in the order of travel, then Close. kinds[i] is one of the four above; coords has
+ * three words for each piece and remainders three, one beside each word of coords; zeros for Close in both.
+ * On edge e with n crossings, crossing j (0 to n-1, counted from the first end, which dart 2e leaves) sits, per coordinate with
+ * a at the first end and b at the second, at a + (2j+1)(b-a)/(2n), rounded towards minus infinity; its remainder, from 0 to 2n-1,
+ * is given with it. So the exact place is that whole number and remainder/(2n) more. Then the lift is added over, taken off
+ * under. A step by dart 2e meets the crossings with j rising, a step by dart 2e+1 with j falling; its letters are those of
+ * planner_letters, in that order. An edge without turns has one flat point, with n = 1 and j = 0, and no lift.
+ * Lent: points and lifts as for the float path. Answers the number of pieces, p: the sum of the crossings of each step, 1 for a
+ * step without any, and 1 for Close. Writes p words to the front of `kinds`, 3p to the front of `coords` and 3p to the front of
+ * `remainders`. 202,753 pieces (2,048 steps of 99 crossings, and Close) are enough for every ribbon, so 608,259 coords and as
+ * many remainders.
+ * Where the float path is accepted, the kinds are the same, and its coordinate times 32 is twice the word and the remainder.
+ * Declines besides: PLANNER_SHORT_SLICE (points fewer than 1,536, lifts fewer than 3,072, kinds fewer than p, coords or
+ * remainders fewer than 3p); PLANNER_FAR (a point or lift out of range at an edge on the ribbon, the lift of an edge without
+ * turns too). Never PLANNER_MANY_TURNS.
+ */
+int64_t planner_whole_path(const uint16_t *table, size_t words, uint16_t dart, uint16_t type, const int32_t *points,
+                           size_t n_points, const int32_t *lifts, size_t n_lifts, uint16_t *kinds, size_t n_kinds,
+                           int32_t *coords, size_t n_coords, uint16_t *remainders, size_t n_remainders);
 
 /*
  * A walk, one step at a time. The host keeps a reader: dart and type of the step that it hands out next, dart and type of

@@ -16,7 +16,7 @@ use svg::Picture;
 /// Draws one picture.
 type Draw = fn() -> Picture;
 
-const FIGURES: [(&str, Draw); 14] = [
+const FIGURES: [(&str, Draw); 15] = [
     ("strips", strips::strips),
     ("darts", poles::darts),
     ("corners", poles::corners),
@@ -31,6 +31,7 @@ const FIGURES: [(&str, Draw); 14] = [
     ("pavilion", shells::pavilion_ribbons),
     ("table", words::table),
     ("float-path", words::path),
+    ("whole-path", words::rope),
 ];
 
 fn main() -> io::Result<()> {

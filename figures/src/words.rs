@@ -1,4 +1,4 @@
-//! Pictures for hosts: the table's five kinds of words, and the points of a float path.
+//! Pictures for hosts: the table's five kinds of words, and the points of a float path and of a whole one.
 
 use crate::plane::{p, P};
 use crate::poles::pole;
@@ -8,6 +8,7 @@ use crate::tables::{add, insert, lone, made};
 use reference::path::{float_path, LIFTS, POINTS};
 use reference::table::*;
 use reference::trace::{step, walk_from};
+use reference::whole::{pieces_of, whole_path, Outputs};
 
 /// A kind of word: where it begins, how many there are, and what they say.
 const KINDS: [(usize, usize, &str); 5] = [
@@ -106,6 +107,32 @@ fn says(kind: usize, name: usize, word: u16) -> String {
     }
 }
 
+/// Sixteenths of a millimetre on the page, seen from the side: x to the right, z upward.
+fn page(x: f64, z: f64) -> P {
+    p(60.0 + x / 9_600.0 * 420.0, 300.0 - z / 9_600.0 * 420.0)
+}
+
+/// Where pole v is on the page.
+fn end(points: &[i32], v: usize) -> P {
+    page(points[3 * v] as f64, points[3 * v + 2] as f64)
+}
+
+/// Three words in millimetres.
+fn millimetres(words: &[i32]) -> String {
+    let each = words[..3].iter().map(|w| (w / 16).to_string()).collect::<Vec<_>>().join(", ");
+    format!("({each}) mm")
+}
+
+/// Both poles with their places, that of the second so far aside, and the strip's lift.
+fn draw_what_is_lent(picture: &mut Picture, points: &[i32], lifts: &[i32], aside: f64) {
+    for (v, aside) in [(0, 0.0), (1, aside)] {
+        pole(picture, end(points, v), v as Vertex);
+        picture.text(end(points, v) + p(aside, 34.0), Anchor::Middle, 12.0, &millimetres(&points[3 * v..]));
+    }
+    picture.text(p(520.0, 96.0), Anchor::Start, 13.0, "lift of the strip:");
+    picture.text(p(520.0, 116.0), Anchor::Start, 13.0, &millimetres(lifts));
+}
+
 pub fn path() -> Picture {
     let table = made(&[add(0), add(1), insert(0, lone(0), lone(1), 1)]);
     let (mut points, mut lifts) = (vec![0; POINTS], vec![0; LIFTS]);
@@ -127,12 +154,10 @@ pub fn path() -> Picture {
             walk.len()
         ),
     );
-    // Sixteenths to the page, seen from the side: x to the right, z upward.
-    let page = |x: f64, z: f64| -> P { p(60.0 + x / 9_600.0 * 420.0, 300.0 - z / 9_600.0 * 420.0) };
-    let end = |v: usize| page(points[3 * v] as f64, points[3 * v + 2] as f64);
     let names = ["Flat", "Over", "Under", "Close"];
     let at = |i: usize| page(16.0 * floats[3 * i] as f64, 16.0 * floats[3 * i + 2] as f64);
     picture.text(p(270.0, 30.0), Anchor::Middle, 15.0, "A strip with one turn, seen from the side");
+    let end = |v: usize| end(&points, v);
     picture.line(end(0), end(1), pen(9.0, "#e4e4e4"));
     let middle = end(0).between(end(1), 0.5);
     for (i, s) in walk.iter().enumerate() {
@@ -145,14 +170,7 @@ pub fn path() -> Picture {
         let side = if words[i] == 1 { p(-30.0, -16.0) } else { p(40.0, 18.0) };
         picture.bold_label(at(i) + side, 14.0, names[words[i] as usize]);
     }
-    for v in [0, 1] {
-        pole(&mut picture, end(v), v as Vertex);
-        let place = points[3 * v..3 * v + 3].iter().map(|w| (w / 16).to_string()).collect::<Vec<_>>().join(", ");
-        picture.text(end(v) + p(0.0, 34.0), Anchor::Middle, 12.0, &format!("({place}) mm"));
-    }
-    picture.text(p(520.0, 96.0), Anchor::Start, 13.0, "lift of the strip:");
-    let lift = lifts[..3].iter().map(|w| (w / 16).to_string()).collect::<Vec<_>>().join(", ");
-    picture.text(p(520.0, 116.0), Anchor::Start, 13.0, &format!("({lift}) mm"));
+    draw_what_is_lent(&mut picture, &points, &lifts, 0.0);
     let columns = [p(60.0, 0.0), p(190.0, 0.0), p(330.0, 0.0)];
     for (at, words) in columns.into_iter().zip(["step", "kinds[i]", "coords[3i], coords[3i+1], coords[3i+2]"]) {
         picture.bold(at + p(0.0, 340.0), Anchor::Start, 13.0, words);
@@ -169,6 +187,67 @@ pub fn path() -> Picture {
             &format!("{} {}", words[i], names[words[i] as usize]),
         );
         picture.typed(columns[2] + p(0.0, y), Anchor::Start, 13.0, &coords);
+    }
+    picture
+}
+
+/// A strip with three turns, and the pieces of its whole path: every crossing is passed once over and once under.
+pub fn rope() -> Picture {
+    const ON_IT: i16 = 3;
+    let table = made(&[add(0), add(1), insert(0, lone(0), lone(1), ON_IT)]);
+    let (mut points, mut lifts) = (vec![0; POINTS], vec![0; LIFTS]);
+    // In sixteenths of a millimetre: the ends lie 601 mm apart, one 160 mm above the other; the lift is 25 mm upward.
+    points[..6].copy_from_slice(&[0, 0, 1_600, 9_616, 0, 4_160]);
+    lifts[2] = 400;
+    let walk = walk_from(&table, step(0, 0));
+    let pieces = pieces_of(&table, &walk);
+    let (mut kinds, mut coords, mut remainders) = (vec![0; pieces], vec![0; 3 * pieces], vec![0; 3 * pieces]);
+    let out = Outputs { kinds: &mut kinds, coords: &mut coords, remainders: &mut remainders };
+    whole_path(&table, 0, 0, &points, &lifts, out).expect("a path");
+    let mut picture = Picture::new(
+        760.0,
+        520.0,
+        "The pieces of a whole path",
+        "A strip with three turns between two poles, seen from the side. Its crossings lie a sixth of the way along, halfway and \
+         five sixths. Its ribbon goes along and comes back, so each crossing has a point above by the lift and one below by as \
+         much, numbered in the order of travel; the last piece is Close.",
+    );
+    picture.text(p(270.0, 30.0), Anchor::Middle, 15.0, "A strip with three turns, seen from the side");
+    let end = |v: usize| end(&points, v);
+    picture.line(end(0), end(1), pen(9.0, "#e4e4e4"));
+    let exact = |at: usize| f64::from(coords[at]) + f64::from(remainders[at]) / f64::from(2 * ON_IT);
+    let at = |i: usize| page(exact(3 * i), exact(3 * i + 2));
+    let along = ON_IT as usize;
+    for i in 0..along {
+        picture.line(at(i), at(2 * along - 1 - i), pen(1.4, GREY).dashed("3 3"));
+    }
+    for (from, met, to) in [(0, 0..along, 1), (1, along..2 * along, 0)] {
+        let line: Vec<P> = [end(from)].into_iter().chain(met.map(at)).chain([end(to)]).collect();
+        picture.path(&line, pen(1.6, BLACK));
+    }
+    for i in 0..2 * along {
+        picture.disc(at(i), 5.0, BLACK, pen(0.0, BLACK));
+        let side = if kinds[i] == 1 { p(0.0, -16.0) } else { p(0.0, 18.0) };
+        picture.bold_label(at(i) + side, 14.0, &i.to_string());
+    }
+    draw_what_is_lent(&mut picture, &points, &lifts, 30.0);
+    let columns = [p(40.0, 0.0), p(80.0, 0.0), p(190.0, 0.0), p(300.0, 0.0), p(520.0, 0.0)];
+    let heads = ["i", "step", "kinds[i]", "coords[3i] to coords[3i+2]", "remainders, of 6"];
+    for (at, words) in columns.into_iter().zip(heads) {
+        picture.bold(at + p(0.0, 340.0), Anchor::Start, 13.0, words);
+    }
+    for i in 0..pieces {
+        let step = if i % along == 0 { walk.get(i / along) } else { None };
+        let cells = [
+            i.to_string(),
+            step.map_or(String::new(), |&s| printed(&table, s)),
+            format!("{} {}", kinds[i], ["Flat", "Over", "Under", "Close"][kinds[i] as usize]),
+            coords[3 * i..3 * i + 3].iter().map(i32::to_string).collect::<Vec<_>>().join(", "),
+            remainders[3 * i..3 * i + 3].iter().map(u16::to_string).collect::<Vec<_>>().join(", "),
+        ];
+        for (at, words) in columns.into_iter().zip(cells) {
+            picture.typed(at + p(0.0, 364.0 + 22.0 * i as f64), Anchor::Start, 13.0, &words);
+        }
     }
     picture
 }

@@ -7,8 +7,8 @@
 //!
 //! From the bottom upward: `table` (the words), `check` (good or torn), `trace` (step and walk), `faces` (the listed
 //! walks, corners and sides), `listing` (their words), `rule` and `edit` (the five edits), `forecast` (ask and commit), `run`
-//! (runs of them), `counts` (parts, Euler numbers), `weave` (over and under), `length`, `path` and `reader` (one ribbon), `job`
-//! (the program).
+//! (runs of them), `counts` (parts, Euler numbers), `weave` (over and under), `length`, `path`, `whole` and `reader` (one
+//! ribbon), `job` (the program).
 //! `trial` makes tables, edits and damage from a seed, for tests.
 
 pub mod check;
@@ -28,3 +28,4 @@ pub mod table;
 pub mod trace;
 pub mod trial;
 pub mod weave;
+pub mod whole;

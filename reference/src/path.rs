@@ -80,13 +80,13 @@ fn pieces_along(table: &[u16], walk: &[Step], points: &[i32], lifts: &[i32]) -> 
 }
 
 /// "point or lift out of range on an edge of the walk", the lift of a flat edge included.
-fn is_far(table: &[u16], e: Edge, points: &[i32], lifts: &[i32]) -> bool {
+pub(crate) fn is_far(table: &[u16], e: Edge, points: &[i32], lifts: &[i32]) -> bool {
     let past = |words: [i32; 3], farthest: u32| words.iter().any(|w| w.unsigned_abs() > farthest);
     let ends = darts_of(e).map(|d| three(points, leaves(table, d)));
     ends.into_iter().any(|end| past(end, FARTHEST_POINT)) || past(three(lifts, e), FARTHEST_LIFT)
 }
 
-fn three(words: &[i32], name: u16) -> [i32; 3] {
+pub(crate) fn three(words: &[i32], name: u16) -> [i32; 3] {
     let i = 3 * name as usize;
     [words[i], words[i + 1], words[i + 2]]
 }

@@ -103,14 +103,16 @@ static void try_the_counts(void) {
    corners having types 0 and 1; edge 2 joins vertex 1's face to another.
    From (0, 1): type 0, next after 1 is 4; (4, 0): type stays, next after 5 is 5; (5, 0): next after 4 is 2; (2, 0): type 1, before 3 is 0; (0, 1).
    From (1, 0): type 1, before 0 is 2; (2, 1): type 0, next after 3 is 1; (1, 0).
-   Letters of (0, 1): U; (4, 0) with turns -2: U O; (5, 0): U O; (2, 0): O. Letters of (1, 0): O; (2, 1): U.
+   Letters of (0, 1): U; (4, 0) with turns -2: U O; (5, 0): U O; (2, 0): O. Letters of (1, 0): O; (2, 1): U. So the whole paths have six
+   pieces and two, and Close.
    Cut lengths: the edges, 8 for each O, 320 for the lap. The first ribbon has three O's, the second one. */
 static void try_dart_and_type(void) {
     static uint32_t lengths[PLANNER_EDGES];
     static int32_t points[3 * PLANNER_VERTICES], lifts[3 * PLANNER_EDGES];
     uint8_t letters[6];
-    uint16_t kinds[5];
+    uint16_t kinds[7], remainders[21];
     float coords[15];
+    int32_t wholes[21];
     check(begin(0, 1) && insert(0, LONE, LONE, 1) == 2 + B2 && insert(1, 0, 1, 1) == 3 + B1 && insert(2, 2, LONE + 1, -2) == 2 + A, "two ribbons");
     check(planner_alternates(table, WORDS, 0, 1) == 0 && planner_alternates(table, WORDS, 1, 0) == 1, "alternates: dart and type");
     check(planner_letters(table, WORDS, 0, 1, letters, 6) == 6 && memcmp(letters, "UUOUOO", 6) == 0, "letters of dart 0, type 1");
@@ -123,6 +125,9 @@ static void try_dart_and_type(void) {
     check(planner_float_path(table, WORDS, 0, 1, points, 1536, lifts, 3072, kinds, 5, coords, 15) == -PLANNER_MANY_TURNS &&
               planner_float_path(table, WORDS, 1, 0, points, 1536, lifts, 3072, kinds, 5, coords, 15) == 3,
           "float path: dart and type");
+    check(planner_whole_path(table, WORDS, 0, 1, points, 1536, lifts, 3072, kinds, 7, wholes, 21, remainders, 21) == 7 &&
+              planner_whole_path(table, WORDS, 1, 0, points, 1536, lifts, 3072, kinds, 7, wholes, 21, remainders, 21) == 3,
+          "whole path: dart and type");
 }
 
 /* A chain of edge 0 with one turn from vertex 0 to 1, edge 1 with none to 2, edge 2 with turns -1 to 3. Around vertex 1 stand 1 and 2, around
@@ -164,6 +169,59 @@ static void try_points_and_lifts(void) {
     check(planner_float_path(table, WORDS, 0, 0, points, 1536, lifts, 3072, kinds, 7, coords, 21) == 7 &&
               planner_float_path(table, WORDS, 0, 0, points, 3072, lifts, 1536, kinds, 7, coords, 21) == -PLANNER_SHORT_SLICE,
           "1,536 points are enough, 1,536 lifts are not");
+}
+
+/* The chain with two turns more on edge 0 and as many fewer on edge 2: 3 and -3, so that the walk stays. Points and lifts again, and what the
+   three outputs of a whole path hold. Crossings of edge 0, from (0, 0, 0) to (30, -10, 7), by 6: x 30, 90, 150 are 5, 15, 25; y -10, -30, -50
+   are -2 and 2 left, -5, -9 and 4 left; z 7, 21, 35 are 1 and 1 left, 3 and 3 left, 5 and 5 left. Edge 1, from there to (31, -13, 7), by 2: x 1
+   is 0 and 1 left, y -3 is -2 and 1 left, z 0. Edge 2, from there to (25, -13, 11), by 6: x -6, -18, -30 are -1, -3, -5; y 0; z 4, 12, 20 are 0
+   and 4 left, 2, 3 and 2 left.
+   Lifts (100, 200, 300), (5, 6, 7), (1000, 2000, 3000). Steps and letters: (0, 0) O U O; (2, 1); (4, 1) O U O; (5, 0) U O U from the second end;
+   (3, 1); (1, 1) U O U from the second end. */
+static void try_the_whole_path(void) {
+    enum { O = PLANNER_OVER, U = PLANNER_UNDER, F = PLANNER_FLAT };
+    static const int32_t at[] = {0, 0, 0, 30, -10, 7, 31, -13, 7, 25, -13, 11};
+    static const int32_t lift[] = {100, 200, 300, 5, 6, 7, 1000, 2000, 3000};
+    static const uint16_t expected_kinds[] = {O, U, O, F, O, U, O, U, O, U, F, U, O, U, PLANNER_CLOSE};
+    static const int32_t expected[] = {
+        105,  198,   301,   -85,  -205, -297, 125,  191,   305,   /* (0, 0) */
+        30,   -12,   7,                                           /* (2, 1) */
+        1030, 1987,  3007,  -972, -2013, -2991, 1026, 1987, 3010, /* (4, 1) */
+        -974, -2013, -2990, 1028, 1987, 3009, -970, -2013, -2993, /* (5, 0) */
+        30,   -12,   7,                                           /* (3, 1) */
+        -75,  -209,  -295,  115,  195,  303,  -95,  -202,  -299,  /* (1, 1) */
+        0,    0,     0};
+    static const uint16_t expected_remainders[] = {
+        0, 2, 1, 0, 0, 3, 0, 4, 5, /* (0, 0) */
+        1, 1, 0,                   /* (2, 1) */
+        0, 0, 4, 0, 0, 0, 0, 0, 2, /* (4, 1) */
+        0, 0, 2, 0, 0, 0, 0, 0, 4, /* (5, 0) */
+        1, 1, 0,                   /* (3, 1) */
+        0, 4, 5, 0, 0, 3, 0, 2, 1, /* (1, 1) */
+        0, 0, 0};
+    static int32_t points[3 * PLANNER_EDGES], lifts[3 * PLANNER_EDGES];
+    /* Kinds and remainders are long enough for either, so that an exchange is no short slice. */
+    uint16_t kinds[45], remainders[45];
+    int32_t coords[45];
+    memcpy(points, at, sizeof at);
+    memcpy(lifts, lift, sizeof lift);
+    check(build_the_chain() && planner_turn_edge(table, WORDS, 0, 2) == 1 + E && planner_turn_edge(table, WORDS, 2, -2) == 1 + E, "three turns");
+    check(planner_whole_path(table, WORDS, 0, 0, points, 3072, lifts, 3072, kinds, 45, coords, 45, remainders, 45) == 15, "fifteen pieces");
+    check(memcmp(kinds, expected_kinds, sizeof expected_kinds) == 0, "over, under and flat in the order of travel, then close");
+    check(memcmp(coords, expected, sizeof expected) == 0, "the crossings from the first end, with the lift added or taken away");
+    check(memcmp(remainders, expected_remainders, sizeof expected_remainders) == 0, "and what is left of each");
+    points[0] = 4097;
+    check(planner_whole_path(table, WORDS, 0, 0, points, 3072, lifts, 3072, kinds, 45, coords, 45, remainders, 45) == 15, "4,097 is a point");
+    lifts[0] = 4097;
+    check(planner_whole_path(table, WORDS, 0, 0, points, 3072, lifts, 3072, kinds, 45, coords, 45, remainders, 45) == -PLANNER_FAR,
+          "4,097 is no lift");
+    lifts[0] = 0;
+    check(planner_whole_path(table, WORDS, 0, 0, points, 1536, lifts, 3072, kinds, 15, coords, 45, remainders, 45) == 15 &&
+              planner_whole_path(table, WORDS, 0, 0, points, 3072, lifts, 1536, kinds, 15, coords, 45, remainders, 45) == -PLANNER_SHORT_SLICE,
+          "1,536 points are enough, 1,536 lifts are not");
+    check(planner_whole_path(table, WORDS, 0, 0, points, 3072, lifts, 3072, kinds, 15, coords, 45, remainders, 15) == -PLANNER_SHORT_SLICE &&
+              planner_whole_path(table, WORDS, 0, 0, points, 3072, lifts, 3072, kinds, 15, coords, 15, remainders, 45) == -PLANNER_SHORT_SLICE,
+          "15 kinds are enough, 15 words or remainders are not");
 }
 
 /* Where the reader stands, and where its walk began. */
@@ -244,6 +302,7 @@ int main(void) {
     try_the_counts();
     try_dart_and_type();
     try_points_and_lifts();
+    try_the_whole_path();
     try_the_reader();
     return verdict();
 }

@@ -47,7 +47,7 @@ static uint16_t *lend_mesh(void) {
 
 /* An output that holds a pattern. */
 static void *lend_output(size_t bytes) {
-    static unsigned char pattern[64];
+    static unsigned char pattern[128];
     memset(pattern, 0xa5, sizeof pattern);
     return lend(pattern, bytes);
 }
@@ -189,6 +189,17 @@ static int64_t float_path(uint16_t dart, uint16_t type, size_t n_kinds, size_t n
     return back(planner_float_path(t, words, dart, type, p, n_points, l, n_lifts, kinds, n_kinds, coords, n_coords), 3);
 }
 
+static int64_t whole_path(uint16_t dart, uint16_t type, size_t n_kinds, size_t n_coords, size_t n_remainders) {
+    uint16_t *t = lend_mesh();
+    int32_t *p = (int32_t *)lend(points, n_points * sizeof *p);
+    int32_t *l = (int32_t *)lend(lifts, n_lifts * sizeof *l);
+    uint16_t *kinds = (uint16_t *)lend_output(n_kinds * sizeof *kinds);
+    int32_t *coords = (int32_t *)lend_output(n_coords * sizeof *coords);
+    uint16_t *remainders = (uint16_t *)lend_output(n_remainders * sizeof *remainders);
+    int64_t answer = planner_whole_path(t, words, dart, type, p, n_points, l, n_lifts, kinds, n_kinds, coords, n_coords, remainders, n_remainders);
+    return back(answer, 3);
+}
+
 static struct planner_reader reader;
 static struct planner_tally tally;
 
@@ -216,6 +227,7 @@ static int64_t step_at(uint16_t dart, uint16_t type) {
 static int all_torn(void) {
     int torn = checked() == -1 && listing(0) == -1 && counts(0) == -1 && parts(0) == -1 && plain() == -1;
     torn = torn && alternates(65535, 65535) == -1 && letters(0, 0, 0) == -1 && cut_length(0, 0) == -1 && float_path(0, 0, 0, 0) == -1;
+    torn = torn && whole_path(0, 0, 0, 0, 0) == -1;
     torn = torn && step_at(0, 0) == -1 && add(65535) == -1 && removal(0) == -1 && insert(0, 0, 0, 0) == -1 && deletion(0) == -1;
     torn = torn && ask_insert(0, 0, 0, 0) == -1 && ask_deletion(0) == -1 && ask_turn(0, 0) == -1;
     torn = torn && commit_insert(0, 0, 0, 0, 0) == -1 && commit_deletion(0, 2 * BEFORE) == -1 && commit_turn(0, 0, -1) == -1;
@@ -295,11 +307,13 @@ static void try_the_names(void) {
     for (i = 0; i < sizeof bad / sizeof bad[0]; i++) {
         const uint16_t d = bad[i][0], k = bad[i][1];
         fine = fine && alternates(d, k) == -2 && letters(d, k, 0) == -2 && cut_length(d, k) == -2 && float_path(d, k, 0, 0) == -2 && step_at(d, k) == -2;
+        fine = fine && whole_path(d, k, 0, 0, 0) == -2;
     }
     check(fine, "no such step: 2");
     for (i = 0; i < sizeof absent / sizeof absent[0]; i++) {
         const uint16_t d = absent[i];
         fine = fine && alternates(d, 1) == -4 && letters(d, 1, 0) == -4 && cut_length(d, 1) == -4 && float_path(d, 1, 0, 0) == -4 && step_at(d, 1) == -4;
+        fine = fine && whole_path(d, 1, 0, 0, 0) == -4;
     }
     check(fine, "a step that is absent: 4");
 }
@@ -348,6 +362,32 @@ static void try_the_path(void) {
     points[6] = lifts[6] = 2147483647;
     check(float_path(0, 0, 5, 15) == 5, "what is far elsewhere is not looked at");
     check(turn(1023, 2) == 2 + E && float_path(0, 0, 5, 15) == -8 && turn(1023, -2) == 2 + E, "two turns: 8");
+}
+
+/* With two turns on the last edge: one crossing on each of two steps, two on each of two, and Close; seven kinds and twice twenty-one words. */
+static void try_the_whole_path(void) {
+    points[POINTS - 1] = lifts[LIFTS - 1] = points[6] = lifts[6] = 0;
+    check(whole_path(0, 0, 5, 15, 15) == 5 && whole_path(2047, 1, 5, 15, 15) == 5, "a whole path with a flat edge, exact");
+    check(turn(1023, 2) == 2 + E && whole_path(0, 0, 7, 21, 21) == 7 && whole_path(2047, 1, 7, 21, 21) == 7, "two turns, exact, and never 8");
+    check(whole_path(0, 0, 6, 21, 21) == -7 && whole_path(0, 0, 7, 20, 21) == -7 && whole_path(0, 0, 7, 21, 20) == -7 && whole_path(0, 0, 0, 0, 0) == -7,
+          "one kind, one word or one remainder too few: 7");
+    n_points = POINTS - 1;
+    check(whole_path(0, 0, 7, 21, 21) == -7, "1,535 points: 7");
+    n_points = 0;
+    check(whole_path(0, 0, 7, 21, 21) == -7, "no points: 7");
+    n_points = POINTS;
+    n_lifts = LIFTS - 1;
+    check(whole_path(0, 0, 7, 21, 21) == -7, "3,071 lifts: 7");
+    n_lifts = LIFTS;
+    points[POINTS - 1] = -65537;
+    check(whole_path(0, 0, 7, 21, 21) == -9 && whole_path(0, 0, 7, 21, 20) == -7, "a point too far: 9, after 7");
+    points[POINTS - 1] = 65536;
+    lifts[LIFTS - 1] = 4097;
+    check(whole_path(0, 0, 7, 21, 21) == -9, "a lift too far: 9");
+    check(turn(1023, -2) == 2 + E && whole_path(0, 0, 5, 15, 15) == -9, "a flat edge's too");
+    lifts[LIFTS - 1] = -4096;
+    points[6] = lifts[6] = 2147483647;
+    check(whole_path(0, 0, 5, 15, 15) == 5, "what is far elsewhere is not looked at");
 }
 
 static void try_the_reader(void) {
@@ -416,6 +456,7 @@ int main(int argc, char **argv) {
     try_the_names();
     try_the_lengths();
     try_the_path();
+    try_the_whole_path();
     try_the_reader();
     try_the_torn();
     return verdict();

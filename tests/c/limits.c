@@ -37,7 +37,7 @@ static void *lend(size_t bytes) {
 }
 
 static uint16_t *table;
-static int64_t answers[24];
+static int64_t answers[26];
 
 /* A chain through all vertices, and loops in the corner of dart 0 for the other edges, every one with one turn: all names are used. Each strip
    of the chain joins a vertex's face, and each loop leaves one face one, so there is one ribbon, of 2,048 steps. It passes every edge twice,
@@ -80,10 +80,10 @@ static void on_small_stack(void (*function)(void)) {
 }
 
 /* What the calls are lent, each slice of the exact size that the call needs. */
-static uint16_t *listing, *kinds;
+static uint16_t *listing, *kinds, *remainders;
 static struct planner_reader *reader;
 static struct planner_tally *tally;
-static int32_t *counts, *parts, *points, *lifts;
+static int32_t *counts, *parts, *points, *lifts, *wholes;
 static uint32_t *lengths;
 static uint8_t *letters;
 static float *coords;
@@ -99,6 +99,8 @@ static void calls_that_read(void) {
     answers[6] = planner_letters(table, WORDS, 0, 0, letters, steps);
     answers[7] = planner_cut_length(table, WORDS, 0, 0, lengths, EDGES);
     answers[8] = planner_float_path(table, WORDS, 0, 0, points, 3 * VERTICES, lifts, 3 * EDGES, kinds, steps + 1, coords, 3 * (steps + 1));
+    answers[24] = planner_whole_path(table, WORDS, 0, 0, points, 3 * VERTICES, lifts, 3 * EDGES, kinds, steps + 1, wholes, 3 * (steps + 1),
+                                     remainders, 3 * (steps + 1));
 }
 
 /* A whole walk, step by step: it ends, or a step is declined. */
@@ -108,6 +110,46 @@ static void read_a_walk(void) {
         ends = planner_walk_step(table, WORDS, reader, lengths, EDGES, tally);
     }
     answers[16] = ends;
+}
+
+/* The path of most pieces, with 99 turns on every edge. */
+enum { MOST = 2048 * 99 + 1 };
+
+static void read_the_longest_path(void) {
+    answers[25] = planner_whole_path(table, WORDS, 0, 0, points, 3 * VERTICES, lifts, 3 * EDGES, kinds, MOST, wholes, 3 * MOST, remainders, 3 * MOST);
+}
+
+/* Every edge by an even number, so that the walks stay. */
+static int turn_all(int16_t amount) {
+    uint16_t e;
+    int fine = 1;
+    for (e = 0; e < EDGES; e++) {
+        fine = fine && planner_turn_edge(table, WORDS, e, amount) >= 0;
+    }
+    return fine;
+}
+
+/* Neighbours of the chain stand at the two ends of the range. */
+static void set_points_far(void) {
+    int v, axis;
+    for (v = 0; v < VERTICES; v++) {
+        for (axis = 0; axis < 3; axis++) {
+            points[3 * v + axis] = (v + axis) % 2 == 0 ? 65536 : -65536;
+        }
+    }
+}
+
+static void try_the_longest_path(void) {
+    kinds = (uint16_t *)lend(MOST * sizeof *kinds);
+    wholes = (int32_t *)lend(3 * MOST * sizeof *wholes);
+    remainders = (uint16_t *)lend(3 * MOST * sizeof *remainders);
+    set_points_far();
+    check(turn_all(98), "99 turns on every edge");
+    on_small_stack(read_the_longest_path);
+    check(answers[25] == 202753 && kinds[MOST - 1] == PLANNER_CLOSE, "the whole path of 202,753 pieces");
+    /* Edge 0 from 65,536 to -65,536: the way to its first crossing is -131,072 by 198, -662 and 4 left. */
+    check(kinds[0] == PLANNER_OVER && wholes[0] == 64874 && remainders[0] == 4, "its first crossing");
+    check(turn_all(-98), "and one turn again");
 }
 
 /* An edit asked for and committed, three times; the last commit again, which finds the table changed. */
@@ -146,6 +188,8 @@ static void measure(void) {
     lifts = (int32_t *)lend(3 * EDGES * sizeof *lifts);
     kinds = (uint16_t *)lend((steps + 1) * sizeof *kinds);
     coords = (float *)lend(3 * (steps + 1) * sizeof *coords);
+    wholes = (int32_t *)lend(3 * (steps + 1) * sizeof *wholes);
+    remainders = (uint16_t *)lend(3 * (steps + 1) * sizeof *remainders);
     reader = (struct planner_reader *)lend(sizeof *reader);
     tally = (struct planner_tally *)lend(sizeof *tally);
 }
@@ -163,7 +207,8 @@ int main(void) {
     on_small_stack(calls_that_read);
     check(answers[0] == 0 && answers[1] == (int64_t)words && answers[2] == 5 && answers[3] == 6, "the listing, the counts, the part");
     check(answers[4] == 1 && answers[5] == 1 && answers[6] == (int64_t)steps, "one hand: the ribbons alternate");
-    check(steps == 2048 && answers[7] == length && answers[8] == 2049, "a cut length and a float path");
+    check(steps == 2048 && answers[7] == length && answers[8] == 2049 && answers[24] == 2049, "a cut length, a float path and a whole path");
+    try_the_longest_path();
     on_small_stack(read_a_walk);
     check(answers[16] == 1 && tally->steps == 2048 && tally->overs == 1024 && tally->unders == 1024 && tally->length == length,
           "the walk again, step by step, with its tally");

@@ -22,6 +22,7 @@ ghost use Rattle.weave.specs.Calls.{alternatesOf, plainOf, lettersOf, lettersOu
 ghost use Rattle.lengths.specs.CutLength.{cutLengthOf};
 ghost use Rattle.reader.specs.Standing.{calledOf};
 ghost use Rattle.paths.specs.PathCall.{pathAnswer, kindsOut, coordsOut};
+ghost use Rattle.wholepaths.specs.WholePath.{wholeAnswer, wholeKindsOut, wholeCoordsOut, wholeRemaindersOut};
 ghost use Rattle.edits.specs.declared.edit.Edit.the-variants.{AddVertex, RemoveVertex, InsertEdge, DeleteEdge, TurnEdge};
 
 // Fills the slice with the empty mesh.
@@ -216,6 +217,28 @@ pub extern "C" fn planner_float_path(
         × (now (coords .exit) ≡ coordsOut (now (words .entry)) dart kind (now (points .entry)) (now (lifts .entry)) (now (kinds .entry)) (now (coords .entry))) ⌝ }
 {
     code(paths::path::float_path(words, dart, kind, points, lifts, kinds, coords))
+}
+
+// Writes the whole path of the ribbon through the step of dart and type: a word, three coordinates and three remainders for each piece. Answers the number of pieces.
+#[no_mangle]
+pub extern "C" fn planner_whole_path(
+    words: &[u16],
+    dart: u16,
+    kind: u16,
+    points: &[i32],
+    lifts: &[i32],
+    kinds: &mut [u16],
+    coords: &mut [i32],
+    remainders: &mut [u16],
+) -> i64
+    ensures { λ r. ⌜ (r ≡ codeOf (wholeAnswer (now (words .entry)) dart kind (now (points .entry)) (now (lifts .entry))
+        (length (now (kinds .entry))) (length (now (coords .entry))) (length (now (remainders .entry)))))
+        × (now (kinds .exit) ≡ wholeKindsOut (now (words .entry)) dart kind (now (points .entry)) (now (lifts .entry)) (now (kinds .entry)) (now (coords .entry)) (now (remainders .entry)))
+        × (now (coords .exit) ≡ wholeCoordsOut (now (words .entry)) dart kind (now (points .entry)) (now (lifts .entry)) (now (kinds .entry)) (now (coords .entry)) (now (remainders .entry)))
+        × (now (remainders .exit) ≡ wholeRemaindersOut (now (words .entry)) dart kind (now (points .entry)) (now (lifts .entry))
+        (now (kinds .entry)) (now (coords .entry)) (now (remainders .entry))) ⌝ }
+{
+    code(wholepaths::path::whole_path(words, dart, kind, points, lifts, kinds, coords, remainders))
 }
 
 // One step of the walk reader: dart and type of the step it stands at, then those of its walk's start. Answers 1 where the walk ends at that step, else 0.

@@ -16,4 +16,5 @@ pub mod Edges
 pub mod Length
 pub mod Met
 pub mod Sides
+pub mod Back
 pub mod Totals

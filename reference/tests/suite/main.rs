@@ -13,6 +13,7 @@ mod rules;
 mod runs;
 mod samples;
 mod solids;
+mod whole;
 mod wrong_readings;
 
 use reference::edit::{edit, Answer, Edit};
@@ -72,4 +73,43 @@ pub fn walk_sizes(table: &[u16]) -> Vec<usize> {
     let mut sizes: Vec<usize> = Faces::of(table).walks.iter().map(|walk| walk.steps().len()).collect();
     sizes.sort_by(|a, b| b.cmp(a));
     sizes
+}
+
+/// What the float path and the whole path decline alike, "as the float path does" (document 02, e): 1, 2, 4, 7 and 9. The ribbon of dart 0 is on
+/// the vertices 0 and 1 and the edges 0 and 1, which are all there are.
+pub fn declines_as_a_path<T>(
+    table: &[u16],
+    points: &[i32],
+    lifts: &[i32],
+    path: impl Fn(&[u16], u16, u16, &[i32], &[i32]) -> Result<T, Refusal>,
+) {
+    let declines = |table: &[u16], dart, t, points: &[i32], lifts: &[i32], refusal| {
+        assert_eq!(path(table, dart, t, points, lifts).err(), Some(refusal));
+    };
+    declines(&[], 4_000, 2, &[], &[], Refusal::Torn);
+    declines(table, 2_048, 0, &[], &[], Refusal::NoSuchName);
+    declines(table, 4, 2, &[], &[], Refusal::NoSuchName);
+    declines(table, 4, 0, &[], &[], Refusal::Absent);
+    declines(table, 0, 0, &points[..1_535], lifts, Refusal::ShortSlice);
+    declines(table, 0, 0, points, &lifts[..3_071], Refusal::ShortSlice);
+    let with = |words: &[i32], place: usize, word: i32| {
+        let mut words = words.to_vec();
+        words[place] = word;
+        words
+    };
+    // Both ends, the lift of the turned edge and that of the flat one.
+    for place in 0..6 {
+        for word in [65_537, -65_537, i32::MAX, i32::MIN] {
+            declines(table, 0, 0, &with(points, place, word), lifts, Refusal::Far);
+            declines(table, 0, 0, &with(points, place, word), &lifts[1..], Refusal::ShortSlice);
+        }
+        for word in [4_097, -4_097, i32::MAX, i32::MIN] {
+            declines(table, 0, 0, points, &with(lifts, place, word), Refusal::Far);
+        }
+        for (point, lift) in [(65_536, 4_096), (-65_536, -4_096)] {
+            assert!(path(table, 0, 0, &with(points, place, point), &with(lifts, place, lift)).is_ok());
+        }
+    }
+    let (points, lifts) = (with(points, 6, i32::MIN), with(lifts, 6, i32::MAX));
+    assert!(path(table, 0, 0, &points, &lifts).is_ok(), "vertex 2 and edge 2 are not on the walk");
 }

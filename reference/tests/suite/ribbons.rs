@@ -219,43 +219,15 @@ fn zero_is_positive_zero() {
 
 #[test]
 fn a_float_path_declines() {
-    let table = sample();
     let (points, lifts) = places();
-    let declines = |table: &[u16], dart, t, points: &[i32], lifts: &[i32], refusal| {
-        assert_eq!(path(table, dart, t, points, lifts), Err(refusal));
-    };
-    declines(&[], 4_000, 2, &[], &[], Refusal::Torn);
-    declines(&table, 2_048, 0, &[], &[], Refusal::NoSuchName);
-    declines(&table, 4, 2, &[], &[], Refusal::NoSuchName);
-    declines(&table, 4, 0, &[], &[], Refusal::Absent);
-    declines(&table, 0, 0, &points[..1_535], &lifts, Refusal::ShortSlice);
-    declines(&table, 0, 0, &points, &lifts[..3_071], Refusal::ShortSlice);
-    let mut many = table.clone();
+    declines_as_a_path(&sample(), &points, &lifts, path);
+    let mut many = sample();
     edit(&mut many, turn(0, 1)).unwrap();
-    declines(&many, 0, 0, &points[..9], &lifts, Refusal::ShortSlice);
-    declines(&many, 0, 0, &points, &lifts, Refusal::ManyTurns);
+    assert_eq!(path(&many, 0, 0, &points[..9], &lifts), Err(Refusal::ShortSlice));
+    assert_eq!(path(&many, 0, 0, &points, &lifts), Err(Refusal::ManyTurns));
+    let far = vec![65_537; 1_536];
+    assert_eq!(path(&many, 0, 0, &far, &lifts), Err(Refusal::ManyTurns));
     assert!(path(&many, 3, 0, &points, &lifts).is_ok(), "edge 0 is not on that ribbon");
-    for place in 0..6 {
-        for word in [65_537, -65_537, i32::MAX, i32::MIN] {
-            let mut far = points.clone();
-            far[place] = word;
-            declines(&table, 0, 0, &far, &lifts, Refusal::Far);
-            declines(&many, 0, 0, &far, &lifts, Refusal::ManyTurns);
-        }
-        for word in [4_097, -4_097, i32::MAX, i32::MIN] {
-            let mut far = lifts.clone();
-            far[place] = word;
-            declines(&table, 0, 0, &points, &far, Refusal::Far);
-        }
-        for (limit, lift) in [(65_536, 4_096), (-65_536, -4_096)] {
-            let (mut points, mut lifts) = (points.clone(), lifts.clone());
-            (points[place], lifts[place]) = (limit, lift);
-            assert!(path(&table, 0, 0, &points, &lifts).is_ok());
-        }
-    }
-    let (mut points, mut lifts) = (points, lifts);
-    (points[6], lifts[6]) = (i32::MIN, i32::MAX);
-    assert!(path(&table, 0, 0, &points, &lifts).is_ok(), "vertex 2 and edge 2 are not on the walk");
 }
 
 #[test]

@@ -6,6 +6,7 @@ use reference::edit::{Answer, Edit};
 use reference::forecast::Forecast;
 use reference::refusal::Refusal;
 use reference::rule::Rule;
+use reference::whole::Outputs;
 
 mod c {
     extern "C" {
@@ -64,6 +65,22 @@ mod c {
             n_kinds: usize,
             coords: *mut f32,
             n_coords: usize,
+        ) -> i64;
+        pub fn planner_whole_path(
+            table: *const u16,
+            words: usize,
+            dart: u16,
+            kind: u16,
+            points: *const i32,
+            n_points: usize,
+            lifts: *const i32,
+            n_lifts: usize,
+            kinds: *mut u16,
+            n_kinds: usize,
+            coords: *mut i32,
+            n_coords: usize,
+            remainders: *mut u16,
+            n_remainders: usize,
         ) -> i64;
         pub fn planner_walk_step(
             table: *const u16,
@@ -230,6 +247,35 @@ pub fn float_path(
             coords.len(),
         )
     }
+}
+
+/// The whole path of the ribbon through the step, into three outputs.
+pub fn whole_path(table: &[u16], (dart, kind): (u16, u16), points: &[i32], lifts: &[i32], out: Outputs) -> i64 {
+    unsafe {
+        c::planner_whole_path(
+            table.as_ptr(),
+            table.len(),
+            dart,
+            kind,
+            points.as_ptr(),
+            points.len(),
+            lifts.as_ptr(),
+            lifts.len(),
+            out.kinds.as_mut_ptr(),
+            out.kinds.len(),
+            out.coords.as_mut_ptr(),
+            out.coords.len(),
+            out.remainders.as_mut_ptr(),
+            out.remainders.len(),
+        )
+    }
+}
+
+/// A whole path over slices of no words whose pointers are null.
+pub fn whole_path_of_nulls(table: &[u16], (dart, kind): (u16, u16)) -> i64 {
+    let (read, none) = (std::ptr::null(), std::ptr::null_mut());
+    let (words, coords) = (table.len(), std::ptr::null_mut());
+    unsafe { c::planner_whole_path(table.as_ptr(), words, dart, kind, read, 0, read, 0, none, 0, coords, 0, none, 0) }
 }
 
 /// One step of the reader that the host keeps.

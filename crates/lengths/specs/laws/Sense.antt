@@ -2,7 +2,7 @@
 -- and an isolated vertex has none.
 use Prim.Native.Nat.{ℕ, _+_, _*_, _/_, _<_, _≤_}
 use native.Mathlib.Omega.{arith}
-use mathlib.Core.Path.{_≡_, refl, sym, _∙_, ap, ap₂, subst}
+use mathlib.Core.Path.{_≡_, refl, sym, _∙_, ap, ap₂}
 use mathlib.Core.Bool.{Bool, true, false, not, _||_}
 use mathlib.Core.List.{List, [], _∷_}
 use mathlib.Core.Logic.{_≢_}
@@ -10,7 +10,6 @@ use lib.Dec.{ltb, leb}
 use lib.ListN.{length}
 use borrow.Author.Tests.{lt-ltb}
 use Rattle.orbits.specs.laws.Count.{count-le}
-use Rattle.orbits.specs.laws.Iterate.{iter-keeps}
 use Rattle.table.specs.Layout.{edges, leaves}
 use Rattle.table.specs.Good.{Good}
 use Rattle.table.specs.Rotation.{Rotation, Lawful, rotation, live?, alone?, turnsOf}
@@ -20,15 +19,15 @@ use Rattle.table.specs.laws.Output.{done-declined}
 use Rattle.table.specs.declared.answer.Answer.{Answer}
 use Rattle.table.specs.declared.answer.Answer.the-variants.{Done, Declined}
 use Rattle.table.specs.declared.answer.Refusal.the-variants.{ShortSlice, Far}
-use Rattle.tracing.specs.Step.{steps, stepType, step, mirror, back}
+use Rattle.tracing.specs.Step.{steps, stepType, mirror, back}
 use Rattle.tracing.specs.laws.Step.{back-dart, back-type}
 use Rattle.tracing.specs.Walk.{walk}
 use Rattle.tracing.specs.Listing.{bit, has, loneCorner}
 use Rattle.tracing.specs.Met.{times, total, edgeCount}
-use Rattle.tracing.specs.laws.Meets.{has-walk, trace-reach}
 use Rattle.tracing.specs.laws.Length.{walk-bound}
 use Rattle.tracing.specs.laws.Totals.{total-most, total-named, total-mirror}
-use Rattle.walks.specs.laws.Stands.{Stands, stands-low, stands-step}
+use Rattle.walks.specs.laws.Stands.{Stands, stands-low}
+use Rattle.walks.specs.laws.Along.{walk-stands}
 use Rattle.weave.specs.Letters.{over, wordOf, stepLetters}
 use Rattle.weave.specs.Ribbon.{some}
 use Rattle.weave.specs.laws.Ribbon.{none-passes}
@@ -41,7 +40,7 @@ use Rattle.lengths.specs.CutLength.{lengthOf, longest, farLength, takenB
 use Rattle.lengths.specs.laws.Summing.{saw-total, length-most, takenMost, taken-most}
 
 -- one passes exactly if a number of them does
-some-total : (q : ℕ → Bool) (l : List ℕ) → some q l ≡ ltb 0 (total (λ x. bit (q x)) l)
+pub some-total : (q : ℕ → Bool) (l : List ℕ) → some q l ≡ ltb 0 (total (λ x. bit (q x)) l)
 unfolding some total
 some-total q [] = refl
 some-total q (x ∷ l) = by (q x) (total (λ y. bit (q y)) l) (some-total q l)
@@ -112,9 +111,7 @@ module _ (t : List ℕ) (g : Good t) (lengths : List ℕ) where
       let few = walk-bound R L s low live in
       let all = count-le (λ e. R .live (2 * e)) edges in
       let sum = total-most (takenBy t lengths) takenMost (walk R s) (λ x e.
-      let r = trace-reach R L low (has-walk R L s x low e) .reach in
-      let stands = subst (Stands t) (r .lands) (iter-keeps (Stands t) (step R) (λ i h. stands-step h) (r .steps) s start) in
-      taken-most lengths stands (length-most lengths x (none-passes (farLength lengths) (walk R s) x near e))) in
+      taken-most lengths (walk-stands start e) (length-most lengths x (none-passes (farLength lengths) (walk R s) x near e))) in
       let whole = saw-total t lengths s in
       omega arith
 

@@ -18,7 +18,7 @@ use Rattle.weave.specs.Letters.{over, under}
 use Rattle.pieces.specs.Exact.{largest, over32}
 use Rattle.pieces.specs.Path.{farthestPoint, farthestLift, sixteenths, thirtySeconds, pointAt}
 
-size-fits : (z : ℤ) → natAbs z ≤ largest → SFits w32 z
+pub size-fits : (z : ℤ) → natAbs z ≤ largest → SFits w32 z
 size-fits (pos n) h = record { sfits = omega arith }
 size-fits (negsuc n) h = record { sfits = omega arith }
 
@@ -28,7 +28,7 @@ pub record NearEnds (a b l : ℤ) : Type 0 where
   pub second : natAbs b ≤ farthestPoint
   pub lift : natAbs l ≤ farthestLift
 
-handed-is : (z : ℤ) → natAbs z ≤ largest → handed z ≡ z
+pub handed-is : (z : ℤ) → natAbs z ≤ largest → handed z ≡ z
 handed-is z h = toZ-ofZ {w = w32} {z = z} (size-fits z h)
 
 module _ {a b l : ℤ} (n : NearEnds a b l) where

@@ -3,17 +3,20 @@ use Prim.Native.Nat.{ℕ, zero, suc, _+_, _<_, _≤_}
 use native.Mathlib.Omega.{arith}
 use native.Mathlib.Numerals.{add-one}
 use native.Mathlib.Decide.{ℕ-discrete, decLt}
-use mathlib.Core.Path.{_≡_, sym, _∙_, ap}
+use mathlib.Core.Path.{_≡_, sym, _∙_, ap, subst}
+use mathlib.Core.Bool.{true}
 use mathlib.Core.List.{List, _++_}
 use mathlib.Core.Logic.{_≢_}
 use lib.ListN.{length, length-append}
 use Rattle.table.specs.Rotation.{rotation}
 use Rattle.table.specs.laws.Lawful.{good-lawful}
 use Rattle.orbits.specs.Iterate.{iter}
-use Rattle.orbits.specs.laws.Iterate.{iter-zero, iter-suc, Period}
+use Rattle.orbits.specs.laws.Iterate.{iter-zero, iter-suc, iter-keeps, Period}
 use Rattle.tracing.specs.Step.{steps, step}
 use Rattle.tracing.specs.Walk.{walk, onward}
 use Rattle.tracing.specs.laws.Walk.{iterates, walk-run, walk-period, walk-period-le, run-length, onward-rest}
+use Rattle.tracing.specs.Listing.{has}
+use Rattle.tracing.specs.laws.Meets.{has-walk, trace-reach}
 use Rattle.walks.specs.laws.Stands.{Stands, stands-step, stands-low}
 
 pub record Along (f : ℕ → ℕ) (s n at : ℕ) : Type 0 where
@@ -104,3 +107,12 @@ walking-less {t} {s} w e ns =
     let now = left-is w p in
     let then = left-is (walking-more w e ns) p in
     omega arith
+
+-- every step of a walk stands on a live dart
+pub walk-stands : {t : List ℕ} {s x : ℕ} → Stands t s → has x (walk (rotation t) s) ≡ true → Stands t x
+walk-stands {t} {s} {x} h e =
+    let R = rotation t in
+    let L = good-lawful t (h .good) in
+    let low = stands-low h in
+    let r = trace-reach R L low (has-walk R L s x low e) .reach in
+    subst (Stands t) (r .lands) (iter-keeps (Stands t) (step R) (λ i k. stands-step k) (r .steps) s h)

@@ -1,0 +1,2 @@
+// Where one crossing sits, in whole sixteenths.
+pub mod between;

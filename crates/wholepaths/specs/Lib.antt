@@ -1,0 +1,4 @@
+pub mod WholePath
+pub mod Tied
+pub mod laws
+pub mod Theorems

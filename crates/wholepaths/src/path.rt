@@ -98,7 +98,8 @@ pub fn whole_path(
         (length (now (kinds .entry))) (length (now (coords .entry))) (length (now (remainders .entry))))
         × (now (kinds .exit) ≡ wholeKindsOut (now (t .entry)) dart kind (now (points .entry)) (now (lifts .entry)) (now (kinds .entry)) (now (coords .entry)) (now (remainders .entry)))
         × (now (coords .exit) ≡ wholeCoordsOut (now (t .entry)) dart kind (now (points .entry)) (now (lifts .entry)) (now (kinds .entry)) (now (coords .entry)) (now (remainders .entry)))
-        × (now (remainders .exit) ≡ wholeRemaindersOut (now (t .entry)) dart kind (now (points .entry)) (now (lifts .entry)) (now (kinds .entry)) (now (coords .entry)) (now (remainders .entry))) ⌝ }
+        × (now (remainders .exit) ≡ wholeRemaindersOut (now (t .entry)) dart kind (now (points .entry)) (now (lifts .entry))
+        (now (kinds .entry)) (now (coords .entry)) (now (remainders .entry))) ⌝ }
 {
     let n = named_step(t, dart, kind);
     match n {

@@ -9,6 +9,7 @@ use Rattle.tracing.specs.Met.{times, countIn}
 use Rattle.tracing.specs.laws.Step.{type-of, type?, is-zero, is-one}
 use Rattle.walks.specs.laws.Stands.{Stands}
 use Rattle.weave.specs.Letters.{over, under, unturned, positive, crossings, letter, crossed, lettersOn, wordOf, stepLetters}
+use Rattle.weave.specs.laws.Ribbon.{crossings-parity}
 use Rattle.letters.specs.laws.Crossing.{EdgeWord, edge-read, crossings-few}
 
 -- "the strand goes over (O) .., else under (U)": each crossing has one of the two letters
@@ -85,10 +86,6 @@ overs-step e f = rw (← (e .word)) f
 
 -- over stays over when an edge is travelled back
 
-crossings-parity : (w : ℕ) → crossings w % 2 ≡ w % 2
-unfolding crossings
-crossings-parity w = omega arith
-
 -- an even number of crossings has as many O's from either type on
 overs-even : (hand : Bool) (n : ℕ) → n % 2 ≡ 0 → times over (crossed hand 0 n) ≡ times over (crossed hand 1 n)
 overs-even true n e = let h = halves n in let zero = h .positive-zero in let one = h .positive-one in omega arith
@@ -98,7 +95,7 @@ overs-even false n e = let h = halves n in let zero = h .negative-zero in let on
 pub overs-back : (w s : ℕ) → times over (lettersOn w (1 - (s + w) % 2)) ≡ times over (lettersOn w (s % 2))
 unfolding lettersOn
 overs-back w s =
-    let parity = crossings-parity w in
+    let parity = crossings-parity w 0 in
     elim (type? (crossings w)) [
       | is-zero even ↦ elim (type? s) [
         | is-zero e ↦ let from : 1 - (s + w) % 2 ≡ 1 = omega arith in rw (from, e) (sym (overs-even (positive w) (crossings w) even))

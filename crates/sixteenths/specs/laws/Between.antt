@@ -13,7 +13,7 @@ use mir.Val.{SFits, Fits, toZ}
 use mir.Facts.{toZ-ofZ, toZ-pos}
 use borrow.Author.Tests.{eq-eqb, ne-eqb}
 use Rattle.orbits.specs.laws.Truth.{truth, holds, fails}
-use Rattle.table.specs.laws.Signed.{handed, Difference, below, above, minus-difference, size-sum, size-minus}
+use Rattle.table.specs.laws.Signed.{handed, Difference, below, above, minus-difference, move, size-sum, size-minus}
 use Rattle.weave.specs.Letters.{over, under}
 use Rattle.pieces.specs.Path.{farthestPoint, farthestLift}
 use Rattle.pieces.specs.laws.Coordinate.{size-fits, handed-is}
@@ -67,9 +67,6 @@ apart x y f =
     ap (λ z. x -ℤ f +ℤ z) (negℤ-+ℤ y (negℤ f) ∙ ap (λ z. negℤ y +ℤ z) (negℤ-negℤ f) ∙ +ℤ-comm (negℤ y) f)
     ∙ sym (+ℤ-assoc (x -ℤ f) f (negℤ y))
     ∙ ap (λ z. z -ℤ y) (-ℤ-+ℤ-cancel x f)
-
-joined : (x y f : ℤ) → x -ℤ f +ℤ y ≡ x +ℤ y -ℤ f
-joined x y f = +ℤ-assoc x (negℤ f) y ∙ ap (λ z. x +ℤ z) (+ℤ-comm (negℤ f) y) ∙ sym (+ℤ-assoc x y (negℤ f))
 
 -- the division: m parts, of which k lie before the crossing
 
@@ -228,7 +225,7 @@ module _ {n j A B : ℕ} {a b : ℤ} (k : Between n j a b) (r : Raised a A) (s :
   unfolding sits
   sits-is =
       ap (λ x. x +ℤ floored (share j a b) (2 * n)) (r .is)
-      ∙ joined (pos A) (floored (share j a b) (2 * n)) (pos farthestPoint)
+      ∙ move (pos A) (negℤ (pos farthestPoint)) (floored (share j a b) (2 * n))
       ∙ ap (λ x. x -ℤ pos farthestPoint) (division .quotient)
 
   remains-is : remains n j a b ≡ weighed n j A B % (2 * n)

@@ -4,11 +4,11 @@
 --     mesh-sum             the mesh's is the sum of its parts';     empty-euler     of the empty mesh 0
 use Prim.Native.Nat.{ℕ, _+_, _-_, _%_, _≤_}
 use native.Mathlib.Omega.{arith}
-use mathlib.Core.Path.{_≡_, refl, sym, _∙_, ap}
+use mathlib.Core.Path.{_≡_, refl, _∙_, ap}
 use mathlib.Core.Bool.{true, false}
 use mathlib.Core.List.{List, [], _∷_}
 use lib.Dec.{le→leb}
-use lib.IntN.{ℤ, pos, negℤ, natAbs, _+ℤ_, _-ℤ_, +ℤ-assoc, +ℤ-comm, negℤ-+ℤ}
+use lib.IntN.{ℤ, pos, negℤ, natAbs, _+ℤ_, _-ℤ_, negℤ-+ℤ}
 use lib.Signed.{_≤ℤ_}
 use Rattle.table.specs.Rotation.{Rotation, Lawful}
 use Rattle.tracing.specs.Met.{total}
@@ -19,10 +19,7 @@ use Rattle.surface.specs.laws.Euler.{Closed, euler}
 use Rattle.surface.specs.Parts.{root?, parts}
 use Rattle.surface.specs.laws.Parts.{root-there, root-label, vertices-sum, edges-sum, faces-sum, empty-vertices, empty-edges, empty-faces}
 use Rattle.surface.specs.Signed.{eulerOf, partEuler, meshEuler, PartLaws, totalℤ}
-use Rattle.table.specs.laws.Signed.{minus-difference, above, below}
-
-move : (a b c : ℤ) → a +ℤ b +ℤ c ≡ a +ℤ c +ℤ b
-move a b c = +ℤ-assoc a b c ∙ ap (λ z. a +ℤ z) (+ℤ-comm b c) ∙ sym (+ℤ-assoc a c b)
+use Rattle.table.specs.laws.Signed.{minus-difference, above, below, move, exchange}
 
 pub euler-difference : (v e f : ℕ) → eulerOf v e f ≡ pos (v + f) -ℤ pos e
 unfolding eulerOf
@@ -50,9 +47,6 @@ part-laws closed {R} c r t =
       even = λ o. even-number _ _ _ (H .even o);
       at-most-one = λ n. at-most _ _ _ 1 (H .less n);
     }
-
-exchange : (a b c d : ℤ) → (a +ℤ b) +ℤ (c +ℤ d) ≡ (a +ℤ c) +ℤ (b +ℤ d)
-exchange a b c d = sym (+ℤ-assoc (a +ℤ b) c d) ∙ ap (λ z. z +ℤ d) (move a b c) ∙ +ℤ-assoc (a +ℤ c) b d
 
 regroup : (a b c d e f : ℤ) → (a +ℤ b) +ℤ (c +ℤ d) +ℤ (e +ℤ f) ≡ (a +ℤ c +ℤ e) +ℤ (b +ℤ d +ℤ f)
 regroup a b c d e f = ap (λ z. z +ℤ (e +ℤ f)) (exchange a b c d) ∙ exchange (a +ℤ c) (b +ℤ d) e f

@@ -1,11 +1,12 @@
 -- Signed sums and differences: how large they can be.
 --     difference           a − b, below zero or not;     minus-sub     the difference of two naturals is one such
+--     move, exchange       summands in another order
 --     mag-sum, mag-minus   bounds on what a machine word is tested by;     size-sum, size-minus, size-twice     the absolute value
 use Prim.Native.Nat.{ℕ, zero, suc, _+_, _-_, _*_, _≤_, _<_}
 use native.Mathlib.Omega.{arith}
 use native.Mathlib.Decide.{decLt}
 use mathlib.Core.Path.{_≡_, refl, sym, _∙_, ap}
-use lib.IntN.{ℤ, pos, negsuc, negℤ, natAbs, subℕ, _+ℤ_, _-ℤ_, _*ℤ_}
+use lib.IntN.{ℤ, pos, negsuc, negℤ, natAbs, subℕ, _+ℤ_, _-ℤ_, _*ℤ_, +ℤ-assoc, +ℤ-comm}
 use lib.Signed.{mag}
 use mir.Syntax.{w32}
 use mir.Val.{toZ, ofZ}
@@ -35,6 +36,14 @@ minus-sub a (suc b) = refl
 
 pub minus-difference : (a b : ℕ) → Difference a b (pos a -ℤ pos b)
 minus-difference a b = rw (minus-sub a b) (difference a b)
+
+-- summands in another order
+
+pub move : (a b c : ℤ) → a +ℤ b +ℤ c ≡ a +ℤ c +ℤ b
+move a b c = +ℤ-assoc a b c ∙ ap (λ z. a +ℤ z) (+ℤ-comm b c) ∙ sym (+ℤ-assoc a c b)
+
+pub exchange : (a b c d : ℤ) → (a +ℤ b) +ℤ (c +ℤ d) ≡ (a +ℤ c) +ℤ (b +ℤ d)
+exchange a b c d = sym (+ℤ-assoc (a +ℤ b) c d) ∙ ap (λ z. z +ℤ d) (move a b c) ∙ +ℤ-assoc (a +ℤ c) b d
 
 -- bounds on the magnitude of a word
 

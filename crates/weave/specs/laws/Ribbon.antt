@@ -78,7 +78,7 @@ unfolding handsAlong
 hands-one t x = append-nil (handsOn (wordOf t x))
 
 -- 100 is even: the word has the parity of its crossings
-crossings-parity : (w n : ℕ) → (n + w) % 2 ≡ (n + crossings w) % 2
+pub crossings-parity : (w n : ℕ) → (n + w) % 2 ≡ (n + crossings w) % 2
 unfolding crossings
 crossings-parity w n = omega arith
 

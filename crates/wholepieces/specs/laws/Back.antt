@@ -16,6 +16,7 @@ use Rattle.tracing.specs.Walk.{walk}
 use Rattle.tracing.specs.laws.Step.{back-dart, back-type, type?, is-zero, is-one}
 use Rattle.tracing.specs.laws.Back.{walk-mirror}
 use Rattle.weave.specs.Letters.{unturned, positive, crossings, letter, letterAt, wordOf}
+use Rattle.weave.specs.laws.Ribbon.{crossings-parity}
 use Rattle.letters.specs.laws.Crossing.{letters-at}
 use Rattle.wholepieces.specs.Pieces.{spotsOn, spotsOf, counted, letterOn, pieceOn, pieceAt, upTo, stepPieces, piecesAlong}
 use Rattle.wholepieces.specs.laws.Pieces.{letter-none, counted-rising, counted-falling, flat-append, flat-one}
@@ -49,12 +50,8 @@ counted-back n d i h = elim (type? d) [
   | is-one e ↦ sym (counted-rising n (rev d) i (omega arith)) ∙ (let same : i ≡ n - 1 - (n - 1 - i) = omega arith in same) ∙ counted-falling n d (n - 1 - i) (omega arith)
 ]
 
-crossings-parity : (w : ℕ) → crossings w % 2 ≡ w % 2
-unfolding crossings
-crossings-parity w = omega arith
-
-type-back : (w s i m : ℕ) → (i + m + 1) % 2 ≡ w % 2 → (1 - (s + w) % 2 + i) % 2 ≡ (s % 2 + m) % 2
-type-back w s i m e = elim (type? (s + w)) [
+type-back : (s i m : ℕ) → (1 - (s + (i + m + 1)) % 2 + i) % 2 ≡ (s % 2 + m) % 2
+type-back s i m = elim (type? (s + (i + m + 1))) [
   | is-zero z ↦ rw z (omega arith)
   | is-one z ↦ rw z (omega arith)
 ]
@@ -68,7 +65,7 @@ letter-back w s i h = elim (ℕ-discrete w unturned) [
       let n : spotsOn w ≡ crossings w = rw (ne-eqb w unturned e) in
       let m = spotsOn w - 1 - i in
       let all : i + m + 1 ≡ crossings w = omega arith in
-      let type = type-back w s i m (ap (λ k. k % 2) all ∙ crossings-parity w) in
+      let type = ap (λ k. (1 - k + i) % 2) (crossings-parity w s ∙ ap (λ c. (s + c) % 2) (sym all)) ∙ type-back s i m in
       letters-at w (1 - (s + w) % 2) i (omega arith) (omega arith) ∙ ap (letter (positive w)) type ∙ sym (letters-at w (s % 2) m (omega arith) (omega arith))
 ]
 

@@ -6,9 +6,9 @@ use mathlib.Core.Path.{_≡_, refl, sym, _∙_, ap, ap₂}
 use mathlib.Core.Bool.{Bool, true, false, cond}
 use mathlib.Core.List.{List}
 use lib.Dec.{eqb}
-use lib.IntN.{ℤ, pos, negsuc, negℤ, _+ℤ_, _-ℤ_, _*ℤ_, +ℤ-assoc, +ℤ-comm, +ℤ-negℤ-cancel, -ℤ-+ℤ-cancel, negℤ-+ℤ, sucℤ-*ℤ}
+use lib.IntN.{ℤ, pos, negsuc, negℤ, _+ℤ_, _-ℤ_, _*ℤ_, +ℤ-assoc, +ℤ-comm, +ℤ-negℤ-cancel, -ℤ-+ℤ-cancel, negℤ-+ℤ, sucℤ-*ℤ, one, *ℤ-one, *ℤ-comm}
 use Rattle.orbits.specs.laws.Truth.{truth, holds, fails}
-use Rattle.table.specs.laws.Signed.{below, above, difference}
+use Rattle.table.specs.laws.Signed.{below, above, difference, move, exchange}
 use Rattle.weave.specs.Letters.{over, under, wordOf}
 use Rattle.pieces.specs.Path.{firstEnd, secondEnd, liftAt, thirtySeconds}
 use Rattle.wholepieces.specs.declared.piece.Spot.{Spot}
@@ -91,18 +91,14 @@ spot-placed t points lifts s i h =
 -- the middle of an edge, twice
 
 once : (x : ℤ) → pos 1 *ℤ x ≡ x
-once (pos n) = let same : 1 * n ≡ n = omega arith in ap pos same
-once (negsuc n) = let same : 1 * suc n ≡ suc n = omega arith in ap (λ k. negℤ (pos k)) same
+unfolding one
+once x = *ℤ-comm (pos 1) x ∙ *ℤ-one x
 
 twice : (x : ℤ) → pos 2 *ℤ x ≡ x +ℤ x
 twice x = sucℤ-*ℤ (pos 1) x ∙ ap (λ y. y +ℤ x) (once x)
 
-crossover : (x y z w : ℤ) → x +ℤ y +ℤ (z +ℤ w) ≡ x +ℤ z +ℤ (y +ℤ w)
-crossover x y z w =
-    +ℤ-assoc x y (z +ℤ w) ∙ ap (λ v. x +ℤ v) (sym (+ℤ-assoc y z w) ∙ ap (λ v. v +ℤ w) (+ℤ-comm y z) ∙ +ℤ-assoc z y w) ∙ sym (+ℤ-assoc x z (y +ℤ w))
-
 twice-sum : (x y : ℤ) → pos 2 *ℤ (x +ℤ y) ≡ pos 2 *ℤ x +ℤ pos 2 *ℤ y
-twice-sum x y = twice (x +ℤ y) ∙ crossover x y x y ∙ sym (ap₂ _+ℤ_ (twice x) (twice y))
+twice-sum x y = twice (x +ℤ y) ∙ exchange x y x y ∙ sym (ap₂ _+ℤ_ (twice x) (twice y))
 
 twice-minus : (x : ℤ) → pos 2 *ℤ negℤ x ≡ negℤ (pos 2 *ℤ x)
 twice-minus x = twice (negℤ x) ∙ sym (negℤ-+ℤ x x) ∙ ap negℤ (sym (twice x))
@@ -132,5 +128,4 @@ middle-lifted letter a b l = elim (truth (eqb letter over)) [
     risen x =
         let r = pos (remains 1 0 a b) in
         let m = pos 2 *ℤ sits 1 0 a b in
-        ap (λ y. y +ℤ r) (twice-sum (sits 1 0 a b) x) ∙ +ℤ-assoc m (pos 2 *ℤ x) r ∙ ap (λ y. m +ℤ y) (+ℤ-comm (pos 2 *ℤ x) r)
-        ∙ sym (+ℤ-assoc m r (pos 2 *ℤ x)) ∙ ap (λ y. y +ℤ pos 2 *ℤ x) (middle a b)
+        ap (λ y. y +ℤ r) (twice-sum (sits 1 0 a b) x) ∙ move m (pos 2 *ℤ x) r ∙ ap (λ y. y +ℤ pos 2 *ℤ x) (middle a b)

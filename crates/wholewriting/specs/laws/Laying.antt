@@ -123,7 +123,8 @@ pub record Laid (t : List ℕ) (points lifts : List ℤ) (s : ℕ) (o : Out) (r 
 abbrev piecesBefore : List ℕ → List ℤ → List ℤ → ℕ → ℕ → List Piece
 piecesBefore t points lifts s n = flatMap (stepPieces t points lifts) (iterates (step (rotation t)) s n)
 
-before-suc : (t : List ℕ) (points lifts : List ℤ) (s n : ℕ) → piecesBefore t points lifts s (suc n) ≡ piecesBefore t points lifts s n ++ stepPieces t points lifts (iter (step (rotation t)) n s)
+before-suc : (t : List ℕ) (points lifts : List ℤ) (s n : ℕ)
+    → piecesBefore t points lifts s (suc n) ≡ piecesBefore t points lifts s n ++ stepPieces t points lifts (iter (step (rotation t)) n s)
 before-suc t points lifts s n =
     let f = step (rotation t) in
     rw (run-suc f s n, flat-append (stepPieces t points lifts) (iterates f s n) (iter f n s ∷ []), flat-one (stepPieces t points lifts) (iter f n s))

@@ -2,7 +2,7 @@
    sides' answers and outputs are compared. Prints a table for docs/BENCHMARK.md: microseconds a call, medians, and their ratio.
    bench/against builds it with OLDER: then the other side is an older build of the planner, under plain.h's names, and ask and commit
    are timed against its plain edits too, the whole path against its float path; with OLDER_ASKS where that build has ask and commit itself,
-   with OLDER_WHOLE where it has the whole path. */
+   with OLDER_WHOLE where it has the whole path, with OLDER_TRIAL where it has the trial job, with OLDER_RECORD where it has the job record. */
 
 #define _POSIX_C_SOURCE 199309L
 
@@ -23,6 +23,12 @@
 #endif
 #ifndef OLDER_WHOLE
 #define OLDER_WHOLE 0
+#endif
+#ifndef OLDER_TRIAL
+#define OLDER_TRIAL 0
+#endif
+#ifndef OLDER_RECORD
+#define OLDER_RECORD 0
 #endif
 
 enum { WORDS = PLANNER_TABLE_WORDS, OUT = 4096, LETTERS = 2048 * 99, PIECES = LETTERS + 1, ROUNDS = 21 };
@@ -150,6 +156,34 @@ static int64_t their_walk_step(void) {
     return stepped(ends, &reader, &tally);
 }
 
+/* The largest trial job. Its bytes stand in the place of the letters. */
+#if !OLDER || OLDER_TRIAL
+CALL(trial_job, (7, PLANNER_EDGES, ours.letters, LETTERS), (7, PLANNER_EDGES, theirs.letters, LETTERS))
+#endif
+
+/* Insertions as a host writes them, one after the other: so many that the time of one is the row's in nanoseconds. Their bytes stand in the
+   place of the letters. */
+#if !OLDER || OLDER_RECORD
+enum { RECORDS = 1000 };
+#define WRITE_RECORDS(name, call, bytes)                                                                               \
+    static int64_t name(void) {                                                                                        \
+        size_t at = 0;                                                                                                 \
+        uint16_t e;                                                                                                    \
+        for (e = 0; e < RECORDS; e++) {                                                                                \
+            const uint16_t corner = (uint16_t)(2 * e);                                                                 \
+            int64_t size = call(PLANNER_MARK_IE, e, corner, PLANNER_LONE_CORNER, -1, (bytes) + at, LETTERS - at);      \
+            if (size < 0) {                                                                                            \
+                return size;                                                                                           \
+            }                                                                                                          \
+            at += (size_t)size;                                                                                        \
+        }                                                                                                              \
+        return (int64_t)at;                                                                                            \
+    }
+
+WRITE_RECORDS(our_records, planner_job_record, ours.letters)
+WRITE_RECORDS(their_records, plain_job_record, theirs.letters)
+#endif
+
 /* Two edits on each side, the second of which undoes the first. Their answers in one number, or -1 if one of them was declined; an older
    build may answer without the rule. */
 static int64_t both(int64_t a, int64_t b) {
@@ -254,6 +288,12 @@ static const struct {
     {"planner_whole_path; old: planner_float_path", our_whole_path, their_path_in_floats, 1, FEW},
 #endif
     {"planner_walk_step", our_walk_step, their_walk_step, 1, FEW},
+#if !OLDER || OLDER_TRIAL
+    {"planner_trial_job, always 1,024 edges", our_trial_job, their_trial_job, 1, FEW},
+#endif
+#if !OLDER || OLDER_RECORD
+    {"planner_job_record, 1,000 insertions", our_records, their_records, 1, FEW},
+#endif
 };
 enum { ROWS = sizeof rows / sizeof rows[0] };
 

@@ -35,5 +35,7 @@ struct planner_reader;
 struct planner_tally;
 int64_t plain_walk_step(const uint16_t *t, size_t words, struct planner_reader *reader, const uint32_t *lengths, size_t n_lengths,
                         struct planner_tally *tally);
+int64_t plain_trial_job(uint32_t start, uint32_t edges, uint8_t *out, size_t n);
+int64_t plain_job_record(uint16_t mark, uint16_t name, uint16_t c1, uint16_t c2, int16_t k, uint8_t *out, size_t n);
 
 #endif

@@ -9,9 +9,9 @@
  * Every function returns int64_t: the answer, 0 or more, or minus the number of the refusal. A declined call
  * leaves every lent slice and record as it was.
  *
- * A call needs less than 16 KiB of stack (measured). Its time is linear in the size of the table, which it checks first, and of
- * what it writes; for planner_counts and planner_parts, which join parts by pointers that are shortened on the way, with a
- * logarithm more at most.
+ * A call needs less than 16 KiB of stack (measured). Its time is linear in the size of the table, where it is lent one, which it
+ * checks first, and of what it writes; for planner_counts and planner_parts, which join parts by pointers that are shortened on
+ * the way, with a logarithm more at most.
  *
  * Link with libplanner.a.
  */
@@ -54,6 +54,7 @@ extern "C" {
 #define PLANNER_BAD_MARK 10       /* job record with an unknown mark */
 #define PLANNER_CUT_RECORD 11     /* fewer bytes than the record needs */
 #define PLANNER_STALE_FORECAST 12 /* a commit's forecast is not the one that ask gives now */
+#define PLANNER_MANY_EDGES 13     /* a trial job of more than PLANNER_EDGES edges */
 
 /*
  * Fills the slice with the empty mesh: no vertex and no edge is live. Answers 0.
@@ -290,6 +291,40 @@ struct planner_tally {
 };
 int64_t planner_walk_step(const uint16_t *table, size_t words, struct planner_reader *reader, const uint32_t *lengths,
                           size_t n_lengths, struct planner_tally *tally);
+
+/*
+ * A trial job from two numbers: writes the records of a job to the front of `out`, as the job program reads them, and answers
+ * their number of bytes, PLANNER_TRIAL_BYTES(edges): 4 for each of the vertices 0 to 7, which are added first, then 10 for each
+ * of the edges 0 to edges-1, which are inserted. Bytes of `out` past them are not changed. Every record is accepted when the job
+ * is run from the empty mesh. The same two numbers give the same bytes everywhere.
+ * State s begins as `start`. Each draw first sets s to s times 1664525 plus 1013904223 modulo 2^32; a draw below n is then s
+ * divided by 65536, rounded down, modulo n. For each edge: a vertex below 8, where its first end goes, a second below 8, where its
+ * second end goes, and its turns, a draw below 3, less 1. An end goes to the only corner of an isolated vertex, PLANNER_LONE_CORNER
+ * + v, else to the corner named by the vertex's smallest dart, both as the mesh is before the edge is inserted: a loop at an
+ * isolated vertex has that vertex's corner twice.
+ * Declines: PLANNER_MANY_EDGES (edges above PLANNER_EDGES); PLANNER_SHORT_SLICE (out_bytes less than PLANNER_TRIAL_BYTES(edges)).
+ * Nothing else: any start is right.
+ */
+#define PLANNER_TRIAL_BYTES(edges) (32 + 10 * (size_t)(edges))
+int64_t planner_trial_job(uint32_t start, uint32_t edges, uint8_t *out, size_t out_bytes);
+
+/*
+ * A job file, record by record: writes the record of one edit to the front of `out`, as the job program reads it, and answers its
+ * number of bytes: 4 for AV, RV and DE, 6 for TW, 10 for IE. Bytes of `out` past them are not changed. A host that writes a job
+ * file calls it once for each edit and writes the bytes one after the other; PLANNER_RECORD_BYTES are enough for every record.
+ * The record is the two letters of the mark, then its numbers, 16 bits each, high byte first, k in two's complement: name for AV,
+ * which adds that vertex, and for RV, which removes it; name, c1, c2, k for IE, which inserts that edge with k turns into the two
+ * corners; name for DE, which deletes that edge; name, k for TW, which turns that edge by k. Arguments that a mark has no use for
+ * are not looked at. No number is tested: any is written as it is, and whether the edit is accepted is seen when the job is run.
+ * Declines: PLANNER_BAD_MARK (the mark is none of the five); PLANNER_SHORT_SLICE (out_bytes less than the record's size).
+ */
+#define PLANNER_MARK_AV 0x4156 /* a mark is its two letters, high byte first */
+#define PLANNER_MARK_RV 0x5256
+#define PLANNER_MARK_IE 0x4945
+#define PLANNER_MARK_DE 0x4445
+#define PLANNER_MARK_TW 0x5457
+#define PLANNER_RECORD_BYTES 10 /* the longest record, an IE */
+int64_t planner_job_record(uint16_t mark, uint16_t name, uint16_t c1, uint16_t c2, int16_t k, uint8_t *out, size_t out_bytes);
 
 #ifdef __cplusplus
 }

@@ -42,7 +42,7 @@ fn run_records(table: &mut [u16], input: &[u8]) -> Vec<String> {
 
 /// The first record of the input and what follows it. "A record is a two-byte mark, then 16-bit words, high byte
 /// first". A lone byte is a cut record, whatever it is; two bytes that are no mark are a bad mark, whatever follows.
-fn read_record(input: &[u8]) -> Result<(Edit, &[u8]), Refusal> {
+pub fn read_record(input: &[u8]) -> Result<(Edit, &[u8]), Refusal> {
     let [m0, m1, rest @ ..] = input else {
         return Err(Refusal::CutRecord);
     };
@@ -62,6 +62,18 @@ fn read_record(input: &[u8]) -> Result<(Edit, &[u8]), Refusal> {
         _ => Edit::TurnEdge { e: word(0), amount: signed(1) },
     };
     Ok((change, after))
+}
+
+/// An edit as its record: the mark, then the words, high byte first, what is signed in two's complement.
+pub fn record(change: Edit) -> Vec<u8> {
+    let (mark, words) = match change {
+        Edit::AddVertex { v } => (b"AV", vec![v]),
+        Edit::RemoveVertex { v } => (b"RV", vec![v]),
+        Edit::InsertEdge { e, c1, c2, k } => (b"IE", vec![e, c1, c2, k as u16]),
+        Edit::DeleteEdge { e } => (b"DE", vec![e]),
+        Edit::TurnEdge { e, amount } => (b"TW", vec![e, amount as u16]),
+    };
+    mark.iter().copied().chain(words.into_iter().flat_map(u16::to_be_bytes)).collect()
 }
 
 /// How many words follow a mark: "AV v; RV v; IE e c1 c2 k; DE e; TW e amount".

@@ -8,7 +8,7 @@
 //! From the bottom upward: `table` (the words), `check` (good or torn), `trace` (step and walk), `faces` (the listed
 //! walks, corners and sides), `listing` (their words), `rule` and `edit` (the five edits), `forecast` (ask and commit), `run`
 //! (runs of them), `counts` (parts, Euler numbers), `weave` (over and under), `length`, `path`, `whole` and `reader` (one
-//! ribbon), `job` (the program).
+//! ribbon), `job` (the program), `trial_job` (a job from two numbers).
 //! `trial` makes tables, edits and damage from a seed, for tests.
 
 pub mod check;
@@ -27,5 +27,6 @@ pub mod run;
 pub mod table;
 pub mod trace;
 pub mod trial;
+pub mod trial_job;
 pub mod weave;
 pub mod whole;

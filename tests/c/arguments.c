@@ -296,6 +296,63 @@ static void try_the_reader(void) {
     check(step() == 1 && counted(1, 1, 0, most) && stands(0, 1, 0, 1), "room for all of them");
 }
 
+/* start and edges. A record of a vertex has 4 bytes, of an edge 10: one edge is 42 bytes, two are 52. Each draw as the state, the state by 65,536,
+   and that modulo 8 or 3.
+   From 2: 1,017,233,273, 15,521, 1; 1,975,575,172, 30,144, 0; 811,535,379, 12,383, 2, less 1 is 1. Edge 0 from vertex 1 to vertex 0, both
+   isolated, with one turn.
+   From 1: 1,015,568,748, 15,496, 0; 1,586,005,467, 24,200, 0; 2,165,703,038, 33,046, 1, less 1 is 0. Edge 0 is a loop at vertex 0, isolated: its
+   corner twice. Then 3,027,450,565, 46,195, 3; 217,083,232, 3,312, 0; 1,587,069,247, 24,216, 0, less 1 is -1. Edge 1 from vertex 3, isolated,
+   to vertex 0, whose smallest dart is 0. */
+static void try_the_trial_job(void) {
+    static const uint8_t vertices[] = {'A', 'V', 0, 0, 'A', 'V', 0, 1, 'A', 'V', 0, 2, 'A', 'V', 0, 3,
+                                       'A', 'V', 0, 4, 'A', 'V', 0, 5, 'A', 'V', 0, 6, 'A', 'V', 0, 7};
+    static const uint8_t from_2[] = {'I', 'E', 0, 0, 0x80, 1, 0x80, 0, 0, 1};
+    static const uint8_t from_1[] = {'I', 'E', 0, 0, 0x80, 0, 0x80, 0, 0, 0, 'I', 'E', 0, 1, 0x80, 3, 0, 0, 0xff, 0xff};
+    uint8_t out[53];
+    out[42] = out[52] = 0xa5;
+    check(planner_trial_job(2, 1, out, 53) == 42 && out[42] == 0xa5, "one edge from 2");
+    check(memcmp(out, vertices, 32) == 0 && memcmp(out + 32, from_2, sizeof from_2) == 0, "eight vertices, then edge 0 by draws from 2");
+    check(planner_trial_job(1, 2, out, 53) == 52 && out[52] == 0xa5, "two edges from 1");
+    check(memcmp(out, vertices, 32) == 0 && memcmp(out + 32, from_1, sizeof from_1) == 0, "eight vertices, then edges 0 and 1 by draws from 1");
+    check(planner_trial_job(1025, 1, out, 42) == 42 && planner_trial_job(1, 1025, out, 53) == -PLANNER_MANY_EDGES,
+          "1,025 is a start and no number of edges");
+}
+
+/* mark, name, c1, c2 and k, every byte of them another. A mark is two letters: "AV" is 41 56, "RV" 52 56. -2 is fffe in two's complement,
+   -32,768 is 8000. Then document 01's job of three records, 20 bytes. */
+static void try_the_job_record(void) {
+    static const uint8_t insertion[] = {'I', 'E', 1, 2, 3, 4, 5, 6, 7, 8, 0xa5, 0xa5};
+    static const uint8_t turn[] = {'T', 'W', 1, 2, 7, 8, 0xa5, 0xa5, 0xa5, 0xa5, 0xa5, 0xa5};
+    static const uint8_t job[] = {0x41, 0x56, 0, 0, 0x49, 0x45, 0, 0, 0x80, 0, 0x80, 0, 0, 1, 0x54, 0x57, 0, 1, 0, 1};
+    static const struct {
+        uint16_t mark;
+        uint8_t bytes[4];
+    } single[] = {{PLANNER_MARK_AV, {'A', 'V', 1, 2}}, {PLANNER_MARK_RV, {'R', 'V', 1, 2}}, {PLANNER_MARK_DE, {'D', 'E', 1, 2}}};
+    uint8_t out[20];
+    int i, fine = 1;
+    memset(out, 0xa5, sizeof out);
+    check(planner_job_record(PLANNER_MARK_IE, 0x0102, 0x0304, 0x0506, 0x0708, out, 12) == 10 && memcmp(out, insertion, 12) == 0,
+          "an insertion: name, c1, c2 and k");
+    memset(out, 0xa5, sizeof out);
+    check(planner_job_record(PLANNER_MARK_TW, 0x0102, 0x0304, 0x0506, 0x0708, out, 12) == 6 && memcmp(out, turn, 12) == 0, "a turn: name and k");
+    for (i = 0; i < 3; i++) {
+        memset(out, 0xa5, sizeof out);
+        fine = fine && planner_job_record(single[i].mark, 0x0102, 0x0304, 0x0506, 0x0708, out, 12) == 4 && memcmp(out, single[i].bytes, 4) == 0;
+        fine = fine && out[4] == 0xa5 && memcmp(out + 4, out + 5, 7) == 0;
+    }
+    check(fine, "a vertex added, a vertex removed, an edge deleted: name alone");
+    check(planner_job_record(PLANNER_MARK_AV, PLANNER_MARK_RV, 0, 0, 0, out, 4) == 4 && memcmp(out, "AVRV", 4) == 0 &&
+              planner_job_record(PLANNER_MARK_RV, PLANNER_MARK_AV, 0, 0, 0, out, 4) == 4 && memcmp(out, "RVAV", 4) == 0,
+          "mark and name");
+    check(planner_job_record(PLANNER_MARK_TW, 0, 0, 0, -2, out, 6) == 6 && memcmp(out, "TW\0\0\xff\xfe", 6) == 0 &&
+              planner_job_record(PLANNER_MARK_IE, 65535, 0, 65535, -32768, out, 10) == 10 && memcmp(out, "IE\xff\xff\0\0\xff\xff\x80\0", 10) == 0,
+          "two's complement, and numbers that no edit takes");
+    check(planner_job_record(PLANNER_MARK_AV, 0, 0, 0, 0, out, 20) == 4 &&
+              planner_job_record(PLANNER_MARK_IE, 0, LONE, LONE, 1, out + 4, 16) == 10 &&
+              planner_job_record(PLANNER_MARK_TW, 1, 0, 0, 1, out + 14, 6) == 6 && memcmp(out, job, 20) == 0,
+          "one after the other, the printed job");
+}
+
 int main(void) {
     try_the_edits();
     try_the_forecasts();
@@ -304,5 +361,7 @@ int main(void) {
     try_points_and_lifts();
     try_the_whole_path();
     try_the_reader();
+    try_the_trial_job();
+    try_the_job_record();
     return verdict();
 }

@@ -11,6 +11,7 @@
 #include <string.h>
 
 enum { WORDS = PLANNER_TABLE_WORDS, LONE = PLANNER_LONE_CORNER, POINTS = 3 * PLANNER_VERTICES, LIFTS = 3 * PLANNER_EDGES, BLOCKS = 6 };
+enum { LARGEST = PLANNER_TRIAL_BYTES(PLANNER_EDGES) };
 
 /* The mesh, and how many of its words are lent; `stray` are words that its block then lacks. */
 static uint16_t mesh[WORDS + 1];
@@ -47,7 +48,7 @@ static uint16_t *lend_mesh(void) {
 
 /* An output that holds a pattern. */
 static void *lend_output(size_t bytes) {
-    static unsigned char pattern[128];
+    static unsigned char pattern[LARGEST];
     memset(pattern, 0xa5, sizeof pattern);
     return lend(pattern, bytes);
 }
@@ -223,7 +224,19 @@ static int64_t step_at(uint16_t dart, uint16_t type) {
     return walk_step();
 }
 
-/* Every call declines the mesh as torn, the table being tested before everything else. */
+/* The job is lent its output alone. */
+static int64_t trial_job(uint32_t start, uint32_t edges, size_t n) {
+    uint8_t *out = (uint8_t *)lend_output(n);
+    return back(planner_trial_job(start, edges, out, n), 0);
+}
+
+/* A record is lent its output alone too; the numbers are at the ends of their ranges. */
+static int64_t job_record(uint16_t mark, size_t n) {
+    uint8_t *out = (uint8_t *)lend_output(n);
+    return back(planner_job_record(mark, 65535, 0, 65535, -32768, out, n), 0);
+}
+
+/* Every call that is lent a table declines the mesh as torn, the table being tested before everything else. */
 static int all_torn(void) {
     int torn = checked() == -1 && listing(0) == -1 && counts(0) == -1 && parts(0) == -1 && plain() == -1;
     torn = torn && alternates(65535, 65535) == -1 && letters(0, 0, 0) == -1 && cut_length(0, 0) == -1 && float_path(0, 0, 0, 0) == -1;
@@ -415,6 +428,26 @@ static void try_the_reader(void) {
     memset(&tally, 0, sizeof tally);
 }
 
+/* Nine edges are 122 bytes. */
+static void try_the_trial_job(void) {
+    check(trial_job(0, 0, 32) == 32 && trial_job(4294967295u, 9, 122) == 122 && trial_job(7, 1024, LARGEST) == LARGEST, "trial jobs, exact");
+    check(trial_job(0, 0, 31) == -7 && trial_job(7, 9, 121) == -7 && trial_job(7, 9, 0) == -7 && trial_job(7, 1024, LARGEST - 1) == -7,
+          "one byte too few: 7");
+    check(trial_job(7, 1025, LARGEST) == -13 && trial_job(7, 1025, 0) == -13 && trial_job(7, 4294967295u, 22) == -13, "too many edges: 13, before 7");
+}
+
+/* "VA" is AV's letters exchanged. */
+static void try_the_job_record(void) {
+    check(job_record(PLANNER_MARK_AV, 4) == 4 && job_record(PLANNER_MARK_RV, 4) == 4 && job_record(PLANNER_MARK_IE, 10) == 10 &&
+              job_record(PLANNER_MARK_DE, 4) == 4 && job_record(PLANNER_MARK_TW, 6) == 6,
+          "job records, exact");
+    check(job_record(PLANNER_MARK_AV, 3) == -7 && job_record(PLANNER_MARK_RV, 3) == -7 && job_record(PLANNER_MARK_IE, 9) == -7 &&
+              job_record(PLANNER_MARK_DE, 3) == -7 && job_record(PLANNER_MARK_TW, 5) == -7 && job_record(PLANNER_MARK_IE, 0) == -7,
+          "one byte too few: 7");
+    check(job_record(0x5641, 10) == -10 && job_record(0x5641, 1) == -10 && job_record(0, 0) == -10 && job_record(65535, 10) == -10,
+          "a bad mark: 10, before 7");
+}
+
 /* Tables that are no tables: other sizes, and words that lead outside. */
 static void try_the_torn(void) {
     static const size_t places[] = {PLANNER_NEXT_AT,     PLANNER_NEXT_AT + 2047,   PLANNER_PREV_AT, PLANNER_PREV_AT + 2047,
@@ -458,6 +491,8 @@ int main(int argc, char **argv) {
     try_the_path();
     try_the_whole_path();
     try_the_reader();
+    try_the_trial_job();
+    try_the_job_record();
     try_the_torn();
     return verdict();
 }

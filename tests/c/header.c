@@ -118,11 +118,56 @@ static void try_the_lengths(void) {
     check(PLANNER_OVER_ALLOWANCE == 8 && PLANNER_LAP == 320 && PLANNER_LAP == 16 * 20, "8 for each O, 320 for the lap");
 }
 
+/* Document 02: "13, N above 1,024; otherwise 7 for an output shorter than 32 + 10N bytes". */
+static void try_the_trial_job(void) {
+    static uint8_t out[PLANNER_TRIAL_BYTES(PLANNER_EDGES) + 1];
+    const uint32_t nine = 9;
+    check(PLANNER_MANY_EDGES == 13, "13 many edges");
+    check(PLANNER_TRIAL_BYTES(0) == 32 && PLANNER_TRIAL_BYTES(1) == 42 && PLANNER_TRIAL_BYTES(1024) == 10272, "32 + 10N bytes");
+    check(PLANNER_TRIAL_BYTES(nine + 1) == 132 && 2 * PLANNER_TRIAL_BYTES(nine) == 244, "the macro and expressions");
+    out[10272] = GUARD & 255;
+    check(planner_trial_job(7, PLANNER_EDGES, out, sizeof out) == 10272 && out[10272] == (GUARD & 255), "the largest trial job, and no byte more");
+    check(planner_trial_job(7, 0, NULL, 0) == -PLANNER_SHORT_SLICE && planner_trial_job(7, 1024, NULL, 0) == -PLANNER_SHORT_SLICE,
+          "no bytes are short");
+    check(planner_trial_job(7, 1025, NULL, 0) == -PLANNER_MANY_EDGES && planner_trial_job(7, 1025, out, sizeof out) == -PLANNER_MANY_EDGES,
+          "1,025 edges are too many, before the output is looked at");
+}
+
+/* Document 01: "A record is a two-byte mark, then 16-bit words, high byte first: AV v; RV v; IE e c1 c2 k; DE e; TW e amount". */
+static void try_the_job_record(void) {
+    static const uint16_t marks[] = {PLANNER_MARK_AV, PLANNER_MARK_RV, PLANNER_MARK_IE, PLANNER_MARK_DE, PLANNER_MARK_TW};
+    static const char letters[] = "AVRVIEDETW";
+    static const int sizes[] = {4, 4, 10, 4, 6};
+    uint8_t out[PLANNER_RECORD_BYTES + 1];
+    int i, j, fine = 1, kept = 1, none = 1;
+    check(PLANNER_BAD_MARK == 10 && PLANNER_RECORD_BYTES == 10, "10 bad mark; no record has more than 10 bytes");
+    for (i = 0; i < 5; i++) {
+        for (j = 0; j < PLANNER_RECORD_BYTES + 1; j++) {
+            out[j] = GUARD & 255;
+        }
+        fine = fine && marks[i] == 256 * letters[2 * i] + letters[2 * i + 1];
+        fine = fine && planner_job_record(marks[i], 0, 0, 0, 0, out, sizeof out) == sizes[i];
+        fine = fine && out[0] == letters[2 * i] && out[1] == letters[2 * i + 1];
+        for (j = 2; j < PLANNER_RECORD_BYTES + 1; j++) {
+            kept = kept && out[j] == (j < sizes[i] ? 0 : GUARD & 255);
+        }
+        none = none && planner_job_record(marks[i], 0, 0, 0, 0, NULL, 0) == -PLANNER_SHORT_SLICE;
+    }
+    check(fine, "the five marks are their two letters, and stand first in their records");
+    check(kept, "and no byte more than the record");
+    check(none, "no bytes are short");
+    check(planner_job_record(0, 0, 0, 0, 0, NULL, 0) == -PLANNER_BAD_MARK && planner_job_record(0x5641, 0, 0, 0, 0, out, 3) == -PLANNER_BAD_MARK &&
+              planner_job_record(0x6176, 0, 0, 0, 0, out, sizeof out) == -PLANNER_BAD_MARK,
+          "0, the letters exchanged and small letters are no mark, before the output is looked at");
+}
+
 int main(void) {
     try_empty();
     try_check();
     try_the_rules();
     try_the_forecasts();
     try_the_lengths();
+    try_the_trial_job();
+    try_the_job_record();
     return verdict();
 }

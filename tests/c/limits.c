@@ -37,7 +37,7 @@ static void *lend(size_t bytes) {
 }
 
 static uint16_t *table;
-static int64_t answers[26];
+static int64_t answers[34];
 
 /* A chain through all vertices, and loops in the corner of dart 0 for the other edges, every one with one turn: all names are used. Each strip
    of the chain joins a vertex's face, and each loop leaves one face one, so there is one ribbon, of 2,048 steps. It passes every edge twice,
@@ -85,7 +85,7 @@ static struct planner_reader *reader;
 static struct planner_tally *tally;
 static int32_t *counts, *parts, *points, *lifts, *wholes;
 static uint32_t *lengths;
-static uint8_t *letters;
+static uint8_t *letters, *trial, *record;
 static float *coords;
 static size_t steps, words;
 
@@ -101,6 +101,25 @@ static void calls_that_read(void) {
     answers[8] = planner_float_path(table, WORDS, 0, 0, points, 3 * VERTICES, lifts, 3 * EDGES, kinds, steps + 1, coords, 3 * (steps + 1));
     answers[24] = planner_whole_path(table, WORDS, 0, 0, points, 3 * VERTICES, lifts, 3 * EDGES, kinds, steps + 1, wholes, 3 * (steps + 1),
                                      remainders, 3 * (steps + 1));
+}
+
+/* The largest trial job. */
+enum { TRIAL = PLANNER_TRIAL_BYTES(EDGES) };
+
+static void make_a_trial_job(void) {
+    answers[26] = planner_trial_job(7, EDGES, trial, TRIAL);
+}
+
+/* The record of each mark, each into an output of its exact size; the longest into one byte less; a mark that is none. */
+static void write_records(void) {
+    uint8_t *end = record + PLANNER_RECORD_BYTES;
+    answers[27] = planner_job_record(PLANNER_MARK_AV, 65535, 65535, 65535, -1, end - 4, 4);
+    answers[28] = planner_job_record(PLANNER_MARK_RV, 65535, 65535, 65535, -1, end - 4, 4);
+    answers[29] = planner_job_record(PLANNER_MARK_DE, 65535, 65535, 65535, -1, end - 4, 4);
+    answers[30] = planner_job_record(PLANNER_MARK_TW, 65535, 65535, 65535, -1, end - 6, 6);
+    answers[31] = planner_job_record(PLANNER_MARK_IE, 65535, 65535, 65535, -1, record, PLANNER_RECORD_BYTES);
+    answers[32] = planner_job_record(PLANNER_MARK_IE, 0, 0, 0, 0, record + 1, PLANNER_RECORD_BYTES - 1);
+    answers[33] = planner_job_record(0, 0, 0, 0, 0, end, 0);
 }
 
 /* A whole walk, step by step: it ends, or a step is declined. */
@@ -183,6 +202,8 @@ static void measure(void) {
     counts = (int32_t *)lend(5 * sizeof *counts);
     parts = (int32_t *)lend(6 * sizeof *parts);
     letters = (uint8_t *)lend(steps);
+    trial = (uint8_t *)lend(TRIAL);
+    record = (uint8_t *)lend(PLANNER_RECORD_BYTES);
     lengths = (uint32_t *)lend(EDGES * sizeof *lengths);
     points = (int32_t *)lend(3 * VERTICES * sizeof *points);
     lifts = (int32_t *)lend(3 * EDGES * sizeof *lifts);
@@ -209,6 +230,13 @@ int main(void) {
     check(answers[4] == 1 && answers[5] == 1 && answers[6] == (int64_t)steps, "one hand: the ribbons alternate");
     check(steps == 2048 && answers[7] == length && answers[8] == 2049 && answers[24] == 2049, "a cut length, a float path and a whole path");
     try_the_longest_path();
+    on_small_stack(make_a_trial_job);
+    /* Its last record is that of edge 1,023. */
+    check(answers[26] == 10272 && trial[TRIAL - 10] == 'I' && trial[TRIAL - 8] == 3 && trial[TRIAL - 7] == 255, "a trial job of 1,024 edges");
+    on_small_stack(write_records);
+    check(answers[27] == 4 && answers[28] == 4 && answers[29] == 4 && answers[30] == 6 && answers[31] == 10, "a job record of each mark");
+    check(answers[32] == -PLANNER_SHORT_SLICE && answers[33] == -PLANNER_BAD_MARK, "a short one and a bad mark");
+    check(record[0] == 'I' && record[1] == 'E' && record[2] == 255 && record[9] == 255, "and the insertion's stays");
     on_small_stack(read_a_walk);
     check(answers[16] == 1 && tally->steps == 2048 && tally->overs == 1024 && tally->unders == 1024 && tally->length == length,
           "the walk again, step by step, with its tally");

@@ -23,6 +23,9 @@ ghost use Rattle.lengths.specs.CutLength.{cutLengthOf};
 ghost use Rattle.reader.specs.Standing.{calledOf};
 ghost use Rattle.paths.specs.PathCall.{pathAnswer, kindsOut, coordsOut};
 ghost use Rattle.wholepaths.specs.WholePath.{wholeAnswer, wholeKindsOut, wholeCoordsOut, wholeRemaindersOut};
+ghost use Rattle.records.specs.Records.{markOf};
+ghost use Rattle.encoding.specs.Call.{markedAnswer, markedOut};
+ghost use Rattle.trials.specs.Trial.{trialAnswer, trialOut};
 ghost use Rattle.edits.specs.declared.edit.Edit.the-variants.{AddVertex, RemoveVertex, InsertEdge, DeleteEdge, TurnEdge};
 
 // Fills the slice with the empty mesh.
@@ -257,4 +260,28 @@ pub extern "C" fn planner_walk_step(
     *reader = called.reader;
     *tally = called.tally;
     called.code
+}
+
+// Writes the trial job of a starting number and a number of edges, and answers its number of bytes.
+#[no_mangle]
+pub extern "C" fn planner_trial_job(start: u32, edges: u32, out: &mut [u8]) -> i64
+    ensures { λ r. ⌜ (r ≡ codeOf (trialAnswer edges (length (now (out .entry))))) × (now (out .exit) ≡ trialOut start edges (now (out .entry))) ⌝ }
+{
+    code(maker::call::trial_job(start, edges, out))
+}
+
+// Writes the job record of a mark and its arguments, and answers its number of bytes.
+#[no_mangle]
+pub extern "C" fn planner_job_record(
+    mark: u16,
+    name: u16,
+    c1: u16,
+    c2: u16,
+    k: i16,
+    out: &mut [u8],
+) -> i64
+    ensures { λ r. ⌜ (r ≡ codeOf (markedAnswer (markOf mark) name c1 c2 k (length (now (out .entry)))))
+        × (now (out .exit) ≡ markedOut (markOf mark) name c1 c2 k (now (out .entry))) ⌝ }
+{
+    code(encoding::marked::job_record(mark, name, c1, c2, k, out))
 }

@@ -58,7 +58,7 @@ fn signed(w: u16) -> i16
 }
 
 // The mark that a word is.
-fn mark_of(w: u16) -> Marked
+pub fn mark_of(w: u16) -> Marked
     ensures { λ r. ⌜ r ≡ markOf w ⌝ }
 {
     if w == 0x4156 {

@@ -13,3 +13,4 @@ pub mod Output
 pub mod Signed
 pub mod Writes
 pub mod Front
+pub mod Flat

@@ -2,7 +2,7 @@
 ghost use mathlib.Core.Path.{_≡_};
 ghost use Rattle.table.specs.Answers.{numberOf, refusalCode, codeOf};
 
-// Document 01, "When a call declines"; document 02 adds the last.
+// Document 01, "When a call declines"; document 02 adds the last two.
 pub enum Refusal {
     Torn,
     NoSuchName,
@@ -16,6 +16,7 @@ pub enum Refusal {
     BadMark,
     CutRecord,
     StaleForecast,
+    ManyEdges,
 }
 
 pub enum Answer {
@@ -40,6 +41,7 @@ pub fn number_of(r: Refusal) -> u64
         Refusal::BadMark => 10,
         Refusal::CutRecord => 11,
         Refusal::StaleForecast => 12,
+        Refusal::ManyEdges => 13,
     }
 }
 

@@ -1,21 +1,10 @@
-//! Job files: edits as records, and the ways in which a file can end.
+//! Job files, and the ways in which a file can end.
 
 use super::edits::{random_edit, WINDOWS};
 use super::random::Random;
 use crate::edit::{edit, Edit};
+use crate::job::record;
 use crate::table::empty_mesh;
-
-/// An edit as its record: the mark, then the words, high byte first.
-pub fn record(change: Edit) -> Vec<u8> {
-    let (mark, words) = match change {
-        Edit::AddVertex { v } => (b"AV", vec![v]),
-        Edit::RemoveVertex { v } => (b"RV", vec![v]),
-        Edit::InsertEdge { e, c1, c2, k } => (b"IE", vec![e, c1, c2, k as u16]),
-        Edit::DeleteEdge { e } => (b"DE", vec![e]),
-        Edit::TurnEdge { e, amount } => (b"TW", vec![e, amount as u16]),
-    };
-    mark.iter().copied().chain(words.into_iter().flat_map(u16::to_be_bytes)).collect()
-}
 
 /// A list of edits from the empty mesh, of which most are accepted.
 pub fn random_edits(random: &mut Random, count: usize) -> Vec<Edit> {

@@ -1,10 +1,10 @@
 //! The job program.
 
 use reference::counts::counts;
-use reference::job::job;
+use reference::job::{job, record};
 use reference::run::run;
 use reference::table::empty_mesh;
-use reference::trial::jobs::{random_edits, random_job, record};
+use reference::trial::jobs::{random_edits, random_job};
 use reference::trial::random::Random;
 use reference::weave::plain;
 

@@ -13,6 +13,7 @@ mod rules;
 mod runs;
 mod samples;
 mod solids;
+mod trial_job;
 mod whole;
 mod wrong_readings;
 

@@ -68,7 +68,7 @@ fn every_clause_after_a_run() {
 }
 
 /// The listed walks meet every corner once and every live edge twice.
-fn corners_once_and_edges_twice(table: &[u16]) {
+pub fn corners_once_and_edges_twice(table: &[u16]) {
     let (mut corners, mut sides, mut around) = (vec![0; DARTS], vec![0; EDGES], vec![0; VERTICES]);
     for walk in Faces::of(table).walks {
         match walk {
@@ -88,7 +88,7 @@ fn corners_once_and_edges_twice(table: &[u16]) {
 }
 
 /// V-E+F is at most 2, even if the part is orientable, at most 1 if not; and the parts add up to the mesh.
-fn euler_numbers(table: &[u16]) {
+pub fn euler_numbers(table: &[u16]) {
     let c = counts(table).unwrap();
     for part in &c.parts {
         if part.orientable {
@@ -105,7 +105,7 @@ fn euler_numbers(table: &[u16]) {
 }
 
 /// "they turn the same way if their turns, zeros left out, are all positive or all negative"
-fn ribbons_alternate_exactly_if_they_turn_one_way(table: &[u16]) {
+pub fn ribbons_alternate_exactly_if_they_turn_one_way(table: &[u16]) {
     let mut all = true;
     for steps in ribbons(table) {
         let turns: Vec<i32> = steps.iter().map(|s| turns(table, s.edge())).filter(|&k| k != 0).collect();

@@ -90,6 +90,16 @@ mod c {
             n_lengths: usize,
             tally: *mut super::Tally,
         ) -> i64;
+        pub fn planner_trial_job(start: u32, edges: u32, out: *mut u8, out_bytes: usize) -> i64;
+        pub fn planner_job_record(
+            mark: u16,
+            name: u16,
+            c1: u16,
+            c2: u16,
+            k: i16,
+            out: *mut u8,
+            out_bytes: usize,
+        ) -> i64;
     }
 }
 
@@ -281,6 +291,24 @@ pub fn whole_path_of_nulls(table: &[u16], (dart, kind): (u16, u16)) -> i64 {
 /// One step of the reader that the host keeps.
 pub fn walk_step(table: &[u16], reader: &mut Reader, lengths: &[u32], tally: &mut Tally) -> i64 {
     unsafe { c::planner_walk_step(table.as_ptr(), table.len(), reader, lengths.as_ptr(), lengths.len(), tally) }
+}
+
+pub fn trial_job(start: u32, edges: u32, out: &mut [u8]) -> i64 {
+    unsafe { c::planner_trial_job(start, edges, out.as_mut_ptr(), out.len()) }
+}
+
+/// A trial job into an output of no bytes whose pointer is null.
+pub fn trial_job_null(start: u32, edges: u32) -> i64 {
+    unsafe { c::planner_trial_job(start, edges, std::ptr::null_mut(), 0) }
+}
+
+pub fn job_record(mark: u16, name: u16, c1: u16, c2: u16, k: i16, out: &mut [u8]) -> i64 {
+    unsafe { c::planner_job_record(mark, name, c1, c2, k, out.as_mut_ptr(), out.len()) }
+}
+
+/// A job record into an output of no bytes whose pointer is null.
+pub fn job_record_null(mark: u16, name: u16, c1: u16, c2: u16, k: i16) -> i64 {
+    unsafe { c::planner_job_record(mark, name, c1, c2, k, std::ptr::null_mut(), 0) }
 }
 
 pub fn edit(table: &mut [u16], edit: Edit) -> i64 {

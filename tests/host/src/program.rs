@@ -1,6 +1,8 @@
-//! The job program, target/bin/job (or the file that the environment variable PLANNER_JOB names), run as a process.
+//! The programs, run as processes: target/bin/job and target/bin/trial, or the files that the environment variables PLANNER_JOB and PLANNER_TRIAL
+//! name.
 
 use std::env;
+use std::ffi::OsStr;
 use std::fs::{remove_file, write, File, OpenOptions};
 use std::io::{ErrorKind, Write};
 use std::path::PathBuf;
@@ -10,9 +12,13 @@ use std::thread::{self, JoinHandle};
 use std::time::Duration;
 
 fn program() -> Command {
-    let built = PathBuf::from(env!("CARGO_MANIFEST_DIR")).join("../../target/bin/job");
-    let path = env::var_os("PLANNER_JOB").map_or(built, PathBuf::from);
-    assert!(path.is_file(), "{} is not there: make it with `rt check job`", path.display());
+    built("job", "PLANNER_JOB")
+}
+
+fn built(name: &str, variable: &str) -> Command {
+    let built = PathBuf::from(env!("CARGO_MANIFEST_DIR")).join("../../target/bin").join(name);
+    let path = env::var_os(variable).map_or(built, PathBuf::from);
+    assert!(path.is_file(), "{} is not there: make it with `rt check {name}`", path.display());
     Command::new(path)
 }
 
@@ -42,10 +48,14 @@ pub fn printed_from_a_file(input: &[u8]) -> String {
     of_a_good_run(output)
 }
 
-/// What goes to standard error where every write to standard output fails, the disk being full.
+/// A standard output to which every write fails, the disk being full.
+fn full_disk() -> File {
+    OpenOptions::new().write(true).open("/dev/full").unwrap()
+}
+
+/// What goes to standard error on a full disk.
 pub fn errors_on_a_full_disk(input: &[u8]) -> String {
-    let full = OpenOptions::new().write(true).open("/dev/full").unwrap();
-    let mut child = program().stdin(Stdio::piped()).stdout(full).stderr(Stdio::piped()).spawn().unwrap();
+    let mut child = program().stdin(Stdio::piped()).stdout(full_disk()).stderr(Stdio::piped()).spawn().unwrap();
     let writer = feed(&mut child, input, &[input.len().max(1)]);
     let output = child.wait_with_output().unwrap();
     writer.join().unwrap();
@@ -56,6 +66,35 @@ pub fn errors_on_a_full_disk(input: &[u8]) -> String {
 pub fn where_input_is_a_folder() -> (String, String) {
     let output = program().stdin(File::open("/").unwrap()).output().unwrap();
     (String::from_utf8(output.stdout).unwrap(), String::from_utf8(output.stderr).unwrap())
+}
+
+fn trial<A: AsRef<OsStr>>(arguments: &[A]) -> Command {
+    let mut command = built("trial", "PLANNER_TRIAL");
+    command.args(arguments).stdin(Stdio::null()).stderr(Stdio::piped());
+    command
+}
+
+/// What the trial program writes to standard output and to standard error. It ends with 0 whatever happens.
+pub fn trial_written<A: AsRef<OsStr>>(arguments: &[A]) -> (Vec<u8>, String) {
+    let output = trial(arguments).output().unwrap();
+    assert!(output.status.success(), "{:?}", output.status);
+    (output.stdout, String::from_utf8(output.stderr).unwrap())
+}
+
+/// What goes to the trial program's standard error on a full disk.
+pub fn trial_errors_on_a_full_disk<A: AsRef<OsStr>>(arguments: &[A]) -> String {
+    let output = trial(arguments).stdout(full_disk()).output().unwrap();
+    assert!(output.status.success(), "{:?}", output.status);
+    String::from_utf8(output.stderr).unwrap()
+}
+
+/// `trial START EDGES | job`: what the job program prints.
+pub fn trial_into_job<A: AsRef<OsStr>>(arguments: &[A]) -> String {
+    let mut made = trial(arguments).stdout(Stdio::piped()).spawn().unwrap();
+    let output = program().stdin(made.stdout.take().unwrap()).output().unwrap();
+    let errors = made.wait_with_output().unwrap().stderr;
+    assert_eq!(String::from_utf8_lossy(&errors), "", "on standard error of the trial program");
+    of_a_good_run(output)
 }
 
 fn of_a_good_run(output: Output) -> String {

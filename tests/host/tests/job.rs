@@ -2,10 +2,10 @@
 //! jobs. How it reads and writes is in job_streams.rs.
 
 use host::program::printed;
-use reference::job::job;
+use reference::job::{job, record};
 use reference::table::{empty_mesh, EDGES, VERTICES};
 use reference::trial::edits::{random_edit, Window, WINDOWS};
-use reference::trial::jobs::{random_edits, random_job, record};
+use reference::trial::jobs::{random_edits, random_job};
 use reference::trial::random::Random;
 
 fn compare(input: &[u8]) {

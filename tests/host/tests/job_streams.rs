@@ -3,10 +3,9 @@
 
 use host::program::{errors_on_a_full_disk, printed, printed_by_pieces, printed_from_a_file, where_input_is_a_folder};
 use reference::edit::Edit;
-use reference::job::job;
+use reference::job::{job, record};
 use reference::table::{EDGES, MOST_TURNS, VERTICES};
 use reference::trial::edits::{random_edit, WINDOWS};
-use reference::trial::jobs::record;
 use reference::trial::random::Random;
 
 /// The program prints its report so many bytes at a time, and reads a job so many bytes at a time.

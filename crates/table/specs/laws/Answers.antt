@@ -11,7 +11,7 @@ use mathlib.Core.Bool.{Bool, true, false}
 use Rattle.table.specs.Answers.{numberOf, refusalCode, unless}
 use Rattle.table.specs.declared.answer.Answer.the-variants.{Done, Declined}
 use Rattle.table.specs.declared.answer.Refusal.{Refusal}
-use Rattle.table.specs.declared.answer.Refusal.the-variants.{Torn, NoSuchName, Taken, Absent, Joined, Overturned, ShortSlice, ManyTurns, Far, BadMark, CutRecord, StaleForecast}
+use Rattle.table.specs.declared.answer.Refusal.the-variants.{Torn, NoSuchName, Taken, Absent, Joined, Overturned, ShortSlice, ManyTurns, Far, BadMark, CutRecord, StaleForecast, ManyEdges}
 
 -- where tests let a call through, the first of them holds and the others let it through
 pub record LetThrough {A : Type 0} (test : Bool) (x y : A) : Type 0 where
@@ -40,6 +40,7 @@ number-low Far = omega arith
 number-low BadMark = omega arith
 number-low CutRecord = omega arith
 number-low StaleForecast = omega arith
+number-low ManyEdges = omega arith
 
 -- a code that is handed on keeps its value
 pub handed-on : {z c : ℤ} → mag z < 2 ^ 63 → z ≡ c → toZ w64 (ofZ w64 z) ≡ c

@@ -47,7 +47,7 @@ module _ (P : ℕ → Type 0) (one : (n : ℕ) → n < 10 → P n) (more : (n : 
     | no s ↦ more n (omega arith) (by-digits-below k (n / 10) (omega arith))
   ]
 
-  by-digits : (n : ℕ) → P n
+  pub by-digits : (n : ℕ) → P n
   by-digits n = by-digits-below (suc n) n (omega arith)
 
 -- how long

@@ -19,7 +19,8 @@ use Rattle.weave.specs.Letters.{unturned, positive, crossings, letter, letterAt
 use Rattle.weave.specs.laws.Ribbon.{crossings-parity}
 use Rattle.letters.specs.laws.Crossing.{letters-at}
 use Rattle.wholepieces.specs.Pieces.{spotsOn, spotsOf, counted, letterOn, pieceOn, pieceAt, upTo, stepPieces, piecesAlong}
-use Rattle.wholepieces.specs.laws.Pieces.{letter-none, counted-rising, counted-falling, flat-append, flat-one}
+use Rattle.table.specs.laws.Flat.{flat-append, flat-one}
+use Rattle.wholepieces.specs.laws.Pieces.{letter-none, counted-rising, counted-falling}
 
 -- the same numbers, from the other end
 

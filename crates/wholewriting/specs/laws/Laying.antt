@@ -29,7 +29,8 @@ use Rattle.pieces.specs.laws.Pieces.{piece-readable}
 use Rattle.wholepieces.specs.declared.piece.Piece.{Piece}
 use Rattle.wholepieces.specs.declared.piece.Piece.the-variants.{Close}
 use Rattle.wholepieces.specs.Pieces.{spotsOn, spotsOf, pieceOn, pieceAt, upTo, stepPieces, piecesAlong, kindsOf, wholePath}
-use Rattle.wholepieces.specs.laws.Pieces.{PieceRead, up-length, flat-append, flat-one, step-length, spots-few}
+use Rattle.table.specs.laws.Flat.{flat-append, flat-one}
+use Rattle.wholepieces.specs.laws.Pieces.{PieceRead, up-length, step-length, spots-few}
 use Rattle.wholewriting.specs.laws.Written.{Out, kinds-length, Room, Written, written-none, written-join, SameSizes, written-sizes, room-kept}
 
 -- one step

@@ -16,7 +16,8 @@ use Rattle.table.specs.laws.Signed.{handed}
 use Rattle.wholepieces.specs.declared.piece.Spot.{Spot}
 use Rattle.wholepieces.specs.declared.piece.Piece.{Piece}
 use Rattle.wholepieces.specs.Pieces.{kindOf, spotOf, kindsOf, wordsOf, restsOf}
-use Rattle.wholepieces.specs.laws.Pieces.{flat-append, flat-one, flat-length}
+use Rattle.table.specs.laws.Flat.{flat-append, flat-one}
+use Rattle.wholepieces.specs.laws.Pieces.{flat-length}
 
 -- the three slices
 pub record Out : Type 0 where

@@ -1,0 +1,2 @@
+// What a program reads in the bytes of its arguments.
+pub mod number;

@@ -1,0 +1,4 @@
+pub mod Encoding
+pub mod Call
+pub mod laws
+pub mod Theorems

@@ -1,0 +1,25 @@
+-- The theorems of this crate. Each is proved by the law of its name.
+use Prim.Native.Nat.{ℕ}
+use mathlib.Core.Path.{_≡_}
+use mathlib.Core.List.{List, _++_}
+use lib.ListN.{length}
+use Rattle.edits.specs.declared.edit.Edit.{Edit}
+use Rattle.records.specs.declared.records.Found.the-variants.{Record}
+use Rattle.records.specs.declared.records.Stop.the-variants.{End}
+use Rattle.records.specs.Records.{firstRecord}
+use Rattle.records.specs.Reading.{reading}
+use Rattle.encoding.specs.Encoding.{recordOf, jobOf, Sixteen, AllSixteen, Bytes}
+use Rattle.encoding.specs.laws.Bytes as bytes
+use Rattle.encoding.specs.laws.Encoding as encoding
+
+-- a record is read back, whatever follows it
+pub record-read : (E : Edit) → Sixteen E → (rest : List ℕ) → firstRecord (recordOf E ++ rest) ≡ Record E (length (recordOf E))
+record-read = encoding.record-read
+
+-- reading the bytes of a list of edits gives the edits back, all bytes taken, and nothing stops it
+pub job-read : (Es : List Edit) → AllSixteen Es → reading (jobOf Es) ≡ record { edits = Es; taken = length (jobOf Es); stop = End }
+job-read = encoding.job-read
+
+-- and they are bytes
+pub job-bytes : (Es : List Edit) → AllSixteen Es → Bytes (jobOf Es)
+job-bytes = bytes.job-bytes

@@ -1,0 +1,4 @@
+pub mod Encoding
+pub mod Bytes
+pub mod Writing
+pub mod Marked

@@ -1,0 +1,3 @@
+// Edits written as job records.
+pub mod marked;
+pub mod record;

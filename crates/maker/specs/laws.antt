@@ -1,0 +1,4 @@
+pub mod Draws
+pub mod Edge
+pub mod Making
+pub mod Call

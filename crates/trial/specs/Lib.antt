@@ -1,0 +1,3 @@
+pub mod Program
+pub mod laws
+pub mod Theorems

@@ -1,0 +1,4 @@
+pub mod Trial
+pub mod TrialLaws
+pub mod laws
+pub mod Theorems

@@ -1,0 +1,1 @@
+// Trial jobs from two numbers. No code.

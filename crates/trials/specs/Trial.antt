@@ -1,5 +1,5 @@
 -- A trial job from two numbers, document 02, request f: its edits, its bytes, and what the call that writes it answers.
---     afterDraw, state, draw        s after one more draw; after some; what a draw below n reads in it
+--     afterDraw, state, draw    s after one more draw; after some; what a draw below n reads in it
 --     cornerAt                  the corner that an end goes to
 --     trialJob, trialBytes      the edits; the job as it is written
 --     trialAnswer, trialOut     what the call answers, and what it leaves in the slice

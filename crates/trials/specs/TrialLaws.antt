@@ -35,7 +35,7 @@ module _ (start n : ℕ) where
     -- after it the mesh has vertices 0 to 7 and edges 0 to N-1, and no others
     pub which-vertices : (v : ℕ) → (R .there v ≡ true) ↔ (v < 8)
     pub which-edges : (e : ℕ) → (R .live (2 * e) ≡ true) ↔ (e < n)
-    pub eight : vertexCount R ≡ 8
-    pub edges : edgeCount R ≡ n
+    pub vertex-number : vertexCount R ≡ 8
+    pub edge-number : edgeCount R ≡ n
     -- the third demand, all of it
     pub demand : RunLaws emptyTable (trialJob start n)

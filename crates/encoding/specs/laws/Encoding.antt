@@ -25,7 +25,7 @@ whole : (w : ℕ) → w / 256 * 256 + w % 256 ≡ w
 whole w = omega arith
 
 -- two's complement and back
-pub complement-back : (k : ℤ) → SignedWord k → signedWord (complement k) ≡ k
+complement-back : (k : ℤ) → SignedWord k → signedWord (complement k) ≡ k
 complement-back (pos n) h = rw (lt-ltb n 32768 h)
 complement-back (negsuc n) h =
     let back : 65535 - (65535 - n) ≡ n = omega arith in

@@ -34,7 +34,7 @@ pub record Numbered (t : List ℕ) (v e : ℕ) : Type 0 where
   pub live : (d : ℕ) → live? t d ≡ ltb d (2 * e)
 
 -- a number that is not n itself is below n exactly if it is below n + 1
-pub below-next : (i n : ℕ) → i ≢ n → ltb i n ≡ ltb i (suc n)
+below-next : (i n : ℕ) → i ≢ n → ltb i n ≡ ltb i (suc n)
 below-next i n q = same-truth (ltb i n) (ltb i (suc n))
     (λ e. let l = ltb-true i n e in lt-ltb i (suc n) (omega arith))
     (λ e. let l = ltb-true i (suc n) e in lt-ltb i n (omega arith))
@@ -100,15 +100,15 @@ module _ {t : List ℕ} {v e : ℕ} (s : Numbered t v e) where
     })
 
   -- how many there are
-  pub vertex-number : v ≤ vertices → vertexCount (rotation t) ≡ v
+  pub numbered-vertices : v ≤ vertices → vertexCount (rotation t) ≡ v
   unfolding vertexCount
-  vertex-number h =
+  numbered-vertices h =
       count-short (there? t) v vertices h (λ i l k. s .there i ∙ false-unless (ltb i v) (λ z. let b = ltb-true i v z in omega arith))
       ∙ count-all (there? t) v (λ i l. s .there i ∙ lt-ltb i v l)
 
-  pub edge-number : e ≤ edges → edgeCount (rotation t) ≡ e
+  pub numbered-edges : e ≤ edges → edgeCount (rotation t) ≡ e
   unfolding edgeCount
-  edge-number h =
+  numbered-edges h =
       count-short (λ i. live? t (2 * i)) e edges h (λ i l k. s .live (2 * i) ∙ false-unless (ltb (2 * i) (2 * e)) (λ z. let b = ltb-true (2 * i) (2 * e) z in omega arith))
       ∙ count-all (λ i. live? t (2 * i)) e (λ i l. s .live (2 * i) ∙ lt-ltb (2 * i) (2 * e) (omega arith))
 

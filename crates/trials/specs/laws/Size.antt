@@ -14,7 +14,7 @@ use Rattle.encoding.specs.Encoding.{recordOf, jobOf, Sixteen, AllSixteen, none,
 use Rattle.trials.specs.Trial.{additions, insertionOn, trialJob, trialBytes, trialSize}
 
 -- one record more
-pub job-last : (Es : List Edit) (E : Edit) → jobOf (Es ++ (E ∷ [])) ≡ jobOf Es ++ recordOf E
+job-last : (Es : List Edit) (E : Edit) → jobOf (Es ++ (E ∷ [])) ≡ jobOf Es ++ recordOf E
 job-last Es E = flat-append recordOf Es (E ∷ []) ∙ ap (λ l. jobOf Es ++ l) (flat-one recordOf E)
 
 pub additions-last : (v : ℕ) → jobOf (additions (suc v)) ≡ jobOf (additions v) ++ recordOf (AddVertex v)
@@ -25,7 +25,7 @@ pub bytes-last : (start e : ℕ) → trialBytes start (suc e) ≡ trialBytes sta
 unfolding trialJob
 bytes-last start e = job-last (trialJob start e) (insertionOn (run emptyTable (trialJob start e)) start e)
 
-pub additions-size : (v : ℕ) → length (jobOf (additions v)) ≡ 4 * v
+additions-size : (v : ℕ) → length (jobOf (additions v)) ≡ 4 * v
 unfolding additions flatMap
 additions-size zero = refl
 additions-size (suc v) = let r = additions-size v in rw (additions-last v, length-append, mul-suc) (omega arith)

@@ -24,7 +24,7 @@ use Rattle.encoding.specs.laws.Encoding.{job-read}
 use Rattle.trials.specs.Trial.{firstVertex, secondVertex, turnsDrawn, cornerAt, insertionOn, additions, trialJob, trialBytes, trialSize, draw, state}
 use Rattle.trials.specs.TrialLaws.{TrialLaws}
 use Rattle.trials.specs.laws.Corners.{at-word}
-use Rattle.trials.specs.laws.Numbered.{Numbered, numbered-empty, numbered-vertex, vertex-passes, vertex-numbered, vertex-number, edge-number}
+use Rattle.trials.specs.laws.Numbered.{Numbered, numbered-empty, numbered-vertex, vertex-passes, vertex-numbered, numbered-vertices, numbered-edges}
 use Rattle.trials.specs.laws.Inserting.{Planned, corner-there, insertion-passes, insertion-numbered}
 use Rattle.trials.specs.laws.Passing as passing
 use Rattle.trials.specs.laws.Passing.{Passing, passing-last, passing-at, passing-silent}
@@ -118,7 +118,7 @@ module _ (start : ℕ) where
         λ q. let l = ltb-true (2 * e) (2 * n) (sym (m .mesh .live (2 * e)) ∙ q) in omega arith,
         λ l. m .mesh .live (2 * e) ∙ lt-ltb (2 * e) (2 * n) (omega arith),
       );
-      eight = vertex-number (m .mesh) (omega arith);
-      edges = edge-number (m .mesh) h;
+      vertex-number = numbered-vertices (m .mesh) (omega arith);
+      edge-number = numbered-edges (m .mesh) h;
       demand = empty-run-laws (trialJob start n);
     }

@@ -41,7 +41,8 @@ pub fn job_record(
     turns: i16,
     out: &mut [u8],
 ) -> Answer
-    ensures { λ r. ⌜ (r ≡ markedAnswer (markOf mark) name first second turns (length (now (out .entry)))) × (now (out .exit) ≡ markedOut (markOf mark) name first second turns (now (out .entry))) ⌝ }
+    ensures { λ r. ⌜ (r ≡ markedAnswer (markOf mark) name first second turns (length (now (out .entry))))
+        × (now (out .exit) ≡ markedOut (markOf mark) name first second turns (now (out .entry))) ⌝ }
 {
     match mark_of(mark) {
         Marked::Known(m) => encode(edit_for(m, name, first, second, turns), out),

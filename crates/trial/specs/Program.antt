@@ -45,11 +45,14 @@ output BadStart = []
 output BadEdges = []
 output (Job start n) = trialBytes start n
 
--- "trial: ", the argument's name, " is not a number from 0 to ", the most that it may be
+-- " is not a number from 0 to "
+abbrev pub not-a-number : List ℕ
+not-a-number = (32 ∷ 105 ∷ 115 ∷ 32 ∷ 110 ∷ 111 ∷ 116 ∷ 32 ∷ 97 ∷ 32 ∷ 110 ∷ 117 ∷ 109 ∷ 98 ∷ 101 ∷ 114 ∷ [])
+    ++ (32 ∷ 102 ∷ 114 ∷ 111 ∷ 109 ∷ 32 ∷ 48 ∷ 32 ∷ 116 ∷ 111 ∷ 32 ∷ [])
+
+-- "trial: ", the argument's name, that it is none, the most that it may be
 abbrev pub notNumber : List ℕ → ℕ → List ℕ
-notNumber name most = (116 ∷ 114 ∷ 105 ∷ 97 ∷ 108 ∷ 58 ∷ 32 ∷ [])
-    ++ (name ++ ((32 ∷ 105 ∷ 115 ∷ 32 ∷ 110 ∷ 111 ∷ 116 ∷ 32 ∷ 97 ∷ 32 ∷ 110 ∷ 117 ∷ 109 ∷ 98 ∷ 101 ∷ 114 ∷ 32 ∷ 102 ∷ 114 ∷ 111 ∷ 109 ∷ 32 ∷ 48 ∷ 32 ∷ 116 ∷ 111 ∷ 32 ∷ [])
-    ++ (decimal most ++ (10 ∷ []))))
+notNumber name most = (116 ∷ 114 ∷ 105 ∷ 97 ∷ 108 ∷ 58 ∷ 32 ∷ []) ++ (name ++ (not-a-number ++ (decimal most ++ (10 ∷ []))))
 
 -- "START", "EDGES"
 abbrev pub start-word : List ℕ

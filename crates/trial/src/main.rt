@@ -34,9 +34,8 @@ struct Made {
     message: usize,
 }
 
-// What was handed over: whether standard output took it, and the bytes for it and for standard error.
+// The bytes that were handed to standard output, and to standard error.
 struct Printed {
-    fine: bool,
     output: usize,
     message: usize,
 }
@@ -120,13 +119,14 @@ fn make(count: usize, first: &[u8], second: &[u8], out: &mut [u8], line: &mut [u
     Made { output, message }
 }
 
-// Hands some bytes to standard output. Where that fails, standard error says so.
-fn print(output: &[u8]) -> bool {
-    let fine = io::write_all(STDOUT_FILENO, output);
-    if !fine {
+// Hands some bytes to standard output, and answers how many. Where that fails, standard error says so.
+fn print(output: &[u8]) -> usize
+    ensures { λ r. ⌜ r ≡ length (now (output .entry)) ⌝ }
+{
+    if !io::write_all(STDOUT_FILENO, output) {
         os::fail(b"standard output");
     }
-    fine
+    output.len()
 }
 
 // Hands the line to standard error and the job to standard output. One of them is empty, and then nothing is written there.
@@ -134,10 +134,9 @@ fn hand_over(message: &[u8], output: &[u8]) -> Printed
     ensures { λ r. ⌜ (r .output ≡ length (now (output .entry))) × (r .message ≡ length (now (message .entry))) ⌝ }
 {
     io::write_all(STDERR_FILENO, message);
-    let fine = print(output);
+    let printed = print(output);
     Printed {
-        fine,
-        output: output.len(),
+        output: printed,
         message: message.len(),
     }
 }

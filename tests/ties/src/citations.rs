@@ -32,8 +32,8 @@ pub struct Citations<'a> {
     tree: &'a Tree,
     document: &'a str,
     pub faults: Vec<String>,
-    /// Must-fail edits, as crate/name.
-    pub edits: BTreeSet<String>,
+    /// Wrong programs, as crate/name.
+    pub wrongs: BTreeSet<String>,
     /// Names that were cited with their file.
     placed: BTreeSet<String>,
     /// Names on their own, with their lines.
@@ -48,7 +48,7 @@ impl<'a> Citations<'a> {
             tree,
             document,
             faults: Vec::new(),
-            edits: BTreeSet::new(),
+            wrongs: BTreeSet::new(),
             placed: BTreeSet::new(),
             alone: Vec::new(),
             folder: None,
@@ -78,7 +78,7 @@ impl<'a> Citations<'a> {
         for (i, span) in spans.iter().enumerate() {
             let after = spans.get(i + 1).map_or(&tail, |next| &next.before);
             if span.mark == Mark::Italics {
-                self.read_edit(span);
+                self.read_wrong(span);
                 listing = false;
                 continue;
             }
@@ -180,14 +180,14 @@ impl<'a> Citations<'a> {
         capital.then(|| Spec { name, file: file.to_string() })
     }
 
-    fn read_edit(&mut self, span: &Span) {
+    fn read_wrong(&mut self, span: &Span) {
         let text = span.text.clone();
         match text.split_once('/') {
-            Some((name, edit)) if is_word(name) && is_word(edit) => {
-                if !self.tree.has(&format!("crates/{name}/must-fail/{edit}.edit")) {
-                    self.fault(span.line, format!("there is no must-fail edit *{text}*"));
+            Some((name, wrong)) if is_word(name) && is_word(wrong) => {
+                if !self.tree.wrongs_of(name).contains(wrong) {
+                    self.fault(span.line, format!("there is no wrong program *{text}*"));
                 }
-                self.edits.insert(text);
+                self.wrongs.insert(text);
             }
             _ => self.fault(span.line, format!("cannot read *{text}*")),
         }
@@ -290,7 +290,7 @@ fn is_name(text: &str) -> bool {
     text.starts_with(|c: char| c.is_alphabetic()) && text.chars().all(|c| c.is_alphanumeric() || "-_?′".contains(c))
 }
 
-/// The name of a crate or an edit.
+/// The name of a crate or a wrong program.
 fn is_word(text: &str) -> bool {
     !text.is_empty() && text.chars().all(|c| c.is_ascii_lowercase() || c.is_ascii_digit() || c == '_')
 }

@@ -1,5 +1,5 @@
-//! The citations of docs/CLAIMS.md and of the README: every name stands in the file that they name, every must-fail edit that
-//! they name is there, every edit is named in the claims, and every function of the header has its row in the claims' table
+//! The citations of docs/CLAIMS.md and of the README: every name stands in the file that they name, every wrong program that
+//! they name is there, every one is named in the claims, and every function of the header has its row in the claims' table
 //! of the C interface, whose expressions stand in its contract.
 
 use crate::citations::Citations;
@@ -16,7 +16,7 @@ const INTERFACE: &str = "crates/planner/src/lib.rt";
 const GRAMMAR: &str = "How to read it";
 /// The section of the README whose numbered list is the reading order.
 const READING_ORDER: &str = "Reading on";
-/// The head of the first column of the claims' table of the C interface, and that of its column of must-fail edits.
+/// The head of the first column of the claims' table of the C interface, and that of its column of wrong programs.
 const CALLS: &str = "Call";
 const RULED_OUT: &str = "Rules out";
 /// The head of the README's column of names that stand in the row's crate.
@@ -53,8 +53,8 @@ fn in_claims(tree: &Tree) -> Vec<String> {
     for call in tree.header_functions().iter().filter(|call| !rows.contains(*call)) {
         citations.faults.push(format!("{CLAIMS}: {call} of the header has no row"));
     }
-    for edit in tree.edits().difference(&citations.edits.clone()) {
-        citations.faults.push(format!("{CLAIMS}: the must-fail edit {edit} is not named"));
+    for wrong in tree.wrongs().difference(&citations.wrongs.clone()) {
+        citations.faults.push(format!("{CLAIMS}: the wrong program {wrong} is not named"));
     }
     citations.faults
 }

@@ -1,8 +1,9 @@
-//! What ties the documents and the C header to the code. `claims` checks the citations of docs/CLAIMS.md and of the README;
-//! `rooms` that what is believed names no law; `tried` that a wrong program of every public function is a must-fail edit; `copied` that
-//! the copy of the check that counts its reads has the check's shape; `matching` compares include/planner.h with the exported signatures.
-//! The others read the files: `antt` the specs, `rattle` the sources, `header` the C header, `markdown` the documents, `citations` what a
-//! document cites; `tree` finds the files.
+//! What ties the documents, the C header and the wrong programs to the code. `claims` checks the citations of docs/CLAIMS.md and of the README;
+//! `rooms` that what is believed names no law; `total` that exported functions and public operations ask nothing of their caller; `tried` that a wrong
+//! program of every public function is there; `copied` that the copy of the check that counts its reads has the check's shape; `refused` that each wrong
+//! program was refused at its own need, by its `sections`; `matching` compares include/planner.h with the exported signatures.
+//! The others read the files: `antt` the specs, `rattle` the sources, `wrong` the must-fail edits, `prover` what was said of them, `header` the C header,
+//! `markdown` the documents, `citations` what a document cites; `tree` finds the files.
 //! The tests in tests/ run these on small made-up trees (`small`) with one fault each.
 
 pub mod antt;
@@ -12,11 +13,16 @@ pub mod copied;
 pub mod header;
 pub mod markdown;
 pub mod matching;
+pub mod prover;
 pub mod rattle;
+pub mod refused;
 pub mod rooms;
+pub mod sections;
 pub mod small;
+pub mod total;
 pub mod tree;
 pub mod tried;
+pub mod wrong;
 
 use std::process::ExitCode;
 

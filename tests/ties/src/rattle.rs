@@ -26,17 +26,31 @@ fn code(text: &str) -> Vec<&str> {
 }
 
 pub fn functions(text: &str) -> Vec<Function> {
+    apart(text).0
+}
+
+/// The functions, and all that stands outside their bodies.
+pub fn apart(text: &str) -> (Vec<Function>, String) {
     let lines = code(text);
-    let mut found = Vec::new();
-    for (i, line) in lines.iter().enumerate() {
+    let (mut found, mut outside) = (Vec::new(), String::new());
+    let mut i = 0;
+    while i < lines.len() {
+        let line = lines[i];
         if let Some(at) = function_at(line) {
             let text = declaration(&lines[i..]);
-            let body = body(&lines[i + text.lines().count()..]);
+            let begin = i + text.lines().count();
+            let body = body(&lines[begin..]);
             let exported = line.contains("extern \"C\"") && i > 0 && lines[i - 1].trim() == "#[no_mangle]";
+            outside.push_str(&text);
+            i = begin + body.lines().count();
             found.push(Function { body, ..read_function(&text, &line[at..], exported) });
+        } else {
+            outside.push_str(line);
+            outside.push('\n');
+            i += 1;
         }
     }
-    found
+    (found, outside)
 }
 
 /// Where the name begins in a line that declares a function.
@@ -78,9 +92,23 @@ impl Function {
         self.text.contains("ensures {")
     }
 
+    /// Can be called from C, under whatever name.
+    pub fn is_for_c(&self) -> bool {
+        self.text.contains("extern \"C\"")
+    }
+
+    pub fn is_public(&self) -> bool {
+        self.text.trim_start().starts_with("pub")
+    }
+
+    /// Does it ask something of who calls it.
+    pub fn asks(&self) -> bool {
+        self.text.contains("requires")
+    }
+
     /// Can be called from outside, and asks nothing of who does.
     pub fn is_open(&self) -> bool {
-        self.text.trim_start().starts_with("pub") && !self.text.contains("requires {")
+        self.is_public() && !self.asks()
     }
 }
 

@@ -1,11 +1,14 @@
 //! The two rooms of the specs: what is believed stands in specs/, why it holds in specs/laws/. A file of the first room names
-//! nothing of the second, but for a crate's Theorems.antt, whose proofs name laws, and for the definitions that are read off a
+//! nothing of the second, and no theorem; but for a crate's Theorems.antt, whose proofs name laws, and for the definitions that are read off a
 //! proof and say so. The contract of a public function that asks nothing of its caller names the first room alone.
 
 use crate::tree::Tree;
 
-/// First-room files that a definition leads into laws/, with what it leads to.
-const READ_OFF_A_PROOF: [(&str, &str); 1] = [("table/Check", "laws.Decided")];
+/// First-room files that a definition leads into laws/, with the line that does.
+const READ_OFF_A_PROOF: [(&str, &str); 1] = [("table/Check", "use Rattle.table.specs.laws.Decided.{good-dec}")];
+
+/// The module of a crate's laws, and that of its theorems, which name laws.
+const SECOND_ROOM: [&str; 2] = ["laws", "Theorems"];
 
 /// One line for each fault.
 pub fn faults(tree: &Tree) -> Vec<String> {
@@ -26,46 +29,65 @@ fn in_spec(tree: &Tree, name: &str, file: &str) -> Vec<String> {
         return Vec::new();
     }
     let text = tree.read(&format!("crates/{name}/specs/{file}.antt")).unwrap_or_default();
-    let allowed =
-        |line: &str| READ_OFF_A_PROOF.iter().any(|(of, law)| *of == format!("{name}/{file}") && line.contains(law));
-    let laws = text.lines().filter(|line| is_use(line) && line.contains(".laws.") && !allowed(line));
+    let allowed = |line: &str| READ_OFF_A_PROOF.contains(&(format!("{name}/{file}").as_str(), line));
+    let laws = text.lines().filter(|line| names_second_room(without_comment(line)) && !allowed(line));
     laws.map(|line| format!("{name}/{file} names a law: {line}")).collect()
 }
 
+fn without_comment(line: &str) -> &str {
+    match line.find("-- ") {
+        Some(at) if line[..at].trim().is_empty() || line[..at].ends_with(' ') => &line[..at],
+        _ => line,
+    }
+}
+
+/// Does a line lead into the second room: by an import of it or from it, or by a path through it. A field may have the same name.
+fn names_second_room(line: &str) -> bool {
+    let in_path = |at: usize| line[..at].ends_with('.') && !line[..at - 1].ends_with([' ', '(']);
+    SECOND_ROOM.iter().any(|room| words(line, room).into_iter().any(|at| is_use(line) || in_path(at)))
+}
+
 fn is_use(line: &str) -> bool {
-    ["use ", "pub use ", "ghost use "].iter().any(|front| line.starts_with(front))
+    ["use ", "pub use ", "ghost use "].iter().any(|front| line.trim_start().starts_with(front))
 }
 
 fn in_source(tree: &Tree, path: &str) -> Vec<String> {
     let laws = imported_laws(&tree.read(path).unwrap_or_default());
     let mut faults = Vec::new();
-    for function in tree.functions(path).unwrap_or_default() {
-        if !function.is_open() {
-            continue;
-        }
-        for law in laws.iter().filter(|law| names(&function.text, law)) {
+    for function in tree.functions(path).unwrap_or_default().iter().filter(|function| function.is_open()) {
+        for law in laws.iter().filter(|law| !words(&function.text, law).is_empty()) {
             faults.push(format!("{path}: the contract of {} names `{law}`, which stands in laws/", function.name));
+        }
+        if function.text.lines().any(names_second_room) {
+            faults.push(format!("{path}: the contract of {} has a path into laws/", function.name));
         }
     }
     faults
 }
 
-/// The names that a source brings from laws/, as it calls them.
+/// The names that a source brings from laws/, as it calls them: those of a list, or of a whole module its own or the one given to it.
 fn imported_laws(text: &str) -> Vec<String> {
-    let from_laws = text.lines().filter(|line| is_use(line) && line.contains(".laws."));
-    let lists = from_laws.filter_map(|line| line.split_once('{')?.1.split_once('}'));
-    lists
-        .flat_map(|(list, _)| list.split(','))
-        .map(|name| name.rsplit(" as ").next().unwrap_or("").trim().to_string())
+    let from_laws = text.lines().filter(|line| is_use(line) && names_second_room(line));
+    from_laws
+        .flat_map(|line| match line.split_once('{').and_then(|(_, rest)| rest.split_once('}')) {
+            Some((list, _)) => list.split(',').map(called).collect::<Vec<_>>(),
+            None => vec![called(line.trim_end_matches(';').rsplit('.').next().unwrap_or(""))],
+        })
         .collect()
 }
 
-/// Does the text have the name as a word of its own.
-fn names(text: &str, name: &str) -> bool {
+/// `x as y` is called y.
+fn called(name: &str) -> String {
+    name.rsplit(" as ").next().unwrap_or("").trim().to_string()
+}
+
+/// Where the text has the name as a word of its own.
+fn words(text: &str, name: &str) -> Vec<usize> {
     let of_a_name = |c: char| c.is_alphanumeric() || "_?'-′·".contains(c);
-    text.match_indices(name).any(|(at, _)| {
-        let before = text[..at].chars().next_back();
+    let whole = |at: &usize| {
+        let before = text[..*at].chars().next_back();
         let after = text[at + name.len()..].chars().next();
         !before.is_some_and(of_a_name) && !after.is_some_and(of_a_name)
-    })
+    };
+    text.match_indices(name).map(|(at, _)| at).filter(whole).collect()
 }

@@ -1,7 +1,7 @@
 //! The files of the repository, under a root.
 
 use crate::antt::{declared, Declared};
-use crate::{header, rattle};
+use crate::{header, rattle, wrong};
 use std::collections::BTreeSet;
 use std::fs;
 use std::path::{Path, PathBuf};
@@ -85,19 +85,40 @@ impl Tree {
         files.iter().filter_map(|file| self.functions(&format!("crates/{name}/src/{file}.rt"))).flatten().collect()
     }
 
-    /// The names of a crate's must-fail edits.
-    pub fn edits_of(&self, name: &str) -> BTreeSet<String> {
-        self.listed(&format!("crates/{name}/must-fail"), ".edit")
+    /// A crate's must-fail edits.
+    pub fn edits_of(&self, name: &str) -> Vec<wrong::Edit> {
+        let folder = format!("crates/{name}/must-fail");
+        let text = |file: &String| self.read(&format!("{folder}/{file}.edit")).unwrap_or_default();
+        self.listed(&folder, ".edit").iter().map(|file| wrong::read(file, &text(file))).collect()
     }
 
-    /// Every must-fail edit, as crate/name.
-    pub fn edits(&self) -> BTreeSet<String> {
-        let crates = self.listed("crates", "");
-        let edits = |name: &String| {
-            let files = self.edits_of(name);
-            files.into_iter().map(|file| format!("{name}/{file}")).collect::<Vec<_>>()
-        };
-        crates.iter().flat_map(edits).collect()
+    /// The names of a crate's wrong programs.
+    pub fn wrongs_of(&self, name: &str) -> BTreeSet<String> {
+        self.edits_of(name).into_iter().flat_map(|edit| edit.wrongs).map(|wrong| wrong.name).collect()
+    }
+
+    /// Every wrong program, as crate/name.
+    pub fn wrongs(&self) -> BTreeSet<String> {
+        let named = |of: String| self.wrongs_of(&of).into_iter().map(move |name| format!("{of}/{name}"));
+        self.crates().into_iter().flat_map(named).collect()
+    }
+
+    /// The files in these folders of a folder, and below them, by their paths from it, in order.
+    pub fn files_below(&self, folder: &str, parts: &[&str]) -> BTreeSet<String> {
+        let mut found = BTreeSet::new();
+        let mut todo: Vec<String> = parts.iter().map(|part| part.to_string()).collect();
+        while let Some(path) = todo.pop() {
+            let entries = fs::read_dir(self.root.join(folder).join(&path)).into_iter().flatten().flatten();
+            for entry in entries {
+                let inner = format!("{path}/{}", entry.file_name().to_string_lossy());
+                if entry.path().is_dir() {
+                    todo.push(inner);
+                } else {
+                    found.insert(inner);
+                }
+            }
+        }
+        found
     }
 
     /// The names of the functions that include/planner.h declares, in its order.

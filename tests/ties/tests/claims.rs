@@ -17,7 +17,7 @@ const FILES: [(&str, &str); 10] = [
          ## Demand 1\n\n| Sentence | Statement |\n|---|---|\n\
          | \"a \\| b\" | `table/Good` `Good` (as it says), `.size`, `good-case`\n\
          | one | `table/Good`: `Shape`, `flat` and `helper`, by `inner`; contracts of `check`, `empty` (`table/src/whole.rt`) |\n\
-         | two | `table/Passing` `passed-on` as `Good t` has it; *table/wrong_number* |\n\n\
+         | two | `table/Passing` `passed-on` as `Good t` has it; *table/wrong_number*, *table/wrong_size* |\n\n\
          | Clause | Field of `table/Good` |\n|---|---|\n| one | `.size`, `.turns` |\n",
     ),
     (
@@ -39,8 +39,8 @@ const FILES: [(&str, &str); 10] = [
         "// fn gone() {\npub fn check(t: &[u16]) -> bool\n    ensures { λ r. ⌜ r ⌝ }\n{\n    true\n}\n\n\
          fn empty(t: &[u16]) -> bool\n    ensures { λ r. ⌜ r ⌝ }\n{\n    true\n}\n\nfn silent() -> bool {\n    true\n}\n",
     ),
-    ("crates/table/must-fail/wrong_number.edit", "file: src/whole.rt\n"),
-    ("crates/planner/must-fail/another_call.edit", "file: src/lib.rt\n"),
+    ("crates/table/must-fail/each_function.edit", "wrong: wrong_number\nfile: src/whole.rt\n\nwrong: wrong_size\nfile: src/whole.rt\n"),
+    ("crates/planner/must-fail/another_call.edit", "wrong: another_call\nfile: src/lib.rt\n"),
     (
         "crates/planner/src/lib.rt",
         "#[no_mangle]\npub extern \"C\" fn planner_check(words: &[u16], out: &mut [u16]) -> i64\n\
@@ -179,14 +179,21 @@ fn a_must_fail_edit() {
         CLAIMS,
         "*table/wrong_number*",
         "*table/wrong*",
-        &["no must-fail edit *table/wrong*", "wrong_number is not named"],
+        &["no wrong program *table/wrong*", "wrong_number is not named"],
     );
-    let more = TRIAL.whole("unnamed").add("crates/table/must-fail/another.edit", "");
-    TRIAL.found(&more, &["the must-fail edit table/another is not named"]);
-    let less = TRIAL.whole("gone").remove("crates/table/must-fail/wrong_number.edit");
-    TRIAL.found(&less, &["there is no must-fail edit *table/wrong_number*"]);
+    let more = TRIAL.whole("unnamed").add("crates/table/must-fail/another.edit", "wrong: another\n");
+    TRIAL.found(&more, &["the wrong program table/another is not named"]);
+    let edit = "crates/table/must-fail/each_function.edit";
+    TRIAL.after("gone", edit, "wrong: wrong_number\n", "", &["there is no wrong program *table/wrong_number*"]);
+    TRIAL.after(
+        "file-name",
+        CLAIMS,
+        "*table/wrong_size*",
+        "*table/each_function*",
+        &["no wrong program *table/each", "wrong_size is not named"],
+    );
     let less = TRIAL.whole("call").remove("crates/planner/must-fail/another_call.edit");
-    TRIAL.found(&less, &["there is no must-fail edit *planner/another_call*"]);
+    TRIAL.found(&less, &["there is no wrong program *planner/another_call*"]);
 }
 
 #[test]

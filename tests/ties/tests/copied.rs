@@ -148,7 +148,11 @@ fn a_differing_signature() {
 
 #[test]
 fn a_missing_function() {
-    let renamed = ["the copy has no copy of linked", "joined is the copy of no function of the check"];
+    let renamed = [
+        "the copy has no copy of linked",
+        "joined is the copy of no function of the check",
+        "check calls `linked`, which is not compared",
+    ];
     TRIAL.after("renamed", COPY, "fn linked", "fn joined", &renamed);
     TRIAL.after(
         "new",
@@ -171,8 +175,139 @@ fn a_missing_function() {
         "fn counting_check",
         &["the copy has no function counted_check", "counting_check is the copy of no function of the check"],
     );
-    TRIAL.found(&TRIAL.whole("no-read").remove(READ), &["the copy has no function read"]);
-    TRIAL.found(&TRIAL.whole("no-below").remove(BELOW), &["is_dead is the copy of no function of the check"]);
+    TRIAL.found(
+        &TRIAL.whole("no-read").remove(READ),
+        &[
+            "the copy has no function read",
+            "is_dead calls `read`",
+            "linked calls `read`",
+            "check calls `read`",
+            "uses `counting::read::read`",
+        ],
+    );
+    TRIAL.found(&TRIAL.whole("no-below").remove(BELOW), &["is_dead is the copy of no", "check calls `is_dead`"]);
     let no_check = ["crates/checker/src has no function", "linked is the copy of no", "check is the copy of no"];
     TRIAL.found(&TRIAL.whole("no-check").remove(WHOLE), &no_check);
+}
+
+#[test]
+fn another_callee() {
+    // A helper beside is_dead that marks in an array of its own, or reads.
+    TRIAL.after(
+        "helper",
+        BELOW,
+        "    t[BLOCK * b] == 0\n",
+        "    t[BLOCK * b] == mark(b)\n",
+        &["is_dead has `read(t, BLOCK * b, reads) == 0`, not", "is_dead calls `mark`, which is not compared"],
+    );
+    let both = TRIAL.whole("both").change(BELOW, "t[BLOCK * b] == 0", "t[BLOCK * b] == mark(b)");
+    TRIAL.found(
+        &both.change(COPY, "read(t, BLOCK * b, reads) == 0", "read(t, BLOCK * b, reads) == mark(b)"),
+        &["is_dead calls `mark`", "is_dead calls `mark`"],
+    );
+    let by_path = TRIAL.whole("by-path").change(WHOLE, "is_dead(t, 1)", "table::block::peek(t)");
+    TRIAL.found(
+        &by_path.change(COPY, "is_dead(t, 1, reads)", "table::block::peek(t, reads)"),
+        &["check calls `table::block::peek`", "check calls `table::block::peek`"],
+    );
+    let method = TRIAL.whole("method").change(WHOLE, "if is_dead(t, 1)", "if t.first() == 1");
+    TRIAL.found(
+        &method.change(COPY, "if is_dead(t, 1, reads)", "if t.first() == 1"),
+        &[
+            "check calls `t.first`",
+            "check calls `t.first`",
+            "check uses the table in `if t.first() == 1 {`",
+            "check uses the table in `if t.first() == 1 {`",
+        ],
+    );
+    let makes = TRIAL.whole("macro").change(WHOLE, "if is_dead(t, 1)", "if !seen!(1) && !(is_dead(t, 1))");
+    TRIAL.found(
+        &makes.change(COPY, "if is_dead(t, 1, reads)", "if !seen!(1) && !(is_dead(t, 1, reads))"),
+        &["check calls `seen!`", "check calls `seen!`"],
+    );
+    TRIAL.after(
+        "own-callee",
+        COPY,
+        "let good = check(t, &mut reads);",
+        "let good = check(t, &mut reads) && peek(t);",
+        &["counted_check calls `peek`, which is not compared"],
+    );
+}
+
+#[test]
+fn a_name_twice() {
+    // The one that is not compared could be the one that is called.
+    let other = "crates/checker/src/other.rt";
+    let again = "fn linked(t: &[u16], d: usize) -> bool\n    ensures { λ r. ⌜ Linked t d ⌝ }\n{\n    t[d] == 0\n}\n";
+    let twice = TRIAL.whole("twice-check").add(other, again);
+    TRIAL.found(&twice, &["two functions of the check are named linked"]);
+    let copied = "crates/counting/src/other.rt";
+    let again = "fn linked(t: &[u16], d: usize, reads: &mut usize) -> bool {\n    read(t, d, reads) == 0\n}\n";
+    let twice = TRIAL.whole("twice-copy").add(copied, again);
+    TRIAL.found(&twice, &["two functions of the copy are named linked", "linked has "]);
+    // A helper below the check with the name of one of its functions.
+    let below = TRIAL.whole("twice-below").change(BELOW, "    t[BLOCK * b] == 0", "    linked(t, BLOCK * b)");
+    TRIAL.found(
+        &below.change(COPY, "    read(t, BLOCK * b, reads) == 0", "    linked(t, BLOCK * b, reads)"),
+        &["is_dead calls `linked`, which is not compared"],
+    );
+}
+
+#[test]
+fn another_import() {
+    TRIAL.after(
+        "function",
+        COPY,
+        "use counting::read::read;",
+        "use counting::read::read;\nuse table::block::is_dead;",
+        &["crates/recheck/src/whole.rt uses `table::block::is_dead`"],
+    );
+    TRIAL.after(
+        "another-read",
+        COPY,
+        "use counting::read::read;",
+        "use table::words::read;",
+        &["whole.rt uses `table::words::read`"],
+    );
+    TRIAL.after(
+        "as",
+        COPY,
+        "use counting::read::read;",
+        "use table::block::peek as read;",
+        &["whole.rt uses `table::block::peek as read`"],
+    );
+    TRIAL.after("check-as", WHOLE, "::is_dead;", "::is_idle as is_dead;", &["uses `table::block::is_idle as is_dead`"]);
+    TRIAL.after("many", WHOLE, "::is_dead;", "::*;", &["crates/checker/src/whole.rt uses `table::block::*`"]);
+    TRIAL.after(
+        "below-import",
+        BELOW,
+        "pub const BLOCK",
+        "use crate::marks::MARKS;\n\npub const BLOCK",
+        &["crates/table/src/block.rt uses `crate::marks::MARKS`"],
+    );
+    let constant = "use table::other::EDGE;\nuse counting::read::read;";
+    TRIAL.after("constant-of", COPY, "use counting::read::read;", constant, &["uses `table::other::EDGE`"]);
+    TRIAL.after(
+        "check-constant",
+        WHOLE,
+        "fn linked",
+        "const BLOCK: usize = 16;\n\nfn linked",
+        &["constant of its own"],
+    );
+    let right = "use table::counted::Counted;\nuse table::layout::EDGE;\nuse counting::read::read;";
+    TRIAL.after("right", COPY, "use counting::read::read;", right, &[]);
+}
+
+#[test]
+fn another_use_of_the_table() {
+    let taken = TRIAL.whole("taken").change(WHOLE, "    if is_dead(t, 1)", "    let u = t;\n    if is_dead(t, 1)");
+    TRIAL.found(
+        &taken.change(COPY, "    if is_dead(t, 1, reads)", "    let u = t;\n    if is_dead(t, 1, reads)"),
+        &["check uses the table in `let u = t;`", "check uses the table in `let u = t;`"],
+    );
+    let slice = TRIAL.whole("slice").change(WHOLE, "fn linked(t: &[u16], d: usize)", "fn linked(t: &[u16], d: &[u8])");
+    TRIAL.found(
+        &slice.change(COPY, "fn linked(t: &[u16], d: usize,", "fn linked(t: &[u16], d: &[u8],"),
+        &["linked is lent `d: &[u8]`, not `t: &[u16]`", "linked is lent `d: &[u8]`"],
+    );
 }

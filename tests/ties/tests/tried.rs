@@ -13,10 +13,13 @@ const FILES: [(&str, &str); 2] = [
          pub fn inner(n: u16) -> u16\n    requires { ⌜ n < 9 ⌝ }\n    ensures { λ r. ⌜ r ≡ n ⌝ }\n{\n    n\n}\n\n\
          fn own() -> u16\n    ensures { λ r. ⌜ r ≡ 7 ⌝ }\n{\n    7\n}\n",
     ),
-    (EDIT, "file: src/sums.rt\nold:     1 + 0\nnew:     2 + 0\n"),
+    (
+        EDIT,
+        "wrong: two_for_one\nrefused: fn sums::sums::one returns\nfile: src/sums.rt\nold:     1 + 0\nnew:     2 + 0\n",
+    ),
 ];
 
-const UNTRIED: [&str; 1] = ["no must-fail edit changes the body of one"];
+const UNTRIED: [&str; 1] = ["no wrong program changes the body of one"];
 
 const TRIAL: Trial = Trial { files: &FILES, faults };
 

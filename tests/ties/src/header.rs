@@ -22,7 +22,8 @@ pub struct Header {
     pub unread: Vec<String>,
 }
 
-fn without_comments(text: &str) -> String {
+/// The text without what stands between /* and */.
+pub fn without_comments(text: &str) -> String {
     let mut rest = text;
     let mut kept = String::new();
     while let Some((before, comment)) = rest.split_once("/*") {

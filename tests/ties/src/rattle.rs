@@ -1,6 +1,8 @@
 //! What a Rattle source declares: its functions with their contracts, its structs and its constants. It relies on the layout that
 //! `rt fmt` keeps: a body's opening brace ends its line, and after a contract stands alone on it.
 
+use crate::header::without_comments;
+
 pub struct Function {
     pub name: String,
     /// Exported to C under its own name.
@@ -20,7 +22,7 @@ pub struct Struct {
     pub fields: Vec<(String, String)>,
 }
 
-/// The lines of a source without its comments.
+/// The lines of a source without the comments that end them.
 fn code(text: &str) -> Vec<&str> {
     text.lines().map(|line| line.split("//").next().unwrap_or("").trim_end()).collect()
 }
@@ -37,13 +39,13 @@ pub fn apart(text: &str) -> (Vec<Function>, String) {
     while i < lines.len() {
         let line = lines[i];
         if let Some(at) = function_at(line) {
-            let text = declaration(&lines[i..]);
-            let begin = i + text.lines().count();
+            let declared = declaration(&lines[i..]);
+            let begin = i + declared.lines().count();
             let body = body(&lines[begin..]);
             let exported = line.contains("extern \"C\"") && i > 0 && lines[i - 1].trim() == "#[no_mangle]";
-            outside.push_str(&text);
+            outside.push_str(&declared);
             i = begin + body.lines().count();
-            found.push(Function { body, ..read_function(&text, &line[at..], exported) });
+            found.push(Function { body, ..read_function(&without_comments(&declared), &line[at..], exported) });
         } else {
             outside.push_str(line);
             outside.push('\n');

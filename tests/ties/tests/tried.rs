@@ -32,6 +32,9 @@ fn nothing_where_all_is_well() {
 fn a_function_without_an_edit() {
     TRIAL.found(&TRIAL.whole("untried").remove(EDIT), &UNTRIED);
     TRIAL.after("public", SUMS, "fn own()", "pub fn own()", &["the body of own"]);
+    // A remark asks nothing of a caller.
+    let remark = "pub fn own() -> u16 /* requires { nothing } */";
+    TRIAL.after("remark", SUMS, "fn own() -> u16", remark, &["the body of own"]);
 }
 
 #[test]

@@ -103,9 +103,9 @@ impl Function {
         self.text.trim_start().starts_with("pub")
     }
 
-    /// Does it ask something of who calls it.
+    /// Does it ask something of who calls it: each clause of a contract begins a line.
     pub fn asks(&self) -> bool {
-        self.text.contains("requires")
+        self.text.lines().any(|line| line.trim_start().starts_with("requires {"))
     }
 
     /// Can be called from outside, and asks nothing of who does.

@@ -30,8 +30,22 @@ fn in_spec(tree: &Tree, name: &str, file: &str) -> Vec<String> {
     }
     let text = tree.read(&format!("crates/{name}/specs/{file}.antt")).unwrap_or_default();
     let allowed = |line: &str| READ_OFF_A_PROOF.contains(&(format!("{name}/{file}").as_str(), line));
-    let laws = text.lines().filter(|line| names_second_room(without_comment(line)) && !allowed(line));
+    let laws = statements(&text).into_iter().filter(|line| names_second_room(line) && !allowed(line));
     laws.map(|line| format!("{name}/{file} names a law: {line}")).collect()
+}
+
+/// The lines of a text without their comments; a `use` whose list goes over several is one.
+fn statements(text: &str) -> Vec<String> {
+    let mut found: Vec<String> = Vec::new();
+    let mut open = false;
+    for line in text.lines().map(without_comment) {
+        match found.last_mut() {
+            Some(last) if open => last.push_str(line.trim()),
+            _ => found.push(line.to_string()),
+        }
+        open = found.last().is_some_and(|last| is_use(last) && last.contains('{') && !last.contains('}'));
+    }
+    found
 }
 
 fn without_comment(line: &str) -> &str {
@@ -67,13 +81,12 @@ fn in_source(tree: &Tree, path: &str) -> Vec<String> {
 
 /// The names that a source brings from laws/, as it calls them: those of a list, or of a whole module its own or the one given to it.
 fn imported_laws(text: &str) -> Vec<String> {
-    let from_laws = text.lines().filter(|line| is_use(line) && names_second_room(line));
-    from_laws
-        .flat_map(|line| match line.split_once('{').and_then(|(_, rest)| rest.split_once('}')) {
-            Some((list, _)) => list.split(',').map(called).collect::<Vec<_>>(),
-            None => vec![called(line.trim_end_matches(';').rsplit('.').next().unwrap_or(""))],
-        })
-        .collect()
+    let from_laws = statements(text).into_iter().filter(|line| is_use(line) && names_second_room(line));
+    let names = from_laws.flat_map(|line| match line.split_once('{').and_then(|(_, rest)| rest.split_once('}')) {
+        Some((list, _)) => list.split(',').map(called).collect::<Vec<_>>(),
+        None => vec![called(line.trim_end_matches(';').rsplit('.').next().unwrap_or(""))],
+    });
+    names.filter(|name| !name.is_empty()).collect()
 }
 
 /// `x as y` is called y.

@@ -57,7 +57,8 @@ const FILES: [(&str, &str); 10] = [
     ("target/must-fail/sums/nine_allowed/proofs/sums/two/Proof.antt", "returns c = search needs\nspec = returns\n"),
     (
         BOUND_LOG,
-        "/a/target/must-fail/sums/nine_allowed/proofs/sums/two/Proof.antt:1:13: error: `returns`: `omega`: the goal does not follow from what it read. All of that holds, and the goal fails, at `n` = 9.\n\
+        "/a/target/must-fail/sums/nine_allowed/proofs/sums/two/Proof.antt:1:13: error: `returns`: `omega`: the goal does not follow from what it read. \
+         All of that holds, and the goal fails, at `n` = 9.\n\
          fn sums::sums::two: not proved\nfn sums::sums::three: not proved\nlogic=not-proved\n",
     ),
 ];

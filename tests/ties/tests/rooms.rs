@@ -37,6 +37,8 @@ fn a_definition_that_names_a_law() {
     TRIAL.after("law", GOOD, "specs.Layout.", "specs.laws.Layout.", &["table/Good names a law"]);
     TRIAL.after("whole", GOOD, "specs.Layout.{words}", "specs.laws as why", &["table/Good names a law"]);
     TRIAL.after("listed", GOOD, "Layout.{words}", "{laws}", &["table/Good names a law"]);
+    TRIAL.after("lines", GOOD, "Layout.{words}", "{\n  Layout,\n  laws as why,\n}", &["table/Good names a law"]);
+    TRIAL.after("long-list", GOOD, "Layout.{words}", "Layout.{\n  words,\n  darts,\n}", &[]);
     TRIAL.after(
         "on",
         GOOD,
@@ -62,6 +64,9 @@ fn a_definition_read_off_another_proof() {
 fn a_public_contract_that_names_a_law() {
     TRIAL.after("contract", WHOLE, "Good r Deeper", "Good r Deep", &["the contract of check names `Deep`"]);
     TRIAL.after("alias", WHOLE, "Good r Deeper", "Good (Away)", &["the contract of check names `Away`"]);
+    let lines = "laws.Deep.{\n  Deep,\n  Far as Away,\n}";
+    let long = TRIAL.whole("contract-lines").change(WHOLE, "laws.Deep.{Deep, Far as Away}", lines);
+    TRIAL.found(&long.change(WHOLE, "Good r Deeper", "Good (Away)"), &["the contract of check names `Away`"]);
     let path = "Good Rattle.table.specs.laws.Deep.Deep r";
     TRIAL.after("contract-path", WHOLE, "Good r Deeper", path, &["names `Deep`", "check has a path into laws/"]);
     let module = "ghost use Rattle.table.specs.laws.Rest as rest;\nghost use Rattle.table.specs.laws.Deep";

@@ -32,9 +32,18 @@ fn nothing_where_all_is_well() {
 fn a_function_without_an_edit() {
     TRIAL.found(&TRIAL.whole("untried").remove(EDIT), &UNTRIED);
     TRIAL.after("public", SUMS, "fn own()", "pub fn own()", &["the body of own"]);
-    // A remark asks nothing of a caller.
+    // Neither a remark nor a name of the contract asks anything of a caller.
     let remark = "pub fn own() -> u16 /* requires { nothing } */";
     TRIAL.after("remark", SUMS, "fn own() -> u16", remark, &["the body of own"]);
+    TRIAL.after(
+        "lines-of-remark",
+        SUMS,
+        "fn own()",
+        "pub fn own() /*\n    requires { nothing }\n*/",
+        &["the body of own"],
+    );
+    let named = TRIAL.whole("named").change(SUMS, "fn own()", "pub fn own()").change(SUMS, "r ≡ 7", "r ≡ requires 7");
+    TRIAL.found(&named, &["the body of own"]);
 }
 
 #[test]

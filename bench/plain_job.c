@@ -1,5 +1,5 @@
 /* The job program in plain C: it reads records from standard input, runs them over a table by the edits of plain.c, and prints what the
-   job program prints, document 01, "The job program". For bench/job. */
+   job program prints, document 01, "The job program", and document 02 for record IL. For bench/job. */
 
 #include "plain.h"
 
@@ -7,7 +7,8 @@
 #include <stdlib.h>
 #include <string.h>
 
-enum { VERTICES = 512, TURNS = 6144, WORDS = 7680, LONE = 32768, BAD_MARK = 10, CUT_RECORD = 11 };
+enum { VERTICES = 512, TURNS = 6144, WORDS = 8704, LONE = 32768, BAD_MARK = 10, CUT_RECORD = 11 };
+enum { PLAIN_LENGTH = 16, LONGEST = 12 }; /* the length of an edge inserted by IE; the bytes of an IL */
 
 static uint16_t table[WORDS];
 
@@ -72,7 +73,7 @@ static int words_of(const uint8_t *mark) {
     static const struct {
         char mark[3];
         int words;
-    } marks[] = {{"AV", 1}, {"RV", 1}, {"IE", 4}, {"DE", 1}, {"TW", 2}};
+    } marks[] = {{"AV", 1}, {"RV", 1}, {"IE", 4}, {"IL", 5}, {"DE", 1}, {"TW", 2}};
     size_t i;
     for (i = 0; i < sizeof marks / sizeof marks[0]; i++) {
         if (memcmp(mark, marks[i].mark, 2) == 0) {
@@ -93,7 +94,8 @@ static int64_t edit(const uint8_t *record) {
     case 'R':
         return plain_remove_vertex(table, WORDS, word(record, 0));
     case 'I':
-        return plain_insert_edge(table, WORDS, word(record, 0), word(record, 1), word(record, 2), (int16_t)word(record, 3));
+        return plain_insert_edge(table, WORDS, word(record, 0), word(record, 1), word(record, 2), (int16_t)word(record, 3),
+                                 record[1] == 'L' ? word(record, 4) : PLAIN_LENGTH);
     case 'D':
         return plain_delete_edge(table, WORDS, word(record, 0));
     default:
@@ -111,7 +113,7 @@ static size_t take(uint8_t *bytes, size_t n) {
 }
 
 static void run_records(void) {
-    uint8_t record[10];
+    uint8_t record[LONGEST];
     int64_t number;
     for (number = 1;; number++) {
         size_t mark = take(record, 2);

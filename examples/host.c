@@ -15,7 +15,6 @@ enum { POINTS = 3 * PLANNER_VERTICES, LIFTS = 3 * PLANNER_EDGES, FLOATS = 3 * (P
 #define LONE(v) (PLANNER_LONE_CORNER + (v))
 
 static uint16_t table[WORDS];
-static uint32_t lengths[PLANNER_EDGES]; /* sixteenths of a millimetre */
 static uint16_t listing[LISTING];
 static uint8_t letters[LETTERS];
 
@@ -70,8 +69,18 @@ static void print_edit(const char *what, int number, int64_t answer) {
     printf("%-12s %7d  %s\n", edit, (int)PLANNER_FACES(answer), why(answer));
 }
 
-static uint32_t sixteenths(double millimetres) {
-    return (uint32_t)(16.0 * millimetres + 0.5);
+static long sixteenths(double millimetres) {
+    return (long)(16.0 * millimetres + 0.5);
+}
+
+/* A strip's length as the table has it, in 16 bits. A longer strip would be cut off to some other length, which the library cannot see. */
+static uint16_t length_of(double millimetres) {
+    const long length = sixteenths(millimetres);
+    if (length < 1 || length > 65535) {
+        fprintf(stderr, "a strip of %g mm: a length is from 1 to 65535 sixteenths\n", millimetres);
+        exit(1);
+    }
+    return (uint16_t)length;
 }
 
 static void build(void) {
@@ -82,8 +91,8 @@ static void build(void) {
         print_edit("add pole", i, planner_add_vertex(table, WORDS, i));
     }
     for (i = 0; i < STRIPS; i++) {
-        print_edit("add strip", i, planner_insert_edge(table, WORDS, i, strips[i].first, strips[i].second, 1));
-        lengths[i] = sixteenths(strips[i].millimetres);
+        const uint16_t length = length_of(strips[i].millimetres);
+        print_edit("add strip", i, planner_insert_edge(table, WORDS, i, strips[i].first, strips[i].second, 1, length));
     }
     printf("\n");
 }
@@ -113,11 +122,11 @@ static struct row row_of(const uint16_t *steps, long n_steps) {
         r.unders += letters[i] == 'U';
     }
     for (i = 0; i < n_steps; i++) {
-        r.strip += (long)lengths[steps[i] / 4]; /* dart d is on edge d/2 */
+        r.strip += table[PLANNER_LENGTH_AT + steps[i] / 4]; /* dart d is on edge d/2 */
     }
     r.allowance = PLANNER_OVER_ALLOWANCE * r.overs;
     r.lap = PLANNER_LAP;
-    r.total = (long)ask(planner_cut_length(table, WORDS, dart, type, lengths, PLANNER_EDGES), "cut length");
+    r.total = (long)ask(planner_cut_length(table, WORDS, dart, type), "cut length");
     if (r.strip + r.allowance + r.lap != r.total) {
         fprintf(stderr, "ribbon of dart %d: strip %ld, over-allowance %ld and lap %ld do not add up to %ld\n", (int)dart, r.strip,
                 r.allowance, r.lap, r.total);

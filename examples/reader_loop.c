@@ -1,10 +1,10 @@
-/* Reads a ribbon one step at a time, with a tally: three poles, a strip with one turn between each two of them. */
+/* Reads a ribbon one step at a time, with a tally: three poles, a strip with one turn between each two of them. Lengths are in sixteenths of a
+   millimetre. */
 #include "planner.h"
 
 #include <stdio.h>
 
 static uint16_t table[PLANNER_TABLE_WORDS];
-static uint32_t lengths[PLANNER_EDGES]; /* sixteenths of a millimetre */
 
 int main(void) {
     const size_t words = PLANNER_TABLE_WORDS;
@@ -17,16 +17,13 @@ int main(void) {
     for (v = 0; v < 3; v++) {
         planner_add_vertex(table, words, v);
     }
-    planner_insert_edge(table, words, 0, PLANNER_LONE_CORNER + 0, PLANNER_LONE_CORNER + 1, 1);
-    planner_insert_edge(table, words, 1, 1, PLANNER_LONE_CORNER + 2, 1);
-    planner_insert_edge(table, words, 2, 3, 0, 1);
-    lengths[0] = 16 * 500;
-    lengths[1] = 16 * 600;
-    lengths[2] = 16 * 700 + 8;
+    planner_insert_edge(table, words, 0, PLANNER_LONE_CORNER + 0, PLANNER_LONE_CORNER + 1, 1, 16 * 500);
+    planner_insert_edge(table, words, 1, 1, PLANNER_LONE_CORNER + 2, 1, 16 * 600);
+    planner_insert_edge(table, words, 2, 3, 0, 1, 16 * 700 + 8);
 
     while (ends == 0) {
         const unsigned dart = reader.dart, type = reader.type; /* the step that the call hands out */
-        ends = planner_walk_step(table, words, &reader, lengths, PLANNER_EDGES, &tally);
+        ends = planner_walk_step(table, words, &reader, &tally);
         if (ends < 0) {
             printf("declined with %d\n", (int)-ends);
             return 1;

@@ -29,7 +29,7 @@ extern "C" {
 #define PLANNER_VERTICES 512
 #define PLANNER_EDGES 1024
 #define PLANNER_DARTS 2048
-#define PLANNER_TABLE_WORDS 7680
+#define PLANNER_TABLE_WORDS 8704
 
 /* Where each kind of word begins in a table; edge e has the darts 2e and 2e+1. */
 #define PLANNER_NEXT_AT 0      /* for each dart, the next one counterclockwise at its vertex */
@@ -37,6 +37,7 @@ extern "C" {
 #define PLANNER_LEAVES_AT 4096 /* for each dart, the vertex it leaves */
 #define PLANNER_EDGE_AT 6144   /* for each edge, 0 if not live, else its turns plus 100 */
 #define PLANNER_VERTEX_AT 7168 /* for each vertex, one of the two words below, or its smallest live dart */
+#define PLANNER_LENGTH_AT 7680 /* for each edge, its length in sixteenths of a millimetre, 1 to 65535 if live, else 0 */
 
 #define PLANNER_NOTHING 65535  /* the word of a vertex that is not live; the three words of a dart that is not live */
 #define PLANNER_ISOLATED 65534 /* the word of a vertex that is live and isolated */
@@ -50,7 +51,7 @@ extern "C" {
 #define PLANNER_OVERTURNED 6      /* turns would pass 99 either way, or a tally field 32 bits */
 #define PLANNER_SHORT_SLICE 7     /* a lent slice is shorter than the call needs */
 #define PLANNER_MANY_TURNS 8      /* float path over an edge with more than one turn (the whole path takes any) */
-#define PLANNER_FAR 9             /* length, point or lift out of range on an edge of the walk */
+#define PLANNER_FAR 9             /* a length of 0 on insertion, or a point or lift out of range on an edge of the walk */
 #define PLANNER_BAD_MARK 10       /* job record with an unknown mark */
 #define PLANNER_CUT_RECORD 11     /* fewer bytes than the record needs */
 #define PLANNER_STALE_FORECAST 12 /* a commit's forecast is not the one that ask gives now */
@@ -96,6 +97,8 @@ int64_t planner_parts(const uint16_t *table, size_t words, int32_t *out, size_t 
  * and turn answer the rule that they met besides (PLANNER_RULE).
  * A corner is named by the dart that ends it, counterclockwise, or is PLANNER_LONE_CORNER + v for the corner of
  * the isolated vertex v. Refusals are tested in the order in which they are listed.
+ * An edge's length comes with its insertion and goes with its deletion, which sets it to 0; no other edit alters one. So an
+ * edge that is inserted and then deleted leaves the table as it was, word for word.
  */
 #define PLANNER_LONE_CORNER 32768
 
@@ -119,14 +122,14 @@ int64_t planner_add_vertex(uint16_t *table, size_t words, uint16_t v);
 int64_t planner_remove_vertex(uint16_t *table, size_t words, uint16_t v);
 
 /*
- * Inserts edge e with k turns: dart 2e goes into corner c1, then 2e+1 into c2, each just before the dart that
- * names the corner; with c1 = c2 the order is old, 2e, 2e+1, d.
+ * Inserts edge e with k turns and a length in sixteenths of a millimetre: dart 2e goes into corner c1, then 2e+1 into c2,
+ * each just before the dart that names the corner; with c1 = c2 the order is old, 2e, 2e+1, d.
  * Rule: A if the corners are on different faces. On one face B1 if their types and k add to an even number, else B2; a
  * corner's type is the one with which the listed walk meets it, 0 for an isolated vertex.
  * Declines: PLANNER_TORN; PLANNER_NO_SUCH_NAME (e, c1 or c2); PLANNER_TAKEN; PLANNER_ABSENT (c1 or c2);
- * PLANNER_OVERTURNED (k past 99 either way).
+ * PLANNER_OVERTURNED (k past 99 either way); PLANNER_FAR (the length is 0).
  */
-int64_t planner_insert_edge(uint16_t *table, size_t words, uint16_t e, uint16_t c1, uint16_t c2, int16_t k);
+int64_t planner_insert_edge(uint16_t *table, size_t words, uint16_t e, uint16_t c1, uint16_t c2, int16_t k, uint16_t length);
 
 /*
  * Deletes edge e, whatever its turns.
@@ -164,8 +167,9 @@ int64_t planner_turn_edge(uint16_t *table, size_t words, uint16_t e, int16_t amo
  */
 #define PLANNER_FACES_BEFORE(forecast) ((forecast) >> 32)
 
-/* The forecast of planner_insert_edge. Declines as that edit does. */
-int64_t planner_ask_insert_edge(const uint16_t *table, size_t words, uint16_t e, uint16_t c1, uint16_t c2, int16_t k);
+/* The forecast of planner_insert_edge; it is the same for every length but 0. Declines as that edit does. */
+int64_t planner_ask_insert_edge(const uint16_t *table, size_t words, uint16_t e, uint16_t c1, uint16_t c2, int16_t k,
+                                uint16_t length);
 
 /* The forecast of planner_delete_edge. Declines as that edit does. */
 int64_t planner_ask_delete_edge(const uint16_t *table, size_t words, uint16_t e);
@@ -176,10 +180,10 @@ int64_t planner_ask_turn_edge(const uint16_t *table, size_t words, uint16_t e, i
 /*
  * planner_insert_edge, if planner_ask_insert_edge gives this forecast now.
  * Declines: PLANNER_TORN; PLANNER_NO_SUCH_NAME (e, c1 or c2); PLANNER_TAKEN; PLANNER_ABSENT (c1 or c2); PLANNER_OVERTURNED;
- * PLANNER_STALE_FORECAST.
+ * PLANNER_FAR; PLANNER_STALE_FORECAST.
  */
 int64_t planner_commit_insert_edge(uint16_t *table, size_t words, uint16_t e, uint16_t c1, uint16_t c2, int16_t k,
-                                   int64_t forecast);
+                                   uint16_t length, int64_t forecast);
 
 /*
  * planner_delete_edge, if planner_ask_delete_edge gives this forecast now.
@@ -214,18 +218,14 @@ int64_t planner_plain(const uint16_t *table, size_t words);
 int64_t planner_letters(const uint16_t *table, size_t words, uint16_t dart, uint16_t type, uint8_t *out, size_t out_bytes);
 
 /*
- * Cut length of the ribbon through the step, as the saw takes it: the sum of edge lengths, one for each step, plus
- * PLANNER_OVER_ALLOWANCE for each O among the ribbon's letters, plus PLANNER_LAP once, for a ribbon without letters too. In
- * sixteenths of a millimetre; it fits 32 bits. It is the same for every step that names the ribbon, in either sense.
- * lengths[e] is edge e's, from 1 to 65535 for an edge on the ribbon; those of other edges are not looked at. An isolated vertex
- * has no ribbon, and so no step that names one.
- * Declines besides: PLANNER_SHORT_SLICE (fewer than PLANNER_EDGES lengths); PLANNER_FAR (an edge on the ribbon out of
- * that range).
+ * Cut length of the ribbon through the step, as the saw takes it: the sum of the lengths that the table has for its edges, one
+ * for each step, plus PLANNER_OVER_ALLOWANCE for each O among the ribbon's letters, plus PLANNER_LAP once, for a ribbon without
+ * letters too. In sixteenths of a millimetre; it fits 32 bits. It is the same for every step that names the ribbon, in either
+ * sense. An isolated vertex has no ribbon, and so no step that names one.
  */
 #define PLANNER_OVER_ALLOWANCE 8 /* a strand that rides over takes up more strip: half a millimetre */
 #define PLANNER_LAP 320          /* a ribbon is closed with a lap: 20 millimetres */
-int64_t planner_cut_length(const uint16_t *table, size_t words, uint16_t dart, uint16_t type, const uint32_t *lengths,
-                           size_t n_lengths);
+int64_t planner_cut_length(const uint16_t *table, size_t words, uint16_t dart, uint16_t type);
 
 /*
  * The float path of the ribbon through the step: one piece for each step, then Close. kinds[i] is one of the four below;
@@ -271,15 +271,14 @@ int64_t planner_whole_path(const uint16_t *table, size_t words, uint16_t dart, u
  * A walk, one step at a time. The host keeps a reader: dart and type of the step that it hands out next, dart and type of
  * the step that its walk began at. To begin, set both pairs to one step of the walk. A call hands out the step that the
  * reader stands at, which the host reads there before the call, moves the reader on, and brings the tally forward by the
- * step handed out: steps by 1, overs and unders by its letters, length by its edge's length, PLANNER_OVER_ALLOWANCE for each O
- * of the step and, with the walk's last step, PLANNER_LAP. Answers 1 if the walk ends at that step, that is, if the reader now
- * stands at its start, else 0; the step after the last is the first again, and every time round has its lap. A reader whose
- * start is not on the walk of its step goes round that walk, never answers 1, and has no lap.
+ * step handed out: steps by 1, overs and unders by its letters, length by its edge's length in the table, by
+ * PLANNER_OVER_ALLOWANCE for each O of the step and, with the walk's last step, by PLANNER_LAP. Answers 1 if the walk ends at
+ * that step, that is, if the reader now stands at its start, else 0; the step after the last is the first again, and every time
+ * round has its lap. A reader whose start is not on the walk of its step goes round that walk, never answers 1, and has no lap.
  * Every call checks the table, so a whole walk costs its number of steps times the check; planner_listing, planner_letters
  * and planner_cut_length check it once.
  * Declines, in this order: PLANNER_TORN; PLANNER_NO_SUCH_NAME, then PLANNER_ABSENT (the step or the start);
- * PLANNER_SHORT_SLICE (fewer than PLANNER_EDGES lengths); PLANNER_FAR (the length of the step's own edge is not from 1 to
- * 65535); PLANNER_OVERTURNED (a field of the tally would pass 32 bits). Then neither the reader nor the tally has changed.
+ * PLANNER_OVERTURNED (a field of the tally would pass 32 bits). Then neither the reader nor the tally has changed.
  * A tally begun at zeros fits over one walk, and its length is then the ribbon's cut length. Neither `reader` nor `tally` may
  * be NULL.
  */
@@ -289,14 +288,13 @@ struct planner_reader {
 struct planner_tally {
     uint32_t steps, overs, unders, length;
 };
-int64_t planner_walk_step(const uint16_t *table, size_t words, struct planner_reader *reader, const uint32_t *lengths,
-                          size_t n_lengths, struct planner_tally *tally);
+int64_t planner_walk_step(const uint16_t *table, size_t words, struct planner_reader *reader, struct planner_tally *tally);
 
 /*
  * A trial job from two numbers: writes the records of a job to the front of `out`, as the job program reads them, and answers
  * their number of bytes, PLANNER_TRIAL_BYTES(edges): 4 for each of the vertices 0 to 7, which are added first, then 10 for each
- * of the edges 0 to edges-1, which are inserted. Bytes of `out` past them are not changed. Every record is accepted when the job
- * is run from the empty mesh. The same two numbers give the same bytes everywhere.
+ * of the edges 0 to edges-1, which are inserted by IE. Bytes of `out` past them are not changed. Every record is accepted when the
+ * job is run from the empty mesh. The same two numbers give the same bytes everywhere.
  * State s begins as `start`. Each draw first sets s to s times 1664525 plus 1013904223 modulo 2^32; a draw below n is then s
  * divided by 65536, rounded down, modulo n. For each edge: a vertex below 8, where its first end goes, a second below 8, where its
  * second end goes, and its turns, a draw below 3, less 1. An end goes to the only corner of an isolated vertex, PLANNER_LONE_CORNER
@@ -310,21 +308,25 @@ int64_t planner_trial_job(uint32_t start, uint32_t edges, uint8_t *out, size_t o
 
 /*
  * A job file, record by record: writes the record of one edit to the front of `out`, as the job program reads it, and answers its
- * number of bytes: 4 for AV, RV and DE, 6 for TW, 10 for IE. Bytes of `out` past them are not changed. A host that writes a job
- * file calls it once for each edit and writes the bytes one after the other; PLANNER_RECORD_BYTES are enough for every record.
+ * number of bytes: 4 for AV, RV and DE, 6 for TW, 10 for IE, 12 for IL. Bytes of `out` past them are not changed. A host that
+ * writes a job file calls it once for each edit and writes the bytes one after the other; PLANNER_RECORD_BYTES are enough for
+ * every record.
  * The record is the two letters of the mark, then its numbers, 16 bits each, high byte first, k in two's complement: name for AV,
- * which adds that vertex, and for RV, which removes it; name, c1, c2, k for IE, which inserts that edge with k turns into the two
- * corners; name for DE, which deletes that edge; name, k for TW, which turns that edge by k. Arguments that a mark has no use for
- * are not looked at. No number is tested: any is written as it is, and whether the edit is accepted is seen when the job is run.
- * Declines: PLANNER_BAD_MARK (the mark is none of the five); PLANNER_SHORT_SLICE (out_bytes less than the record's size).
+ * which adds that vertex, and for RV, which removes it; name, c1, c2, k, length for IL, which inserts that edge with k turns and
+ * that length into the two corners; name, c1, c2, k for IE, which does the same with a length of 16; name for DE, which deletes
+ * that edge; name, k for TW, which turns that edge by k. Arguments that a mark has no use for are not looked at. No number is
+ * tested, a length of 0 neither: any is written as it is, and whether the edit is accepted is seen when the job is run.
+ * Declines: PLANNER_BAD_MARK (the mark is none of the six); PLANNER_SHORT_SLICE (out_bytes less than the record's size).
  */
 #define PLANNER_MARK_AV 0x4156 /* a mark is its two letters, high byte first */
 #define PLANNER_MARK_RV 0x5256
 #define PLANNER_MARK_IE 0x4945
+#define PLANNER_MARK_IL 0x494C
 #define PLANNER_MARK_DE 0x4445
 #define PLANNER_MARK_TW 0x5457
-#define PLANNER_RECORD_BYTES 10 /* the longest record, an IE */
-int64_t planner_job_record(uint16_t mark, uint16_t name, uint16_t c1, uint16_t c2, int16_t k, uint8_t *out, size_t out_bytes);
+#define PLANNER_RECORD_BYTES 12 /* the longest record, an IL */
+int64_t planner_job_record(uint16_t mark, uint16_t name, uint16_t c1, uint16_t c2, int16_t k, uint16_t length, uint8_t *out,
+                           size_t out_bytes);
 
 #ifdef __cplusplus
 }

@@ -387,10 +387,9 @@ const STROKES: [(&str, Pen); 4] = [
 ];
 
 pub fn pavilion_ribbons() -> Picture {
-    let (table, lengths) = pavilion();
     let centre = p(300.0, 300.0);
     let square = |radius: f64| (0..4).map(move |i| polar(centre, radius, 225.0 - 90.0 * i as f64));
-    let shell = Shell::new(table, square(270.0).chain(square(105.0)).collect());
+    let shell = Shell::new(pavilion(), square(270.0).chain(square(105.0)).collect());
     let walks = ribbons(&shell.table);
     assert_eq!(walks.len(), STROKES.len());
     let mut picture = Picture::new(
@@ -412,7 +411,7 @@ pub fn pavilion_ribbons() -> Picture {
         let y = 150.0 + 92.0 * i as f64;
         picture.line(p(630.0, y - 5.0), p(690.0, y - 5.0), pen);
         picture.bold(p(702.0, y), Anchor::Start, 14.0, &format!("ribbon {i}, {name}"));
-        let length = cut_length(&shell.table, steps[0].dart, steps[0].t as u16, &lengths).expect("a ribbon");
+        let length = cut_length(&shell.table, steps[0].dart, steps[0].t as u16).expect("a ribbon");
         let words = format!("{} steps, {}.{:04} mm", steps.len(), length / 16, length % 16 * 625);
         picture.text(p(630.0, y + 22.0), Anchor::Start, 13.0, &words);
         let strips: Vec<String> = steps.iter().map(|s| s.edge().to_string()).collect();

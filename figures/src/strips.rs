@@ -3,7 +3,7 @@
 use crate::plane::{arc, direction, p, polar, sine, P};
 use crate::poles::pole;
 use crate::svg::{pen, Anchor, Pen, Picture, BLACK, GREY, LIGHT};
-use crate::tables::{add, insert, lone, made};
+use crate::tables::{add, insert, insert_long, lone, made};
 use reference::length::{cut_length, LAP, PER_OVER};
 use reference::table::*;
 use reference::trace::{corner_met, step, step_after, walk_from, Step};
@@ -287,11 +287,11 @@ fn one_step(picture: &mut Picture, corner: P, table: &[u16], s: Step) {
 }
 
 /// The length of the loop's strip in the picture, in sixteenths of a millimetre.
-const LOOP_LENGTH: u32 = 600 * 16;
+const LOOP_LENGTH: u16 = 600 * 16;
 
 /// What the saw takes for these steps of the loop, in sixteenths of a millimetre: strip, over-allowance, lap.
 fn sawn(table: &[u16], steps: &[Step]) -> [u32; 3] {
-    [steps.len() as u32 * LOOP_LENGTH, PER_OVER * count(&letters_along(table, steps), Letter::O), LAP]
+    [steps.len() as u32 * u32::from(LOOP_LENGTH), PER_OVER * count(&letters_along(table, steps), Letter::O), LAP]
 }
 
 /// Sixteenths as millimetres; nothing is rounded.
@@ -306,12 +306,10 @@ fn sum(parts: [u32; 3]) -> String {
 }
 
 pub fn half_length() -> Picture {
-    let table = made(&[add(0), insert(0, lone(0), lone(0), 1)]);
+    let table = made(&[add(0), insert_long(0, lone(0), lone(0), 1, LOOP_LENGTH)]);
     let walk = walk_from(&table, step(0, 0));
-    let mut lengths = vec![0; EDGES];
-    lengths[0] = LOOP_LENGTH;
     let whole = sawn(&table, &walk);
-    assert_eq!(cut_length(&table, 0, 0, &lengths), Ok(whole.iter().sum()), "its parts add up to the cut length");
+    assert_eq!(cut_length(&table, 0, 0), Ok(whole.iter().sum()), "its parts add up to the cut length");
     // The mistake: to stop at the starting dart, whatever the type.
     let stopped =
         1 + walk[1..].iter().position(|s| s.dart == walk[0].dart).expect("the dart again, with the other type");

@@ -3,6 +3,7 @@
 
 use reference::edit::{edit, Edit};
 use reference::faces::VERTEX_CORNER;
+use reference::job::PLAIN_LENGTH;
 use reference::table::*;
 
 pub const DOME: &str = include_str!("../../examples/dome.txt");
@@ -18,8 +19,14 @@ pub fn add(v: Vertex) -> Edit {
     Edit::AddVertex { v }
 }
 
+/// An insertion with the length that a plain IE writes.
 pub fn insert(e: Edge, c1: u16, c2: u16, k: i16) -> Edit {
-    Edit::InsertEdge { e, c1, c2, k }
+    insert_long(e, c1, c2, k, PLAIN_LENGTH)
+}
+
+/// An insertion with a length, in sixteenths of a millimetre.
+pub fn insert_long(e: Edge, c1: u16, c2: u16, k: i16, length: u16) -> Edit {
+    Edit::InsertEdge { e, c1, c2, k, length }
 }
 
 /// The table after these edits, none of which is declined.
@@ -43,7 +50,8 @@ fn line_edit(line: &str) -> Edit {
     match fields[0] {
         "AV" => Edit::AddVertex { v: word(1) },
         "RV" => Edit::RemoveVertex { v: word(1) },
-        "IE" => Edit::InsertEdge { e: word(1), c1: word(2), c2: word(3), k: signed(4) },
+        "IE" => insert(word(1), word(2), word(3), signed(4)),
+        "IL" => insert_long(word(1), word(2), word(3), signed(4), word(5)),
         "DE" => Edit::DeleteEdge { e: word(1) },
         "TW" => Edit::TurnEdge { e: word(1), amount: signed(2) },
         mark => panic!("{mark} is no mark"),
@@ -53,7 +61,7 @@ fn line_edit(line: &str) -> Edit {
 /// The same edits with every edge inserted without turns.
 pub fn flat(edits: &[Edit]) -> Vec<Edit> {
     let without = |e: &Edit| match *e {
-        Edit::InsertEdge { e, c1, c2, .. } => insert(e, c1, c2, 0),
+        Edit::InsertEdge { e, c1, c2, length, .. } => insert_long(e, c1, c2, 0, length),
         other => other,
     };
     edits.iter().map(without).collect()
@@ -71,18 +79,18 @@ pub fn run_lines(text: &str) -> (Vec<u16>, Vec<(usize, u8)>) {
     (table, declined)
 }
 
-/// The pavilion of examples/host.c, with its lengths in sixteenths of a millimetre. Its strips stand there as
-/// {first, second, millimetres}, a corner as a number or as LONE(v).
-pub fn pavilion() -> (Vec<u16>, Vec<u32>) {
+/// The pavilion of examples/host.c. Its strips stand there as {first, second, millimetres}, a corner as a number or
+/// as LONE(v).
+pub fn pavilion() -> Vec<u16> {
     let strips = HOST.split("strips[] = {").nth(1).expect("the strips").split("};").next().expect("their end");
     let mut edits: Vec<Edit> = (0..8).map(add).collect();
-    let mut lengths = vec![0; EDGES];
     for (e, strip) in strips.split('{').skip(1).enumerate() {
         let fields: Vec<&str> = strip.split('}').next().expect("its end").split(',').map(str::trim).collect();
-        edits.push(insert(e as Edge, host_corner(fields[0]), host_corner(fields[1]), 1));
-        lengths[e] = (16.0 * fields[2].parse::<f64>().expect("millimetres")).round() as u32;
+        let sixteenths = (16.0 * fields[2].parse::<f64>().expect("millimetres")).round() as u32;
+        let length = u16::try_from(sixteenths).expect("a length of 16 bits");
+        edits.push(insert_long(e as Edge, host_corner(fields[0]), host_corner(fields[1]), 1, length));
     }
-    (made(&edits), lengths)
+    made(&edits)
 }
 
 fn host_corner(field: &str) -> u16 {

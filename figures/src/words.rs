@@ -1,41 +1,46 @@
-//! Pictures for hosts: the table's five kinds of words, and the points of a float path and of a whole one.
+//! Pictures for hosts: the table's six kinds of words, and the points of a float path and of a whole one.
 
 use crate::plane::{p, P};
 use crate::poles::pole;
 use crate::strips::printed;
 use crate::svg::{pen, Anchor, Picture, BLACK, GREY, LIGHT};
-use crate::tables::{add, insert, lone, made};
+use crate::tables::{add, insert, insert_long, lone, made};
 use reference::path::{float_path, LIFTS, POINTS};
 use reference::table::*;
 use reference::trace::{step, walk_from};
 use reference::whole::{pieces_of, whole_path, Outputs};
 
 /// A kind of word: where it begins, how many there are, and what they say.
-const KINDS: [(usize, usize, &str); 5] = [
+const KINDS: [(usize, usize, &str); 6] = [
     (NEXT, DARTS, "for each dart, the next one"),
     (PREVIOUS, DARTS, "for each dart, the previous one"),
     (LEAVES, DARTS, "for each dart, the vertex it leaves"),
     (TURNS, EDGES, "for each edge, 0 or its turns plus 100"),
     (VERTEX, VERTICES, "for each vertex, its smallest dart"),
+    (LENGTH, EDGES, "for each edge, 0 or its length"),
 ];
 
+/// The length of the table's edge, in sixteenths of a millimetre.
+const STRIP: u16 = 600 * 16;
+
 pub fn table() -> Picture {
-    let table = made(&[add(0), add(1), insert(0, lone(0), lone(1), 1)]);
+    let table = made(&[add(0), add(1), insert_long(0, lone(0), lone(1), 1, STRIP)]);
     let empty = empty_mesh();
     let mut picture = Picture::new(
         900.0,
-        530.0,
+        560.0,
         "The table, word by word",
         &format!(
-            "Left: the {WORDS} words of a table, in five kinds, each with the word where it begins. Right: every word that differs from \
-             the empty mesh, for two vertices joined by one edge with one turn."
+            "Left: the {WORDS} words of a table, in six kinds, each with the word where it begins. Right: every word \
+             that differs from the empty mesh, for two vertices joined by one edge with one turn, {} mm long.",
+            STRIP / 16
         ),
     );
     // The whole table as a column, each kind as high as it is long.
-    let (top, scale) = (60.0, 430.0 / WORDS as f64);
-    picture.text(p(190.0, 30.0), Anchor::Middle, 15.0, &format!("{WORDS} words, five kinds"));
-    let shades = ["#f4f4f4", "#e4e4e4", "#f4f4f4", "#e4e4e4", "#f4f4f4"];
-    for ((begin, count, what), shade) in KINDS.into_iter().zip(shades) {
+    let (top, scale) = (60.0, 460.0 / WORDS as f64);
+    picture.text(p(190.0, 30.0), Anchor::Middle, 15.0, &format!("{WORDS} words, six kinds"));
+    let shades = ["#f4f4f4", "#e4e4e4"];
+    for ((begin, count, what), shade) in KINDS.into_iter().zip(shades.into_iter().cycle()) {
         let y = top + scale * begin as f64;
         let high = scale * count as f64;
         picture.frame(p(70.0, y), 290.0, high, shade, pen(1.2, BLACK));
@@ -79,8 +84,8 @@ pub fn table() -> Picture {
     }
     y += 34.0;
     let none = empty[NEXT];
-    assert!(empty[..TURNS].iter().chain(&empty[VERTEX..]).all(|&word| word == none));
-    assert!(empty[TURNS..VERTEX].iter().all(|&word| word == NO_EDGE));
+    assert!(empty[..TURNS].iter().chain(&empty[VERTEX..LENGTH]).all(|&word| word == none));
+    assert!(empty[TURNS..VERTEX].iter().chain(&empty[LENGTH..]).all(|&word| word == NO_EDGE));
     picture.text(
         p(430.0, y),
         Anchor::Start,
@@ -103,7 +108,8 @@ fn says(kind: usize, name: usize, word: u16) -> String {
         1 => format!("the dart previous to {name} is {word}"),
         2 => format!("dart {name} leaves vertex {word}"),
         3 => format!("edge {name} is live, with {word} - {TURNS_PLUS} = {} turn", word as i32 - TURNS_PLUS),
-        _ => format!("vertex {name} is live; its smallest dart is {word}"),
+        4 => format!("vertex {name} is live; its smallest dart is {word}"),
+        _ => format!("edge {name} is {word} / 16 = {} mm long", word / 16),
     }
 }
 

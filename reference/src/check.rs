@@ -1,12 +1,13 @@
 //! Good or torn ("A good table keeps these rules ... Anything else is torn").
 //!
-//! The rules are tested one after the other, each over the whole table, in the order in which document 01 gives them.
+//! The rules are tested one after the other, each over the whole table, in the order in which document 01 gives them,
+//! and then the rule of document 02, request g: "a good table keeps that too".
 //! A rule may rely on those before it. All of it is linear in the size of the table.
 
 use crate::refusal::{decline_if, Refusal};
 use crate::table::*;
 
-/// Decline with 1 a slice that is "not 7,680 words, or not a good table".
+/// Decline with 1 a slice that is not 8,704 words, "or not a good table".
 pub fn check(table: &[u16]) -> Result<(), Refusal> {
     decline_if(!is_good(table), Refusal::Torn)
 }
@@ -19,6 +20,7 @@ pub fn is_good(table: &[u16]) -> bool {
         && next_and_previous_undo_each_other(table)
         && each_vertex_has_one_cycle(table)
         && vertex_words_are_right(table)
+        && lengths_are_right(table)
 }
 
 /// "for each edge, 0 if not live, else its turns plus 100; turns run from -99 to 99"
@@ -75,6 +77,11 @@ fn each_vertex_has_one_cycle(table: &[u16]) -> bool {
 fn vertex_words_are_right(table: &[u16]) -> bool {
     let smallest = smallest_darts(table);
     live_vertices(table).all(|v| vertex_word(table, v) == smallest[v as usize].unwrap_or(ISOLATED))
+}
+
+/// "for each edge its length, 1 to 65,535 if live, 0 if not". No word is above 65,535.
+fn lengths_are_right(table: &[u16]) -> bool {
+    edges().all(|e| (length(table, e) != NO_LENGTH) == edge_is_live(table, e))
 }
 
 /// For each vertex the smallest live dart that leaves it, if any does.

@@ -14,7 +14,7 @@ use crate::table::*;
 pub enum Edit {
     AddVertex { v: u16 },
     RemoveVertex { v: u16 },
-    InsertEdge { e: u16, c1: u16, c2: u16, k: i16 },
+    InsertEdge { e: u16, c1: u16, c2: u16, k: i16, length: u16 },
     DeleteEdge { e: u16 },
     TurnEdge { e: u16, amount: i16 },
 }
@@ -47,12 +47,14 @@ pub fn verdict(table: &[u16], edit: Edit) -> Result<(), Refusal> {
             decline_if(!vertex_is_live(table, v), Refusal::Absent)?;
             decline_if(!vertex_is_isolated(table, v), Refusal::Joined)
         }
-        Edit::InsertEdge { e, c1, c2, k } => {
+        Edit::InsertEdge { e, c1, c2, k, length } => {
             edge_name(e)?;
             let (c1, c2) = (corner_name(c1)?, corner_name(c2)?);
             decline_if(edge_is_live(table, e), Refusal::Taken)?;
             decline_if(!corner_is_there(table, c1) || !corner_is_there(table, c2), Refusal::Absent)?;
-            turns_within(k as i32)
+            turns_within(k as i32)?;
+            // "A length of 0 on insertion is 9, the last of the edit's own numbers."
+            decline_if(length == NO_LENGTH, Refusal::Far)
         }
         Edit::DeleteEdge { e } => {
             edge_name(e)?;
@@ -88,7 +90,10 @@ fn write(table: &mut [u16], edit: Edit) {
     match edit {
         Edit::AddVertex { v } => set_vertex_word(table, v, ISOLATED),
         Edit::RemoveVertex { v } => set_vertex_word(table, v, NOT_LIVE),
-        Edit::InsertEdge { e, c1, c2, k } => insert_edge(table, e, c1, c2, k as i32),
+        Edit::InsertEdge { e, c1, c2, k, length } => {
+            insert_edge(table, e, c1, c2, k as i32);
+            set_length(table, e, length);
+        }
         Edit::DeleteEdge { e } => delete_edge(table, e),
         Edit::TurnEdge { e, amount } => set_turns(table, e, turns(table, e) + amount as i32),
     }
@@ -128,6 +133,7 @@ fn put_alone(table: &mut [u16], d: Dart, v: Vertex) {
     set_vertex_word(table, v, d);
 }
 
+/// "Insertion takes a length, one 16-bit word, and deletion sets it to 0; no other edit alters one."
 fn delete_edge(table: &mut [u16], e: Edge) {
     for d in darts_of(e) {
         take_out(table, d);

@@ -1,4 +1,4 @@
-//! The job program: records in, lines out ("The job program").
+//! The job program: records in, lines out ("The job program"), with the record IL of document 02, request g.
 
 use crate::counts::{counts, Counts};
 use crate::edit::{edit, Edit};
@@ -7,6 +7,9 @@ use crate::refusal::Refusal;
 use crate::table::empty_mesh;
 use crate::trace::Step;
 use crate::weave::{plain, step_letters, Letter};
+
+/// "a plain IE writes 16": the length of an edge whose record says none.
+pub const PLAIN_LENGTH: u16 = 16;
 
 /// What the program prints for what it reads. "It starts from the empty mesh".
 pub fn job(input: &[u8]) -> String {
@@ -57,31 +60,46 @@ pub fn read_record(input: &[u8]) -> Result<(Edit, &[u8]), Refusal> {
     let change = match mark {
         b"AV" => Edit::AddVertex { v: word(0) },
         b"RV" => Edit::RemoveVertex { v: word(0) },
-        b"IE" => Edit::InsertEdge { e: word(0), c1: word(1), c2: word(2), k: signed(3) },
+        b"IE" => Edit::InsertEdge { e: word(0), c1: word(1), c2: word(2), k: signed(3), length: PLAIN_LENGTH },
+        b"IL" => Edit::InsertEdge { e: word(0), c1: word(1), c2: word(2), k: signed(3), length: word(4) },
         b"DE" => Edit::DeleteEdge { e: word(0) },
         _ => Edit::TurnEdge { e: word(0), amount: signed(1) },
     };
     Ok((change, after))
 }
 
-/// An edit as its record: the mark, then the words, high byte first, what is signed in two's complement.
+/// An edit as its record: the mark, then the words, high byte first, what is signed in two's complement. An insertion
+/// of length 16 is a plain IE, any other an IL.
 pub fn record(change: Edit) -> Vec<u8> {
-    let (mark, words) = match change {
-        Edit::AddVertex { v } => (b"AV", vec![v]),
-        Edit::RemoveVertex { v } => (b"RV", vec![v]),
-        Edit::InsertEdge { e, c1, c2, k } => (b"IE", vec![e, c1, c2, k as u16]),
-        Edit::DeleteEdge { e } => (b"DE", vec![e]),
-        Edit::TurnEdge { e, amount } => (b"TW", vec![e, amount as u16]),
-    };
-    mark.iter().copied().chain(words.into_iter().flat_map(u16::to_be_bytes)).collect()
+    match change {
+        Edit::AddVertex { v } => marked(b"AV", &[v]),
+        Edit::RemoveVertex { v } => marked(b"RV", &[v]),
+        Edit::InsertEdge { e, c1, c2, k, length: PLAIN_LENGTH } => marked(b"IE", &[e, c1, c2, k as u16]),
+        Edit::InsertEdge { .. } => record_with_length(change),
+        Edit::DeleteEdge { e } => marked(b"DE", &[e]),
+        Edit::TurnEdge { e, amount } => marked(b"TW", &[e, amount as u16]),
+    }
 }
 
-/// How many words follow a mark: "AV v; RV v; IE e c1 c2 k; DE e; TW e amount".
+/// The same where an insertion of length 16 is an IL too: "IE with one more word, the last, for the length".
+pub fn record_with_length(change: Edit) -> Vec<u8> {
+    match change {
+        Edit::InsertEdge { e, c1, c2, k, length } => marked(b"IL", &[e, c1, c2, k as u16, length]),
+        _ => record(change),
+    }
+}
+
+fn marked(mark: &[u8; 2], words: &[u16]) -> Vec<u8> {
+    mark.iter().copied().chain(words.iter().flat_map(|word| word.to_be_bytes())).collect()
+}
+
+/// How many words follow a mark: "AV v; RV v; IE e c1 c2 k; DE e; TW e amount", and IL, which has one more than IE.
 fn words_of(mark: &[u8; 2]) -> Option<usize> {
     match mark {
         b"AV" | b"RV" | b"DE" => Some(1),
         b"TW" => Some(2),
         b"IE" => Some(4),
+        b"IL" => Some(5),
         _ => None,
     }
 }

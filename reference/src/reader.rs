@@ -1,7 +1,8 @@
 //! The walk reader, and the tally that its steps bring forward.
 
-use crate::length::{edge_length, lengths_are_there, LAP, PER_OVER};
+use crate::length::{LAP, PER_OVER};
 use crate::refusal::Refusal;
+use crate::table::length;
 use crate::trace::{named_step, named_steps, step_after, Step};
 use crate::weave::{count, step_letters, Letter};
 
@@ -37,20 +38,19 @@ impl<'a> Reader<'a> {
     }
 
     /// "after a declined step the reader has not moved"
-    pub fn step(&mut self, lengths: &[u32], tally: &mut Tally) -> Result<Read, Refusal> {
-        let read = read_step(self.table, self.start, self.at, lengths, tally)?;
+    pub fn step(&mut self, tally: &mut Tally) -> Result<Read, Refusal> {
+        let read = read_step(self.table, self.start, self.at, tally)?;
         self.at = step_after(self.table, self.at);
         Ok(read)
     }
 }
 
 /// One step of a reader that was made at `start` and stands at `at`; a host that holds the two itself may have edited
-/// the table since. "Every step declines as the making of the reader would"; then 7, then 9 "for its own edge's length
-/// alone, which a step tests before 6".
-pub fn read_step(table: &[u16], start: Step, at: Step, lengths: &[u32], tally: &mut Tally) -> Result<Read, Refusal> {
+/// the table since. "Every step declines as the making of the reader would"; then "a tally that a step would carry past
+/// 32 bits is declined with 6".
+pub fn read_step(table: &[u16], start: Step, at: Step, tally: &mut Tally) -> Result<Read, Refusal> {
     named_steps(table, &[start, at].map(|s| (s.dart, s.t as u16)))?;
-    lengths_are_there(lengths)?;
-    let edge = edge_length(lengths, at.edge())?;
+    let edge = u32::from(length(table, at.edge()));
     let ends = step_after(table, at) == start;
     *tally = brought_forward(*tally, &step_letters(table, at), edge, ends).ok_or(Refusal::Overturned)?;
     Ok(Read { step: at, ends })

@@ -1,8 +1,9 @@
 //! The numbered refusals ("When a call declines").
 //!
 //! "Where several hold: 1, 2, 3, 4, 5, 6, 8, 9, with 7 tested after 4." Every call here tests in that order, one
-//! `decline_if` after the other, before it writes anything. (A reader's step alone tests 9 before 6.) Document 02 adds 12 for
-//! a commit, "tested after all of the edit's own numbers", and 13 for a trial job, where "otherwise 7" comes after it.
+//! `decline_if` after the other, before it writes anything. Document 02 adds 9 for an insertion, "the last of the
+//! edit's own numbers", 12 for a commit, "tested after all of the edit's own numbers", and 13 for a trial job, where
+//! "otherwise 7" comes after it.
 
 #[derive(Clone, Copy, Debug, PartialEq, Eq)]
 pub enum Refusal {

@@ -12,13 +12,15 @@ pub const VERTICES: usize = 512;
 pub const EDGES: usize = 1_024;
 pub const DARTS: usize = 2 * EDGES;
 
-/// Where each kind of word begins, in the order of document 01's list.
+/// Where each kind of word begins, in the order of document 01's list. "The table grows at its end by 1,024 words to
+/// 8,704: for each edge its length" (document 02, request g).
 pub const NEXT: usize = 0;
 pub const PREVIOUS: usize = NEXT + DARTS;
 pub const LEAVES: usize = PREVIOUS + DARTS;
 pub const TURNS: usize = LEAVES + DARTS;
 pub const VERTEX: usize = TURNS + EDGES;
-pub const WORDS: usize = VERTEX + VERTICES;
+pub const LENGTH: usize = VERTEX + VERTICES;
+pub const WORDS: usize = LENGTH + EDGES;
 
 /// A word of a dart or a vertex that is not live.
 pub const NOT_LIVE: u16 = 65_535;
@@ -26,6 +28,8 @@ pub const NOT_LIVE: u16 = 65_535;
 pub const ISOLATED: u16 = 65_534;
 /// The word of an edge that is not live.
 pub const NO_EDGE: u16 = 0;
+/// The length of an edge that is not live: "1 to 65,535 if live, 0 if not".
+pub const NO_LENGTH: u16 = 0;
 /// What is added to an edge's turns to make its word.
 pub const TURNS_PLUS: i32 = 100;
 /// "turns run from -99 to 99"
@@ -36,6 +40,7 @@ pub fn empty(table: &mut [u16]) -> Result<(), Refusal> {
     decline_if(table.len() != WORDS, Refusal::Torn)?;
     table.fill(NOT_LIVE);
     table[TURNS..VERTEX].fill(NO_EDGE);
+    table[LENGTH..].fill(NO_LENGTH);
     Ok(())
 }
 
@@ -108,6 +113,11 @@ pub fn turns(table: &[u16], e: Edge) -> i32 {
     edge_word(table, e) as i32 - TURNS_PLUS
 }
 
+/// The length of an edge, in sixteenths of a millimetre.
+pub fn length(table: &[u16], e: Edge) -> u16 {
+    table[LENGTH + e as usize]
+}
+
 pub fn vertices() -> impl Iterator<Item = Vertex> {
     0..VERTICES as Vertex
 }
@@ -157,8 +167,14 @@ pub fn set_turns(table: &mut [u16], e: Edge, turns: i32) {
     table[TURNS + e as usize] = (turns + TURNS_PLUS) as u16;
 }
 
+pub fn set_length(table: &mut [u16], e: Edge, length: u16) {
+    table[LENGTH + e as usize] = length;
+}
+
+/// The two words of an edge that is not live.
 pub fn clear_edge(table: &mut [u16], e: Edge) {
     table[TURNS + e as usize] = NO_EDGE;
+    table[LENGTH + e as usize] = NO_LENGTH;
 }
 
 pub fn set_vertex_word(table: &mut [u16], v: Vertex, word: u16) {

@@ -2,7 +2,7 @@
 
 use crate::edit::{edit, Edit};
 use crate::faces::VERTEX_CORNER;
-use crate::job::record;
+use crate::job::{record, PLAIN_LENGTH};
 use crate::refusal::{decline_if, Refusal};
 use crate::table::*;
 
@@ -52,7 +52,8 @@ pub fn trial_edits(start: u32, edges: u32) -> Vec<Edit> {
         let k = draws.below(3) as i16 - 1;
         // "both chosen on the table before this insertion"
         let (c1, c2) = (corner_at(&table, first), corner_at(&table, second));
-        make(&mut table, Edit::InsertEdge { e, c1, c2, k });
+        // "a plain IE writes 16", and 10 bytes for each edge are a plain IE.
+        make(&mut table, Edit::InsertEdge { e, c1, c2, k, length: PLAIN_LENGTH });
     }
     edits
 }

@@ -22,8 +22,8 @@ static int begin(uint16_t from, uint16_t to) {
     return fine;
 }
 
-static int64_t insert(uint16_t e, int c1, int c2, int16_t k) {
-    return planner_insert_edge(table, WORDS, e, (uint16_t)c1, (uint16_t)c2, k);
+static int64_t insert(uint16_t e, int c1, int c2, int16_t k, uint16_t length) {
+    return planner_insert_edge(table, WORDS, e, (uint16_t)c1, (uint16_t)c2, k, length);
 }
 
 static uint16_t next(int d) {
@@ -42,39 +42,50 @@ static uint16_t vertex(int v) {
     return table[PLANNER_VERTEX_AT + v];
 }
 
-/* v, e, c1, c2, k, amount. */
+static uint16_t length(int e) {
+    return table[PLANNER_LENGTH_AT + e];
+}
+
+/* v, e, c1, c2, k, length, amount. */
 static void try_the_edits(void) {
     check(begin(0, 1) && vertex(0) == PLANNER_ISOLATED && vertex(1) == PLANNER_ISOLATED && vertex(2) == PLANNER_NOTHING,
           "vertices 0 and 1 are added, and no other");
     /* Dart 6 = 2*3 goes into c1, the corner of vertex 0; dart 7 into c2, that of vertex 1. Turns 2 are the word 102. */
-    check(insert(3, LONE + 0, LONE + 1, 2) == 1 + A, "edge 3 joins two faces");
+    check(insert(3, LONE + 0, LONE + 1, 2, 700) == 1 + A, "edge 3 joins two faces");
     check(leaves(6) == 0 && leaves(7) == 1 && vertex(0) == 6 && vertex(1) == 7, "dart 2e is at c1, dart 2e+1 at c2");
     check(edge(3) == 102 && edge(2) == 0, "edge 3 has two turns");
-    /* e = 2 and k = 3; corner 6 is at vertex 0 and corner 7 at vertex 1. Dart 4 goes just before 6, dart 5 just before 7. */
-    check(insert(2, 6, 7, 3) >= 0 && edge(2) == 103 && edge(3) == 102, "e and k: edge 2 has three turns, not edge 3 two");
+    check(length(3) == 700 && length(2) == 0, "and a length of 700");
+    /* e = 2, k = 3 and the length 5; corner 6 is at vertex 0 and corner 7 at vertex 1. Dart 4 goes just before 6, dart 5 just before 7. */
+    check(insert(2, 6, 7, 3, 5) >= 0 && edge(2) == 103 && edge(3) == 102, "e and k: edge 2 has three turns, not edge 3 two");
+    check(length(2) == 5 && length(3) == 700, "k and length: three turns and a length of 5, not five turns");
     check(leaves(4) == 0 && next(4) == 6 && next(6) == 4 && leaves(5) == 1 && next(5) == 7 && next(7) == 5, "c1 and c2 again, among darts");
     /* With c1 = c2 = 4 the order is old, 2e, 2e+1, d: 6, 0, 1, 4. */
-    check(insert(0, 4, 4, 0) >= 0 && next(6) == 0 && next(0) == 1 && next(1) == 4, "one corner: 2e comes before 2e+1");
+    check(insert(0, 4, 4, 0, 1) >= 0 && next(6) == 0 && next(0) == 1 && next(1) == 4, "one corner: 2e comes before 2e+1");
     /* e = 3 and amount = 2: the word of edge 3 goes from 102 to 104, that of edge 2 stays 103 and would be 106. */
     check(planner_turn_edge(table, WORDS, 3, 2) >= 0 && edge(3) == 104 && edge(2) == 103, "e and amount");
     check(planner_delete_edge(table, WORDS, 2) >= 0 && edge(2) == 0 && edge(3) == 104, "edge 2 is deleted, and no other");
+    check(length(2) == 0 && length(3) == 700 && length(0) == 1, "its length goes with it");
     check(planner_add_vertex(table, WORDS, 5) >= 0 && planner_add_vertex(table, WORDS, 6) >= 0 && planner_remove_vertex(table, WORDS, 5) >= 0,
           "vertices 5 and 6 come and 5 goes");
     check(vertex(5) == PLANNER_NOTHING && vertex(6) == PLANNER_ISOLATED, "vertex 6 stays");
 }
 
-/* e, c1, c2, k, amount, forecast, on the edges 3 and 2 of the edits above. Edge 3 has two turns and the walk (6, 0), (7, 0), which meets both
+/* e, c1, c2, k, length, amount, forecast, on the edges 3 and 2 of the edits above. Edge 3 has two turns and the walk (6, 0), (7, 0), which meets both
    corners with type 0. So edge 2 with three turns leaves its one face one, with two it would make it two; edge 3 is passed by both darts. */
 static void try_the_forecasts(void) {
-    check(begin(0, 1) && insert(3, LONE + 0, LONE + 1, 2) == 1 + A, "edge 3 again");
-    check(planner_ask_insert_edge(table, WORDS, 2, 6, 7, 3) == BEFORE + B2 + 1 &&
-              planner_ask_insert_edge(table, WORDS, 2, 6, 7, 2) == BEFORE + B1 + 2,
+    check(begin(0, 1) && insert(3, LONE + 0, LONE + 1, 2, 700) == 1 + A, "edge 3 again");
+    check(planner_ask_insert_edge(table, WORDS, 2, 6, 7, 3, 2) == BEFORE + B2 + 1 &&
+              planner_ask_insert_edge(table, WORDS, 2, 6, 7, 2, 3) == BEFORE + B1 + 2,
           "ask, insertion: e, c1, c2 and k");
+    check(planner_ask_insert_edge(table, WORDS, 2, 6, 7, 0, 3) == BEFORE + B1 + 2 &&
+              planner_ask_insert_edge(table, WORDS, 2, 6, 7, 3, 0) == -PLANNER_FAR,
+          "ask, insertion: 0 turns, and a length of 0");
     check(planner_ask_turn_edge(table, WORDS, 3, 2) == BEFORE + E + 1 && planner_ask_turn_edge(table, WORDS, 3, 1) == BEFORE + B2 + 1,
           "ask, turn: e and amount");
     check(planner_ask_delete_edge(table, WORDS, 3) == BEFORE + B1 + 2, "ask, deletion: e");
-    check(planner_commit_insert_edge(table, WORDS, 2, 6, 7, 3, BEFORE + B2 + 1) == 1 + B2 && edge(2) == 103 && edge(3) == 102,
+    check(planner_commit_insert_edge(table, WORDS, 2, 6, 7, 3, 5, BEFORE + B2 + 1) == 1 + B2 && edge(2) == 103 && edge(3) == 102,
           "commit, insertion: e and k");
+    check(length(2) == 5 && length(3) == 700, "commit, insertion: length");
     check(leaves(4) == 0 && next(4) == 6 && next(6) == 4 && leaves(5) == 1 && next(5) == 7 && next(7) == 5, "commit, insertion: c1 and c2");
     check(planner_commit_turn_edge(table, WORDS, 3, 2, BEFORE + E + 1) == 1 + E && edge(3) == 104 && edge(2) == 103, "commit, turn: e and amount");
     /* Now the walk is (4, 0), (7, 1), (4, 1), (7, 0): by dart 4 twice, so without edge 2 one face is one. */
@@ -89,10 +100,10 @@ static void try_the_counts(void) {
     static const int32_t five[] = {6, 7, 4, 2, 3};
     static const int32_t rows[] = {9, 5, 7, 3, 1, 0, 20, 1, 0, 1, 2, 1};
     int32_t out[12];
-    int fine = begin(9, 13) && insert(0, LONE + 9, LONE + 10, 0) == 4 + A && insert(1, 1, LONE + 11, 0) == 3 + A &&
-               insert(2, 3, LONE + 12, 0) == 2 + A && insert(3, 5, LONE + 13, 0) == 1 + A;
+    int fine = begin(9, 13) && insert(0, LONE + 9, LONE + 10, 0, 16) == 4 + A && insert(1, 1, LONE + 11, 0, 16) == 3 + A &&
+               insert(2, 3, LONE + 12, 0, 16) == 2 + A && insert(3, 5, LONE + 13, 0, 16) == 1 + A;
     check(fine, "a chain of five vertices");
-    check(insert(4, 0, 0, 1) == 1 + B2 && insert(5, 0, 0, 0) == 2 + B1 && insert(6, 0, 0, 0) == 3 + B1, "three loops");
+    check(insert(4, 0, 0, 1, 16) == 1 + B2 && insert(5, 0, 0, 0, 16) == 2 + B1 && insert(6, 0, 0, 0, 16) == 3 + B1, "three loops");
     check(planner_add_vertex(table, WORDS, 20) == 4, "a vertex alone");
     check(planner_counts(table, WORDS, out, 5) == 5 && memcmp(out, five, sizeof five) == 0, "V 6, E 7, F 4, 2 parts, Euler number 3");
     check(planner_parts(table, WORDS, out, 12) == 12 && memcmp(out, rows, sizeof rows) == 0, "vertex, V, E, F, Euler number, mark of each part");
@@ -105,23 +116,20 @@ static void try_the_counts(void) {
    From (1, 0): type 1, before 0 is 2; (2, 1): type 0, next after 3 is 1; (1, 0).
    Letters of (0, 1): U; (4, 0) with turns -2: U O; (5, 0): U O; (2, 0): O. Letters of (1, 0): O; (2, 1): U. So the whole paths have six
    pieces and two, and Close.
-   Cut lengths: the edges, 8 for each O, 320 for the lap. The first ribbon has three O's, the second one. */
+   Cut lengths: the edges, of lengths 1, 10 and 100, 8 for each O, 320 for the lap. The first ribbon has three O's, the second one. */
 static void try_dart_and_type(void) {
-    static uint32_t lengths[PLANNER_EDGES];
     static int32_t points[3 * PLANNER_VERTICES], lifts[3 * PLANNER_EDGES];
     uint8_t letters[6];
     uint16_t kinds[7], remainders[21];
     float coords[15];
     int32_t wholes[21];
-    check(begin(0, 1) && insert(0, LONE, LONE, 1) == 2 + B2 && insert(1, 0, 1, 1) == 3 + B1 && insert(2, 2, LONE + 1, -2) == 2 + A, "two ribbons");
+    check(begin(0, 1) && insert(0, LONE, LONE, 1, 1) == 2 + B2 && insert(1, 0, 1, 1, 10) == 3 + B1 && insert(2, 2, LONE + 1, -2, 100) == 2 + A,
+          "two ribbons");
     check(planner_alternates(table, WORDS, 0, 1) == 0 && planner_alternates(table, WORDS, 1, 0) == 1, "alternates: dart and type");
     check(planner_letters(table, WORDS, 0, 1, letters, 6) == 6 && memcmp(letters, "UUOUOO", 6) == 0, "letters of dart 0, type 1");
     check(planner_letters(table, WORDS, 1, 0, letters, 6) == 2 && memcmp(letters, "OU", 2) == 0, "letters of dart 1, type 0");
-    lengths[0] = 1;
-    lengths[1] = 10;
-    lengths[2] = 100;
-    check(planner_cut_length(table, WORDS, 0, 1, lengths, PLANNER_EDGES) == 1 + 100 + 100 + 10 + 3 * 8 + 320, "cut length of dart 0, type 1");
-    check(planner_cut_length(table, WORDS, 1, 0, lengths, PLANNER_EDGES) == 1 + 10 + 8 + 320, "cut length of dart 1, type 0");
+    check(planner_cut_length(table, WORDS, 0, 1) == 1 + 100 + 100 + 10 + 3 * 8 + 320, "cut length of dart 0, type 1");
+    check(planner_cut_length(table, WORDS, 1, 0) == 1 + 10 + 8 + 320, "cut length of dart 1, type 0");
     check(planner_float_path(table, WORDS, 0, 1, points, 1536, lifts, 3072, kinds, 5, coords, 15) == -PLANNER_MANY_TURNS &&
               planner_float_path(table, WORDS, 1, 0, points, 1536, lifts, 3072, kinds, 5, coords, 15) == 3,
           "float path: dart and type");
@@ -130,12 +138,13 @@ static void try_dart_and_type(void) {
           "whole path: dart and type");
 }
 
-/* A chain of edge 0 with one turn from vertex 0 to 1, edge 1 with none to 2, edge 2 with turns -1 to 3. Around vertex 1 stand 1 and 2, around
-   vertex 2 stand 3 and 4. The walk from (0, 0), and its letters:
+/* A chain of edge 0 with one turn from vertex 0 to 1, edge 1 with none to 2, edge 2 with turns -1 to 3; their lengths are 100, 1,000 and
+   10,000. Around vertex 1 stand 1 and 2, around vertex 2 stand 3 and 4. The walk from (0, 0), and its letters:
    (0, 0) type 1, before 1 is 2: O. (2, 1) before 3 is 4. (4, 1) type 0, next after 5 is 5: with negative turns O. (5, 0) type 1, before 4 is 3: U.
    (3, 1) before 2 is 1. (1, 1) type 0, next after 0 is 0: U. */
 static int build_the_chain(void) {
-    return begin(0, 3) && insert(0, LONE, LONE + 1, 1) == 3 + A && insert(1, 1, LONE + 2, 0) == 2 + A && insert(2, 3, LONE + 3, -1) == 1 + A;
+    return begin(0, 3) && insert(0, LONE, LONE + 1, 1, 100) == 3 + A && insert(1, 1, LONE + 2, 0, 1000) == 2 + A &&
+           insert(2, 3, LONE + 3, -1, 10000) == 1 + A;
 }
 
 /* Points and lifts, and kinds of a piece. In sixteenths, times 32: a+b+2l over, a+b-2l under, a+b flat.
@@ -227,10 +236,9 @@ static void try_the_whole_path(void) {
 /* Where the reader stands, and where its walk began. */
 static struct planner_reader reader;
 static struct planner_tally tally;
-static uint32_t lengths[PLANNER_EDGES];
 
 static int64_t step(void) {
-    return planner_walk_step(table, WORDS, &reader, lengths, PLANNER_EDGES, &tally);
+    return planner_walk_step(table, WORDS, &reader, &tally);
 }
 
 static void stand(uint16_t dart, uint16_t type, uint16_t start_dart, uint16_t start_type) {
@@ -255,13 +263,10 @@ static int counted(uint32_t steps, uint32_t overs, uint32_t unders, uint32_t len
     return tally.steps == steps && tally.overs == overs && tally.unders == unders && tally.length == length;
 }
 
-/* The walk of the chain, step by step, with lengths 100, 1,000 and 10,000; the tally begins at four different numbers. A step brings its edge's
+/* The walk of the chain, step by step; the tally begins at four different numbers. A step brings its edge's
    length, 8 if it goes over, and 320 if it is the last. */
 static void try_the_reader(void) {
     const uint32_t most = 4294967295u;
-    lengths[0] = 100;
-    lengths[1] = 1000;
-    lengths[2] = 10000;
     check(build_the_chain(), "the chain again");
     stand(4, 1, 3, 1);
     count_from(5, 70, 900, 11000);
@@ -318,10 +323,11 @@ static void try_the_trial_job(void) {
           "1,025 is a start and no number of edges");
 }
 
-/* mark, name, c1, c2 and k, every byte of them another. A mark is two letters: "AV" is 41 56, "RV" 52 56. -2 is fffe in two's complement,
+/* mark, name, c1, c2, k and length, every byte of them another. A mark is two letters: "AV" is 41 56, "RV" 52 56. -2 is fffe in two's complement,
    -32,768 is 8000. Then document 01's job of three records, 20 bytes. */
 static void try_the_job_record(void) {
     static const uint8_t insertion[] = {'I', 'E', 1, 2, 3, 4, 5, 6, 7, 8, 0xa5, 0xa5};
+    static const uint8_t with_length[] = {'I', 'L', 1, 2, 3, 4, 5, 6, 7, 8, 9, 10};
     static const uint8_t turn[] = {'T', 'W', 1, 2, 7, 8, 0xa5, 0xa5, 0xa5, 0xa5, 0xa5, 0xa5};
     static const uint8_t job[] = {0x41, 0x56, 0, 0, 0x49, 0x45, 0, 0, 0x80, 0, 0x80, 0, 0, 1, 0x54, 0x57, 0, 1, 0, 1};
     static const struct {
@@ -331,25 +337,36 @@ static void try_the_job_record(void) {
     uint8_t out[20];
     int i, fine = 1;
     memset(out, 0xa5, sizeof out);
-    check(planner_job_record(PLANNER_MARK_IE, 0x0102, 0x0304, 0x0506, 0x0708, out, 12) == 10 && memcmp(out, insertion, 12) == 0,
+    check(planner_job_record(PLANNER_MARK_IE, 0x0102, 0x0304, 0x0506, 0x0708, 0x090a, out, 12) == 10 && memcmp(out, insertion, 12) == 0,
           "an insertion: name, c1, c2 and k");
+    check(planner_job_record(PLANNER_MARK_IL, 0x0102, 0x0304, 0x0506, 0x0708, 0x090a, out, 13) == 12 && memcmp(out, with_length, 12) == 0 &&
+              out[12] == 0xa5,
+          "an insertion with its length: name, c1, c2, k and length");
+    check(planner_job_record(PLANNER_MARK_IL, 1, 2, 3, 4, 5, out, 11) == -PLANNER_SHORT_SLICE && memcmp(out, with_length, 12) == 0,
+          "11 bytes are too short for it, and stay");
     memset(out, 0xa5, sizeof out);
-    check(planner_job_record(PLANNER_MARK_TW, 0x0102, 0x0304, 0x0506, 0x0708, out, 12) == 6 && memcmp(out, turn, 12) == 0, "a turn: name and k");
+    check(planner_job_record(PLANNER_MARK_TW, 0x0102, 0x0304, 0x0506, 0x0708, 0x090a, out, 12) == 6 && memcmp(out, turn, 12) == 0,
+          "a turn: name and k");
     for (i = 0; i < 3; i++) {
         memset(out, 0xa5, sizeof out);
-        fine = fine && planner_job_record(single[i].mark, 0x0102, 0x0304, 0x0506, 0x0708, out, 12) == 4 && memcmp(out, single[i].bytes, 4) == 0;
+        fine = fine && planner_job_record(single[i].mark, 0x0102, 0x0304, 0x0506, 0x0708, 0x090a, out, 12) == 4;
+        fine = fine && memcmp(out, single[i].bytes, 4) == 0;
         fine = fine && out[4] == 0xa5 && memcmp(out + 4, out + 5, 7) == 0;
     }
     check(fine, "a vertex added, a vertex removed, an edge deleted: name alone");
-    check(planner_job_record(PLANNER_MARK_AV, PLANNER_MARK_RV, 0, 0, 0, out, 4) == 4 && memcmp(out, "AVRV", 4) == 0 &&
-              planner_job_record(PLANNER_MARK_RV, PLANNER_MARK_AV, 0, 0, 0, out, 4) == 4 && memcmp(out, "RVAV", 4) == 0,
+    check(planner_job_record(PLANNER_MARK_AV, PLANNER_MARK_RV, 0, 0, 0, 0, out, 4) == 4 && memcmp(out, "AVRV", 4) == 0 &&
+              planner_job_record(PLANNER_MARK_RV, PLANNER_MARK_AV, 0, 0, 0, 0, out, 4) == 4 && memcmp(out, "RVAV", 4) == 0,
           "mark and name");
-    check(planner_job_record(PLANNER_MARK_TW, 0, 0, 0, -2, out, 6) == 6 && memcmp(out, "TW\0\0\xff\xfe", 6) == 0 &&
-              planner_job_record(PLANNER_MARK_IE, 65535, 0, 65535, -32768, out, 10) == 10 && memcmp(out, "IE\xff\xff\0\0\xff\xff\x80\0", 10) == 0,
+    check(planner_job_record(PLANNER_MARK_TW, 0, 0, 0, -2, 0, out, 6) == 6 && memcmp(out, "TW\0\0\xff\xfe", 6) == 0 &&
+              planner_job_record(PLANNER_MARK_IE, 65535, 0, 65535, -32768, 0, out, 10) == 10 && memcmp(out, "IE\xff\xff\0\0\xff\xff\x80\0", 10) == 0,
           "two's complement, and numbers that no edit takes");
-    check(planner_job_record(PLANNER_MARK_AV, 0, 0, 0, 0, out, 20) == 4 &&
-              planner_job_record(PLANNER_MARK_IE, 0, LONE, LONE, 1, out + 4, 16) == 10 &&
-              planner_job_record(PLANNER_MARK_TW, 1, 0, 0, 1, out + 14, 6) == 6 && memcmp(out, job, 20) == 0,
+    check(planner_job_record(PLANNER_MARK_IL, 65535, 0, 65535, -32768, 0, out, 12) == 12 && memcmp(out, "IL\xff\xff\0\0\xff\xff\x80\0\0\0", 12) == 0,
+          "a length of 0 is written as it is");
+    check(planner_job_record(PLANNER_MARK_IL, 1, 2, 3, 4, 16, out, 12) == 12 && memcmp(out, "IL\0\1\0\2\0\3\0\4\0\x10", 12) == 0,
+          "and so is 16, which an IE would insert");
+    check(planner_job_record(PLANNER_MARK_AV, 0, 0, 0, 0, 0, out, 20) == 4 &&
+              planner_job_record(PLANNER_MARK_IE, 0, LONE, LONE, 1, 0, out + 4, 16) == 10 &&
+              planner_job_record(PLANNER_MARK_TW, 1, 0, 0, 1, 0, out + 14, 6) == 6 && memcmp(out, job, 20) == 0,
           "one after the other, the printed job");
 }
 

@@ -8,7 +8,7 @@
 #include <stdint.h>
 #include <string.h>
 
-enum { WORDS = 7680, GUARD = -77 };
+enum { WORDS = 8704, GUARD = -77 };
 
 static uint16_t table[WORDS];
 static uint16_t before[WORDS];
@@ -31,10 +31,10 @@ static void build(void) {
     check(planner_add_vertex(table, WORDS, 1) == 1 && planner_add_vertex(table, WORDS, 2) == 2 &&
               planner_add_vertex(table, WORDS, 3) == 3 && planner_add_vertex(table, WORDS, 9) == 4,
           "four vertices, four faces");
-    check(planner_insert_edge(table, WORDS, 0, 32768 + 1, 32768 + 2, 0) == 3 + A, "an edge joins two faces");
-    check(planner_insert_edge(table, WORDS, 1, 1, 32768 + 3, 0) == 2 + A, "a second one");
-    check(planner_insert_edge(table, WORDS, 2, 3, 0, 0) == 3 + B1, "the third closes the triangle and splits its face");
-    check(planner_insert_edge(table, WORDS, 7, 32768 + 9, 32768 + 9, 1) == 3 + B2, "a twisted loop keeps its one face");
+    check(planner_insert_edge(table, WORDS, 0, 32768 + 1, 32768 + 2, 0, 16) == 3 + A, "an edge joins two faces");
+    check(planner_insert_edge(table, WORDS, 1, 1, 32768 + 3, 0, 16) == 2 + A, "a second one");
+    check(planner_insert_edge(table, WORDS, 2, 3, 0, 0, 16) == 3 + B1, "the third closes the triangle and splits its face");
+    check(planner_insert_edge(table, WORDS, 7, 32768 + 9, 32768 + 9, 1, 16) == 3 + B2, "a twisted loop keeps its one face");
 }
 
 static void try_the_counts(void) {

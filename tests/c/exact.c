@@ -18,9 +18,8 @@ static uint16_t mesh[WORDS + 1];
 static size_t words = WORDS, stray = 0;
 
 /* The other slices' contents, and how many elements of each are lent. */
-static uint32_t lengths[PLANNER_EDGES];
 static int32_t points[POINTS], lifts[LIFTS];
-static size_t n_lengths = PLANNER_EDGES, n_points = POINTS, n_lifts = LIFTS;
+static size_t n_points = POINTS, n_lifts = LIFTS;
 
 /* The blocks that the call is lent, and what they held before it. */
 static void *blocks[BLOCKS], *before[BLOCKS];
@@ -91,9 +90,9 @@ static int64_t removal(uint16_t v) {
     return edited(planner_remove_vertex(t, words, v));
 }
 
-static int64_t insert(uint16_t e, int c1, int c2, int16_t k) {
+static int64_t insert(uint16_t e, int c1, int c2, int16_t k, uint16_t length) {
     uint16_t *t = lend_mesh();
-    return edited(planner_insert_edge(t, words, e, (uint16_t)c1, (uint16_t)c2, k));
+    return edited(planner_insert_edge(t, words, e, (uint16_t)c1, (uint16_t)c2, k, length));
 }
 
 static int64_t deletion(uint16_t e) {
@@ -106,9 +105,9 @@ static int64_t turn(uint16_t e, int16_t amount) {
     return edited(planner_turn_edge(t, words, e, amount));
 }
 
-static int64_t ask_insert(uint16_t e, int c1, int c2, int16_t k) {
+static int64_t ask_insert(uint16_t e, int c1, int c2, int16_t k, uint16_t length) {
     uint16_t *t = lend_mesh();
-    return back(planner_ask_insert_edge(t, words, e, (uint16_t)c1, (uint16_t)c2, k), 1);
+    return back(planner_ask_insert_edge(t, words, e, (uint16_t)c1, (uint16_t)c2, k, length), 1);
 }
 
 static int64_t ask_deletion(uint16_t e) {
@@ -121,9 +120,9 @@ static int64_t ask_turn(uint16_t e, int16_t amount) {
     return back(planner_ask_turn_edge(t, words, e, amount), 1);
 }
 
-static int64_t commit_insert(uint16_t e, int c1, int c2, int16_t k, int64_t forecast) {
+static int64_t commit_insert(uint16_t e, int c1, int c2, int16_t k, uint16_t length, int64_t forecast) {
     uint16_t *t = lend_mesh();
-    return edited(planner_commit_insert_edge(t, words, e, (uint16_t)c1, (uint16_t)c2, k, forecast));
+    return edited(planner_commit_insert_edge(t, words, e, (uint16_t)c1, (uint16_t)c2, k, length, forecast));
 }
 
 static int64_t commit_deletion(uint16_t e, int64_t forecast) {
@@ -177,8 +176,7 @@ static int64_t letters(uint16_t dart, uint16_t type, size_t n) {
 
 static int64_t cut_length(uint16_t dart, uint16_t type) {
     uint16_t *t = lend_mesh();
-    uint32_t *l = (uint32_t *)lend(lengths, n_lengths * sizeof *l);
-    return back(planner_cut_length(t, words, dart, type, l, n_lengths), 2);
+    return back(planner_cut_length(t, words, dart, type), 1);
 }
 
 static int64_t float_path(uint16_t dart, uint16_t type, size_t n_kinds, size_t n_coords) {
@@ -206,15 +204,14 @@ static struct planner_tally tally;
 
 static int64_t walk_step(void) {
     uint16_t *t = lend_mesh();
-    uint32_t *l = (uint32_t *)lend(lengths, n_lengths * sizeof *l);
     struct planner_reader *r = (struct planner_reader *)lend(&reader, sizeof reader);
     struct planner_tally *y = (struct planner_tally *)lend(&tally, sizeof tally);
-    int64_t answer = planner_walk_step(t, words, r, l, n_lengths, y);
+    int64_t answer = planner_walk_step(t, words, r, y);
     if (answer >= 0) {
         reader = *r;
         tally = *y;
     }
-    return back(answer, 2);
+    return back(answer, 1);
 }
 
 /* The reader stands at a step, which is its start too. */
@@ -233,7 +230,7 @@ static int64_t trial_job(uint32_t start, uint32_t edges, size_t n) {
 /* A record is lent its output alone too; the numbers are at the ends of their ranges. */
 static int64_t job_record(uint16_t mark, size_t n) {
     uint8_t *out = (uint8_t *)lend_output(n);
-    return back(planner_job_record(mark, 65535, 0, 65535, -32768, out, n), 0);
+    return back(planner_job_record(mark, 65535, 0, 65535, -32768, 65535, out, n), 0);
 }
 
 /* Every call that is lent a table declines the mesh as torn, the table being tested before everything else. */
@@ -241,32 +238,36 @@ static int all_torn(void) {
     int torn = checked() == -1 && listing(0) == -1 && counts(0) == -1 && parts(0) == -1 && plain() == -1;
     torn = torn && alternates(65535, 65535) == -1 && letters(0, 0, 0) == -1 && cut_length(0, 0) == -1 && float_path(0, 0, 0, 0) == -1;
     torn = torn && whole_path(0, 0, 0, 0, 0) == -1;
-    torn = torn && step_at(0, 0) == -1 && add(65535) == -1 && removal(0) == -1 && insert(0, 0, 0, 0) == -1 && deletion(0) == -1;
-    torn = torn && ask_insert(0, 0, 0, 0) == -1 && ask_deletion(0) == -1 && ask_turn(0, 0) == -1;
-    torn = torn && commit_insert(0, 0, 0, 0, 0) == -1 && commit_deletion(0, 2 * BEFORE) == -1 && commit_turn(0, 0, -1) == -1;
+    torn = torn && step_at(0, 0) == -1 && add(65535) == -1 && removal(0) == -1 && insert(0, 0, 0, 0, 0) == -1 && deletion(0) == -1;
+    torn = torn && ask_insert(0, 0, 0, 0, 0) == -1 && ask_deletion(0) == -1 && ask_turn(0, 0) == -1;
+    torn = torn && commit_insert(0, 0, 0, 0, 0, 0) == -1 && commit_deletion(0, 2 * BEFORE) == -1 && commit_turn(0, 0, -1) == -1;
     return torn && turn(0, 0) == -1;
 }
 
-/* Edge 0 with one turn from vertex 0 to 1, edge 1023 with none from there to 511, and the isolated vertex 510: one ribbon, of the steps
-   (0, 0), (2046, 1), (2047, 1), (1, 1), and an empty walk. The last words of every slice count. */
+/* Edge 0 with one turn and length 300 from vertex 0 to 1, edge 1023 with no turn and length 65,535 from there to 511, and the isolated vertex
+   510: one ribbon, of the steps (0, 0), (2046, 1), (2047, 1), (1, 1), and an empty walk. The last words of every slice count. */
 static int build(void) {
     int fine = empty() == 0 && add(0) == 1 && add(1) == 2 && add(510) == 3 && add(511) == 4;
-    return fine && insert(0, LONE, LONE + 1, 1) == 3 + A && insert(1023, 1, LONE + 511, 0) == 2 + A;
+    return fine && insert(0, LONE, LONE + 1, 1, 300) == 3 + A && insert(1023, 1, LONE + 511, 0, 65535) == 2 + A;
 }
 
 static void try_the_edits(void) {
     check(add(512) == -2 && add(65535) == -2 && add(0) == -3 && add(511) == -3, "a vertex added: 2 and 3");
     check(removal(512) == -2 && removal(65535) == -2 && removal(509) == -4 && removal(511) == -5, "a vertex removed: 2, 4 and 5");
     check(removal(510) == 1 && add(510) == 2, "a vertex goes and comes");
-    check(insert(1024, 0, 0, 0) == -2 && insert(65535, 0, 0, 0) == -2 && insert(2, 2048, 0, 0) == -2 && insert(2, 0, 32767, 0) == -2 &&
-              insert(2, 0, 65535, 0) == -2 && insert(2, LONE + 512, 0, 0) == -2,
+    check(insert(1024, 0, 0, 0, 1) == -2 && insert(65535, 0, 0, 0, 1) == -2 && insert(2, 2048, 0, 0, 1) == -2 && insert(2, 0, 32767, 0, 1) == -2 &&
+              insert(2, 0, 65535, 0, 1) == -2 && insert(2, LONE + 512, 0, 0, 1) == -2,
           "an edge inserted: 2");
-    check(insert(0, 0, 0, 0) == -3 && insert(2, 4, 0, 0) == -4 && insert(2, 0, 2045, 0) == -4 && insert(2, LONE, 0, 0) == -4 &&
-              insert(2, 0, LONE + 509, 0) == -4,
+    check(insert(0, 0, 0, 0, 1) == -3 && insert(2, 4, 0, 0, 1) == -4 && insert(2, 0, 2045, 0, 1) == -4 && insert(2, LONE, 0, 0, 1) == -4 &&
+              insert(2, 0, LONE + 509, 0, 1) == -4,
           "an edge inserted: 3 and 4");
-    check(insert(2, 0, 0, 100) == -6 && insert(2, 0, 0, -32768) == -6, "an edge inserted: 6");
-    check(insert(1022, LONE + 510, LONE + 510, -99) == 2 + B2 && deletion(1022) == 2 + B2, "a loop comes and goes");
-    check(deletion(1023) == 3 + B1 && insert(1023, 1, LONE + 511, 0) == 2 + A, "the last edge goes and comes");
+    check(insert(2, 0, 0, 100, 1) == -6 && insert(2, 0, 0, -32768, 0) == -6, "an edge inserted: 6");
+    check(insert(2, 0, 0, 99, 0) == -9 && insert(1022, LONE + 510, LONE + 510, 0, 0) == -9, "an edge inserted: 9");
+    check(insert(1022, LONE + 510, LONE + 510, -99, 1) == 2 + B2 && mesh[PLANNER_LENGTH_AT + 1022] == 1 && deletion(1022) == 2 + B2,
+          "a loop comes and goes");
+    check(mesh[PLANNER_LENGTH_AT + 1022] == 0 && mesh[PLANNER_LENGTH_AT + 1023] == 65535, "its length goes with it");
+    check(deletion(1023) == 3 + B1 && mesh[WORDS - 1] == 0 && insert(1023, 1, LONE + 511, 0, 65535) == 2 + A && mesh[WORDS - 1] == 65535,
+          "the last edge goes and comes, with its length");
     check(deletion(1024) == -2 && deletion(65535) == -2 && deletion(1022) == -4, "an edge deleted: 2 and 4");
     check(turn(1024, 0) == -2 && turn(65535, 1) == -2 && turn(1022, 1) == -4 && turn(0, 99) == -6 && turn(0, -32768) == -6, "an edge turned: 2, 4, 6");
     check(turn(0, 98) == 2 + E && turn(0, -98) == 2 + E && turn(0, -1) == 2 + B2 && turn(0, 1) == 2 + B2, "an edge turned and back");
@@ -274,26 +275,30 @@ static void try_the_edits(void) {
 
 /* Two faces, the ribbon's and that of vertex 510. Edges 0 and 1023 are passed by both darts. */
 static void try_the_forecasts(void) {
-    check(ask_insert(1024, 0, 0, 0) == -2 && ask_insert(2, 2048, 0, 0) == -2 && ask_insert(2, 0, 65535, 0) == -2 && ask_insert(0, 0, 0, 0) == -3 &&
-              ask_insert(2, 0, 2045, 0) == -4 && ask_insert(2, 0, 0, 100) == -6,
-          "an insertion asked for: 2, 3, 4 and 6");
+    check(ask_insert(1024, 0, 0, 0, 1) == -2 && ask_insert(2, 2048, 0, 0, 1) == -2 && ask_insert(2, 0, 65535, 0, 1) == -2 &&
+              ask_insert(0, 0, 0, 0, 1) == -3 && ask_insert(2, 0, 2045, 0, 1) == -4 && ask_insert(2, 0, 0, 100, 0) == -6 &&
+              ask_insert(2, 0, 0, 0, 0) == -9,
+          "an insertion asked for: 2, 3, 4, 6 and 9");
     check(ask_deletion(1024) == -2 && ask_deletion(1022) == -4, "a deletion asked for: 2 and 4");
     check(ask_turn(65535, 0) == -2 && ask_turn(1022, 1) == -4 && ask_turn(0, 99) == -6 && ask_turn(0, -32768) == -6,
           "a turn asked for: 2, 4 and 6");
-    check(commit_insert(1024, 0, 0, 0, 0) == -2 && commit_insert(2, 0, 65535, 0, -2) == -2 && commit_insert(0, 0, 0, 0, 0) == -3 &&
-              commit_insert(2, 0, 2045, 0, 0) == -4 && commit_insert(2, 0, 0, 100, 0) == -6 && commit_insert(2, 0, 0, 0, 0) == -12,
-          "an insertion committed: 2, 3, 4, 6 and 12");
+    check(commit_insert(1024, 0, 0, 0, 1, 0) == -2 && commit_insert(2, 0, 65535, 0, 1, -2) == -2 && commit_insert(0, 0, 0, 0, 1, 0) == -3 &&
+              commit_insert(2, 0, 2045, 0, 1, 0) == -4 && commit_insert(2, 0, 0, 100, 0, 0) == -6 && commit_insert(2, 0, 0, 0, 0, 0) == -9 &&
+              commit_insert(2, 0, 0, 0, 1, 0) == -12,
+          "an insertion committed: 2, 3, 4, 6, 9 and 12");
     check(commit_deletion(1024, 0) == -2 && commit_deletion(1022, 0) == -4 && commit_deletion(1023, 3 + B1) == -12,
           "a deletion committed: 2, 4 and 12");
     check(commit_turn(65535, 0, 0) == -2 && commit_turn(1022, 1, 0) == -4 && commit_turn(0, 99, 0) == -6 &&
               commit_turn(0, 98, 2 * BEFORE + E + 1) == -12,
           "a turn committed: 2, 4, 6 and 12");
-    check(ask_insert(1022, LONE + 510, LONE + 510, -99) == 2 * BEFORE + B2 + 2 &&
-              commit_insert(1022, LONE + 510, LONE + 510, -99, 2 * BEFORE + B2 + 2) == 2 + B2,
+    check(ask_insert(1022, LONE + 510, LONE + 510, -99, 1) == 2 * BEFORE + B2 + 2 &&
+              commit_insert(1022, LONE + 510, LONE + 510, -99, 1, 2 * BEFORE + B2 + 2) == 2 + B2 && mesh[PLANNER_LENGTH_AT + 1022] == 1,
           "a loop comes");
-    check(ask_deletion(1022) == 2 * BEFORE + B2 + 2 && commit_deletion(1022, 2 * BEFORE + B2 + 2) == 2 + B2, "and goes");
+    check(ask_deletion(1022) == 2 * BEFORE + B2 + 2 && commit_deletion(1022, 2 * BEFORE + B2 + 2) == 2 + B2 && mesh[PLANNER_LENGTH_AT + 1022] == 0,
+          "and goes");
     check(ask_deletion(1023) == 2 * BEFORE + B1 + 3 && commit_deletion(1023, 2 * BEFORE + B1 + 3) == 3 + B1, "the last edge goes");
-    check(ask_insert(1023, 1, LONE + 511, 0) == 3 * BEFORE + A + 2 && commit_insert(1023, 1, LONE + 511, 0, 3 * BEFORE + A + 2) == 2 + A,
+    check(ask_insert(1023, 1, LONE + 511, 0, 65535) == 3 * BEFORE + A + 2 &&
+              commit_insert(1023, 1, LONE + 511, 0, 65535, 3 * BEFORE + A + 2) == 2 + A,
           "and comes");
     check(ask_turn(0, 98) == 2 * BEFORE + E + 2 && commit_turn(0, 98, 2 * BEFORE + E + 2) == 2 + E &&
               commit_turn(0, -98, 2 * BEFORE + E + 2) == 2 + E,
@@ -331,27 +336,10 @@ static void try_the_names(void) {
     check(fine, "a step that is absent: 4");
 }
 
-static void fill_lengths(uint32_t length) {
-    int e;
-    for (e = 0; e < PLANNER_EDGES; e++) {
-        lengths[e] = length;
-    }
-}
-
+/* Both edges twice, one O, the lap. */
 static void try_the_lengths(void) {
-    /* Four edges, one O, the lap. */
-    fill_lengths(65535);
-    check(cut_length(0, 0) == 4 * 65535 + 8 + 320 && cut_length(2046, 1) == 4 * 65535 + 8 + 320, "a cut length");
-    n_lengths = PLANNER_EDGES - 1;
-    check(cut_length(0, 0) == -7 && step_at(0, 0) == -7, "1,023 lengths: 7");
-    n_lengths = 0;
-    check(cut_length(0, 0) == -7 && step_at(0, 0) == -7, "no lengths: 7");
-    n_lengths = PLANNER_EDGES;
-    lengths[1023] = 65536;
-    check(cut_length(0, 0) == -9 && step_at(2046, 0) == -9 && step_at(0, 0) == 0, "a length too long: 9, for its own step alone");
-    lengths[1023] = 0;
-    check(cut_length(0, 0) == -9 && step_at(2046, 0) == -9, "a length of 0: 9");
-    fill_lengths(1);
+    const int64_t length = 2 * 300 + 2 * 65535 + 8 + 320;
+    check(cut_length(0, 0) == length && cut_length(2046, 1) == length, "a cut length");
 }
 
 /* Four steps and Close: five kinds and fifteen floats. */
@@ -410,20 +398,20 @@ static void try_the_reader(void) {
     while (steps < 4 && walk_step() == 0) {
         steps++;
     }
-    /* Four lengths of 1, one O, the lap. */
-    check(steps == 2 && tally.steps == 4 && tally.overs == 1 && tally.unders == 1 && tally.length == 4 + 8 + 320, "and three more, to the end");
+    check(steps == 2 && tally.steps == 4 && tally.overs == 1 && tally.unders == 1 && tally.length == 2 * 300 + 2 * 65535 + 8 + 320,
+          "and three more, to the end");
     reader.start_dart = 2048;
     check(walk_step() == -2, "a start that is no dart: 2");
     reader.start_dart = 2045;
     check(walk_step() == -4, "a start that is absent: 4");
     tally.steps = 4294967295u;
     check(step_at(0, 0) == -6, "a tally that is full: 6");
-    /* Step (1, 1) that began at (0, 0) is the last: 1 and the lap. */
+    /* Step (1, 1) that began at (0, 0) is the last: 300 and the lap. */
     memset(&tally, 0, sizeof tally);
     reader.dart = reader.type = 1;
-    tally.length = 4294967295u - 320;
+    tally.length = 4294967295u - 619;
     check(walk_step() == -6, "a length without room for the lap: 6");
-    tally.length = 4294967295u - 321;
+    tally.length = 4294967295u - 620;
     check(walk_step() == 1 && tally.length == 4294967295u, "a length with just that room");
     memset(&tally, 0, sizeof tally);
 }
@@ -439,40 +427,54 @@ static void try_the_trial_job(void) {
 /* "VA" is AV's letters exchanged. */
 static void try_the_job_record(void) {
     check(job_record(PLANNER_MARK_AV, 4) == 4 && job_record(PLANNER_MARK_RV, 4) == 4 && job_record(PLANNER_MARK_IE, 10) == 10 &&
-              job_record(PLANNER_MARK_DE, 4) == 4 && job_record(PLANNER_MARK_TW, 6) == 6,
+              job_record(PLANNER_MARK_IL, 12) == 12 && job_record(PLANNER_MARK_DE, 4) == 4 && job_record(PLANNER_MARK_TW, 6) == 6,
           "job records, exact");
     check(job_record(PLANNER_MARK_AV, 3) == -7 && job_record(PLANNER_MARK_RV, 3) == -7 && job_record(PLANNER_MARK_IE, 9) == -7 &&
-              job_record(PLANNER_MARK_DE, 3) == -7 && job_record(PLANNER_MARK_TW, 5) == -7 && job_record(PLANNER_MARK_IE, 0) == -7,
+              job_record(PLANNER_MARK_IL, 11) == -7 && job_record(PLANNER_MARK_DE, 3) == -7 && job_record(PLANNER_MARK_TW, 5) == -7 &&
+              job_record(PLANNER_MARK_IL, 10) == -7 && job_record(PLANNER_MARK_IE, 0) == -7,
           "one byte too few: 7");
-    check(job_record(0x5641, 10) == -10 && job_record(0x5641, 1) == -10 && job_record(0, 0) == -10 && job_record(65535, 10) == -10,
+    check(job_record(0x5641, 12) == -10 && job_record(0x5641, 1) == -10 && job_record(0, 0) == -10 && job_record(65535, 12) == -10,
           "a bad mark: 10, before 7");
 }
 
-/* Tables that are no tables: other sizes, and words that lead outside. */
+/* Every call declines the mesh while these words stand in this place. */
+static int torn_with(size_t place, const uint16_t *wrong, size_t n_wrong) {
+    const uint16_t right = mesh[place];
+    size_t i;
+    int torn = 1;
+    for (i = 0; i < n_wrong; i++) {
+        mesh[place] = wrong[i];
+        torn = torn && all_torn();
+    }
+    mesh[place] = right;
+    return torn;
+}
+
+/* Tables that are no tables: other sizes, one of them that of a table without lengths, words that lead outside, lengths that are not there, and
+   lengths of edges that are not. */
 static void try_the_torn(void) {
     static const size_t places[] = {PLANNER_NEXT_AT,     PLANNER_NEXT_AT + 2047,   PLANNER_PREV_AT, PLANNER_PREV_AT + 2047,
                                     PLANNER_LEAVES_AT,   PLANNER_LEAVES_AT + 2047, PLANNER_EDGE_AT, PLANNER_EDGE_AT + 1023,
                                     PLANNER_VERTEX_AT,   PLANNER_VERTEX_AT + 511,  PLANNER_NEXT_AT + 2045, PLANNER_LEAVES_AT + 2,
                                     PLANNER_EDGE_AT + 1, PLANNER_VERTEX_AT + 2};
-    static const uint16_t wrong[] = {512, 1024, 2048, 7679, 7680, 32767, 32768, 65533};
-    static const size_t others[] = {0, 1, WORDS - 1, WORDS + 1};
-    size_t i, j;
+    static const uint16_t outside[] = {512, 1024, 2048, 7679, 8703, 8704, 32767, 32768, 65533};
+    static const uint16_t none[] = {0}, some[] = {1, 16, 65535};
+    static const size_t others[] = {0, 1, 7680, WORDS - 1, WORDS + 1};
+    size_t i;
     int fine = 1;
     for (i = 0; i < sizeof others / sizeof others[0]; i++) {
         words = others[i];
         fine = fine && all_torn() && empty() == -1;
     }
     words = WORDS;
-    check(fine, "0, 1, 7,679 and 7,681 words: 1, by every call");
+    check(fine, "0, 1, 7,680, 8,703 and 8,705 words: 1, by every call");
     for (i = 0; i < sizeof places / sizeof places[0]; i++) {
-        const uint16_t right = mesh[places[i]];
-        for (j = 0; j < sizeof wrong / sizeof wrong[0]; j++) {
-            mesh[places[i]] = wrong[j];
-            fine = fine && all_torn();
-        }
-        mesh[places[i]] = right;
+        fine = fine && torn_with(places[i], outside, sizeof outside / sizeof outside[0]);
     }
     check(fine, "a word that leads outside: 1, by every call");
+    check(torn_with(PLANNER_LENGTH_AT, none, 1) && torn_with(PLANNER_LENGTH_AT + 1023, none, 1), "a live edge without a length: 1, by every call");
+    check(torn_with(PLANNER_LENGTH_AT + 1, some, 3) && torn_with(PLANNER_LENGTH_AT + 1022, some, 3),
+          "a length of an edge that is not live: 1, by every call");
     check(checked() == 0, "and the mesh is as it was");
 }
 

@@ -7,7 +7,7 @@
 #include <stdint.h>
 
 enum { DARTS = 2048, EDGES = 1024, VERTICES = 512 };
-enum { LEAVES = 2 * DARTS, TURNS = 3 * DARTS, VERTEX = TURNS + EDGES, WORDS = VERTEX + VERTICES };
+enum { LEAVES = 2 * DARTS, TURNS = 3 * DARTS, VERTEX = TURNS + EDGES, LENGTH = VERTEX + VERTICES, WORDS = LENGTH + EDGES };
 enum { GUARDS = 32, GUARD = 0xa5c3 };
 
 /* The lent slice, with guard words on both sides. */
@@ -41,7 +41,7 @@ static int guards_are_whole(void) {
     return 1;
 }
 
-/* An edge of turns 1 between vertices 0 and 1, written into the empty mesh. */
+/* An edge of turns 1 and length 1 between vertices 0 and 1, written into the empty mesh. */
 static void write_an_edge(void) {
     uint16_t d;
     for (d = 0; d < 2; d++) {
@@ -51,19 +51,29 @@ static void write_an_edge(void) {
         table[VERTEX + d] = d;
     }
     table[TURNS] = 101;
+    table[LENGTH] = 1;
+}
+
+/* Document 02: "The table grows at its end by 1,024 words to 8,704". */
+static void try_the_places(void) {
+    check(PLANNER_TABLE_WORDS == 8704 && WORDS == 8704, "8,704 words");
+    check(PLANNER_NEXT_AT == 0 && PLANNER_PREV_AT == DARTS && PLANNER_LEAVES_AT == LEAVES && PLANNER_EDGE_AT == TURNS &&
+              PLANNER_VERTEX_AT == VERTEX && PLANNER_LENGTH_AT == LENGTH && LENGTH == 7680,
+          "the six kinds of words, one after the other");
 }
 
 static void try_empty(void) {
     int64_t answer;
     fill(GUARD);
     answer = planner_empty(table, WORDS);
-    check(answer == 0, "planner_empty fills 7,680 words and answers 0");
-    check(all(0, TURNS, 65535) && all(TURNS, VERTEX, 0) && all(VERTEX, WORDS, 65535),
+    check(answer == 0, "planner_empty fills 8,704 words and answers 0");
+    check(all(0, TURNS, 65535) && all(TURNS, VERTEX, 0) && all(VERTEX, LENGTH, 65535) && all(LENGTH, WORDS, 0),
           "the words are those of the empty mesh");
     check(guards_are_whole(), "planner_empty writes nothing outside the slice");
     fill(GUARD);
-    check(planner_empty(table, WORDS - 1) == -1, "planner_empty declines 7,679 words with 1");
-    check(planner_empty(table, WORDS + 1) == -1, "planner_empty declines 7,681 words with 1");
+    check(planner_empty(table, WORDS - 1) == -1, "planner_empty declines 8,703 words with 1");
+    check(planner_empty(table, WORDS + 1) == -1, "planner_empty declines 8,705 words with 1");
+    check(planner_empty(table, LENGTH) == -1, "planner_empty declines 7,680 words, a table without lengths, with 1");
     check(planner_empty(NULL, 0) == -1, "planner_empty declines no words with 1");
     check(all(0, WORDS, GUARD) && guards_are_whole(), "a declined planner_empty writes nothing");
 }
@@ -89,7 +99,27 @@ static void try_check(void) {
     table[VERTEX + 1] = 1;
     table[VERTEX + 511] = 65534;
     check(planner_check(lent, WORDS) == 0, "an isolated vertex more is good");
+    check(planner_check(lent, LENGTH) == -1, "its first 7,680 words alone are torn");
     check(guards_are_whole(), "planner_check writes nothing outside the slice");
+}
+
+/* Document 02: "for each edge its length, 1 to 65,535 if live, 0 if not, and a good table keeps that too". Edge 0 is live. */
+static void try_the_lengths_of_a_table(void) {
+    check(planner_empty(table, WORDS) == 0, "the empty mesh again");
+    write_an_edge();
+    check(planner_check(table, WORDS) == 0, "a length of 1 is good");
+    table[LENGTH] = 65535;
+    check(planner_check(table, WORDS) == 0, "a length of 65,535 is good");
+    table[LENGTH] = 0;
+    check(planner_check(table, WORDS) == -1, "a live edge without a length is torn");
+    table[LENGTH] = 16;
+    table[LENGTH + 1] = 1;
+    check(planner_check(table, WORDS) == -1, "a length of an edge that is not live is torn");
+    table[LENGTH + 1] = 0;
+    table[WORDS - 1] = 65535;
+    check(planner_check(table, WORDS) == -1, "that of the last edge too");
+    table[WORDS - 1] = 0;
+    check(planner_check(table, WORDS) == 0, "without them the table is good");
 }
 
 /* An answer is faces + 65536 * rule, rule 1 A, 2 B1, 3 B2, 4 E. No table has more than 1,536 faces: V-E+F is at most 2 in each part. */
@@ -133,37 +163,41 @@ static void try_the_trial_job(void) {
           "1,025 edges are too many, before the output is looked at");
 }
 
-/* Document 01: "A record is a two-byte mark, then 16-bit words, high byte first: AV v; RV v; IE e c1 c2 k; DE e; TW e amount". */
+/* Document 01: "A record is a two-byte mark, then 16-bit words, high byte first: AV v; RV v; IE e c1 c2 k; DE e; TW e amount". Document 02:
+   "Record IL is IE with one more word, the last, for the length". */
 static void try_the_job_record(void) {
-    static const uint16_t marks[] = {PLANNER_MARK_AV, PLANNER_MARK_RV, PLANNER_MARK_IE, PLANNER_MARK_DE, PLANNER_MARK_TW};
-    static const char letters[] = "AVRVIEDETW";
-    static const int sizes[] = {4, 4, 10, 4, 6};
+    static const uint16_t marks[] = {PLANNER_MARK_AV, PLANNER_MARK_RV, PLANNER_MARK_IE, PLANNER_MARK_IL, PLANNER_MARK_DE, PLANNER_MARK_TW};
+    static const char letters[] = "AVRVIEILDETW";
+    static const int sizes[] = {4, 4, 10, 12, 4, 6};
     uint8_t out[PLANNER_RECORD_BYTES + 1];
     int i, j, fine = 1, kept = 1, none = 1;
-    check(PLANNER_BAD_MARK == 10 && PLANNER_RECORD_BYTES == 10, "10 bad mark; no record has more than 10 bytes");
-    for (i = 0; i < 5; i++) {
+    check(PLANNER_BAD_MARK == 10 && PLANNER_RECORD_BYTES == 12, "10 bad mark; no record has more than 12 bytes");
+    for (i = 0; i < 6; i++) {
         for (j = 0; j < PLANNER_RECORD_BYTES + 1; j++) {
             out[j] = GUARD & 255;
         }
         fine = fine && marks[i] == 256 * letters[2 * i] + letters[2 * i + 1];
-        fine = fine && planner_job_record(marks[i], 0, 0, 0, 0, out, sizeof out) == sizes[i];
+        fine = fine && planner_job_record(marks[i], 0, 0, 0, 0, 0, out, sizeof out) == sizes[i];
         fine = fine && out[0] == letters[2 * i] && out[1] == letters[2 * i + 1];
         for (j = 2; j < PLANNER_RECORD_BYTES + 1; j++) {
             kept = kept && out[j] == (j < sizes[i] ? 0 : GUARD & 255);
         }
-        none = none && planner_job_record(marks[i], 0, 0, 0, 0, NULL, 0) == -PLANNER_SHORT_SLICE;
+        none = none && planner_job_record(marks[i], 0, 0, 0, 0, 0, NULL, 0) == -PLANNER_SHORT_SLICE;
     }
-    check(fine, "the five marks are their two letters, and stand first in their records");
+    check(fine, "the six marks are their two letters, and stand first in their records");
     check(kept, "and no byte more than the record");
     check(none, "no bytes are short");
-    check(planner_job_record(0, 0, 0, 0, 0, NULL, 0) == -PLANNER_BAD_MARK && planner_job_record(0x5641, 0, 0, 0, 0, out, 3) == -PLANNER_BAD_MARK &&
-              planner_job_record(0x6176, 0, 0, 0, 0, out, sizeof out) == -PLANNER_BAD_MARK,
+    check(planner_job_record(0, 0, 0, 0, 0, 0, NULL, 0) == -PLANNER_BAD_MARK &&
+              planner_job_record(0x5641, 0, 0, 0, 0, 0, out, 3) == -PLANNER_BAD_MARK &&
+              planner_job_record(0x6176, 0, 0, 0, 0, 0, out, sizeof out) == -PLANNER_BAD_MARK,
           "0, the letters exchanged and small letters are no mark, before the output is looked at");
 }
 
 int main(void) {
+    try_the_places();
     try_empty();
     try_check();
+    try_the_lengths_of_a_table();
     try_the_rules();
     try_the_forecasts();
     try_the_lengths();

@@ -37,23 +37,26 @@ static void *lend(size_t bytes) {
 }
 
 static uint16_t *table;
-static int64_t answers[34];
+static int64_t answers[36];
 
-/* A chain through all vertices, and loops in the corner of dart 0 for the other edges, every one with one turn: all names are used. Each strip
-   of the chain joins a vertex's face, and each loop leaves one face one, so there is one ribbon, of 2,048 steps. It passes every edge twice,
-   once over and once under: 1,024 O's. */
+/* The largest length of an edge. */
+enum { LONGEST = 65535 };
+
+/* A chain through all vertices, and loops in the corner of dart 0 for the other edges, every one with one turn and the largest length: all
+   names are used. Each strip of the chain joins a vertex's face, and each loop leaves one face one, so there is one ribbon, of 2,048 steps. It
+   passes every edge twice, once over and once under: 1,024 O's. */
 static int build(void) {
     uint16_t i;
     int fine = planner_empty(table, WORDS) == 0;
     for (i = 0; i < VERTICES; i++) {
         fine = fine && planner_add_vertex(table, WORDS, i) >= 0;
     }
-    fine = fine && planner_insert_edge(table, WORDS, 0, 32768, 32769, 1) >= 0;
+    fine = fine && planner_insert_edge(table, WORDS, 0, 32768, 32769, 1, LONGEST) >= 0;
     for (i = 1; i < VERTICES - 1; i++) {
-        fine = fine && planner_insert_edge(table, WORDS, i, (uint16_t)(2 * i - 1), (uint16_t)(32769 + i), 1) >= 0;
+        fine = fine && planner_insert_edge(table, WORDS, i, (uint16_t)(2 * i - 1), (uint16_t)(32769 + i), 1, LONGEST) >= 0;
     }
     for (i = VERTICES - 1; i < EDGES; i++) {
-        fine = fine && planner_insert_edge(table, WORDS, i, 0, 0, 1) >= 0;
+        fine = fine && planner_insert_edge(table, WORDS, i, 0, 0, 1, LONGEST) >= 0;
     }
     return fine;
 }
@@ -84,7 +87,6 @@ static uint16_t *listing, *kinds, *remainders;
 static struct planner_reader *reader;
 static struct planner_tally *tally;
 static int32_t *counts, *parts, *points, *lifts, *wholes;
-static uint32_t *lengths;
 static uint8_t *letters, *trial, *record;
 static float *coords;
 static size_t steps, words;
@@ -97,7 +99,7 @@ static void calls_that_read(void) {
     answers[4] = planner_alternates(table, WORDS, 0, 0);
     answers[5] = planner_plain(table, WORDS);
     answers[6] = planner_letters(table, WORDS, 0, 0, letters, steps);
-    answers[7] = planner_cut_length(table, WORDS, 0, 0, lengths, EDGES);
+    answers[7] = planner_cut_length(table, WORDS, 0, 0);
     answers[8] = planner_float_path(table, WORDS, 0, 0, points, 3 * VERTICES, lifts, 3 * EDGES, kinds, steps + 1, coords, 3 * (steps + 1));
     answers[24] = planner_whole_path(table, WORDS, 0, 0, points, 3 * VERTICES, lifts, 3 * EDGES, kinds, steps + 1, wholes, 3 * (steps + 1),
                                      remainders, 3 * (steps + 1));
@@ -113,28 +115,30 @@ static void make_a_trial_job(void) {
 /* The record of each mark, each into an output of its exact size; the longest into one byte less; a mark that is none. */
 static void write_records(void) {
     uint8_t *end = record + PLANNER_RECORD_BYTES;
-    answers[27] = planner_job_record(PLANNER_MARK_AV, 65535, 65535, 65535, -1, end - 4, 4);
-    answers[28] = planner_job_record(PLANNER_MARK_RV, 65535, 65535, 65535, -1, end - 4, 4);
-    answers[29] = planner_job_record(PLANNER_MARK_DE, 65535, 65535, 65535, -1, end - 4, 4);
-    answers[30] = planner_job_record(PLANNER_MARK_TW, 65535, 65535, 65535, -1, end - 6, 6);
-    answers[31] = planner_job_record(PLANNER_MARK_IE, 65535, 65535, 65535, -1, record, PLANNER_RECORD_BYTES);
-    answers[32] = planner_job_record(PLANNER_MARK_IE, 0, 0, 0, 0, record + 1, PLANNER_RECORD_BYTES - 1);
-    answers[33] = planner_job_record(0, 0, 0, 0, 0, end, 0);
+    answers[27] = planner_job_record(PLANNER_MARK_AV, 65535, 65535, 65535, -1, 65535, end - 4, 4);
+    answers[28] = planner_job_record(PLANNER_MARK_RV, 65535, 65535, 65535, -1, 65535, end - 4, 4);
+    answers[29] = planner_job_record(PLANNER_MARK_DE, 65535, 65535, 65535, -1, 65535, end - 4, 4);
+    answers[30] = planner_job_record(PLANNER_MARK_TW, 65535, 65535, 65535, -1, 65535, end - 6, 6);
+    answers[31] = planner_job_record(PLANNER_MARK_IE, 65535, 65535, 65535, -1, 65535, end - 10, 10);
+    answers[32] = planner_job_record(PLANNER_MARK_IL, 65535, 65535, 65535, -1, 65535, record, PLANNER_RECORD_BYTES);
+    answers[33] = planner_job_record(PLANNER_MARK_IL, 0, 0, 0, 0, 0, record + 1, PLANNER_RECORD_BYTES - 1);
+    answers[34] = planner_job_record(0, 0, 0, 0, 0, 0, end, 0);
 }
 
 /* A whole walk, step by step: it ends, or a step is declined. */
 static void read_a_walk(void) {
     int64_t ends = 0;
     while (ends == 0) {
-        ends = planner_walk_step(table, WORDS, reader, lengths, EDGES, tally);
+        ends = planner_walk_step(table, WORDS, reader, tally);
     }
     answers[16] = ends;
 }
 
-/* The path of most pieces, with 99 turns on every edge. */
+/* The path of most pieces, with 99 turns on every edge, and the largest cut length. */
 enum { MOST = 2048 * 99 + 1 };
 
 static void read_the_longest_path(void) {
+    answers[35] = planner_cut_length(table, WORDS, 0, 0);
     answers[25] = planner_whole_path(table, WORDS, 0, 0, points, 3 * VERTICES, lifts, 3 * EDGES, kinds, MOST, wholes, 3 * MOST, remainders, 3 * MOST);
 }
 
@@ -168,6 +172,8 @@ static void try_the_longest_path(void) {
     check(answers[25] == 202753 && kinds[MOST - 1] == PLANNER_CLOSE, "the whole path of 202,753 pieces");
     /* Edge 0 from 65,536 to -65,536: the way to its first crossing is -131,072 by 198, -662 and 4 left. */
     check(kinds[0] == PLANNER_OVER && wholes[0] == 64874 && remainders[0] == 4, "its first crossing");
+    /* The 99 crossings of an edge are met twice, each once over and once under. */
+    check(answers[35] == 2048 * 65535 + 1024 * 99 * 8 + 320, "and the largest cut length");
     check(turn_all(-98), "and one turn again");
 }
 
@@ -177,15 +183,15 @@ static void calls_that_forecast(void) {
     answers[18] = planner_commit_turn_edge(table, WORDS, EDGES - 1, -1, answers[17]);
     answers[19] = planner_ask_delete_edge(table, WORDS, EDGES - 1);
     answers[20] = planner_commit_delete_edge(table, WORDS, EDGES - 1, answers[19]);
-    answers[21] = planner_ask_insert_edge(table, WORDS, EDGES - 1, 0, 0, 1);
-    answers[22] = planner_commit_insert_edge(table, WORDS, EDGES - 1, 0, 0, 1, answers[21]);
+    answers[21] = planner_ask_insert_edge(table, WORDS, EDGES - 1, 0, 0, 1, LONGEST);
+    answers[22] = planner_commit_insert_edge(table, WORDS, EDGES - 1, 0, 0, 1, LONGEST, answers[21]);
     answers[23] = planner_commit_turn_edge(table, WORDS, EDGES - 1, -2, answers[17]);
 }
 
 static void calls_that_write(void) {
     answers[9] = planner_turn_edge(table, WORDS, EDGES - 1, -1);
     answers[10] = planner_delete_edge(table, WORDS, EDGES - 1);
-    answers[11] = planner_insert_edge(table, WORDS, EDGES - 1, 1, 1, 0);
+    answers[11] = planner_insert_edge(table, WORDS, EDGES - 1, 1, 1, 0, LONGEST);
     answers[12] = planner_delete_edge(table, WORDS, VERTICES - 2);
     answers[13] = planner_remove_vertex(table, WORDS, VERTICES - 1);
     answers[14] = planner_add_vertex(table, WORDS, VERTICES - 1);
@@ -204,7 +210,6 @@ static void measure(void) {
     letters = (uint8_t *)lend(steps);
     trial = (uint8_t *)lend(TRIAL);
     record = (uint8_t *)lend(PLANNER_RECORD_BYTES);
-    lengths = (uint32_t *)lend(EDGES * sizeof *lengths);
     points = (int32_t *)lend(3 * VERTICES * sizeof *points);
     lifts = (int32_t *)lend(3 * EDGES * sizeof *lifts);
     kinds = (uint16_t *)lend((steps + 1) * sizeof *kinds);
@@ -222,9 +227,6 @@ int main(void) {
     table = (uint16_t *)lend(WORDS * sizeof *table);
     check(build(), "a full table is built by edits");
     measure();
-    for (i = 0; i < EDGES; i++) {
-        lengths[i] = 65535;
-    }
     on_small_stack(calls_that_read);
     check(answers[0] == 0 && answers[1] == (int64_t)words && answers[2] == 5 && answers[3] == 6, "the listing, the counts, the part");
     check(answers[4] == 1 && answers[5] == 1 && answers[6] == (int64_t)steps, "one hand: the ribbons alternate");
@@ -234,9 +236,10 @@ int main(void) {
     /* Its last record is that of edge 1,023. */
     check(answers[26] == 10272 && trial[TRIAL - 10] == 'I' && trial[TRIAL - 8] == 3 && trial[TRIAL - 7] == 255, "a trial job of 1,024 edges");
     on_small_stack(write_records);
-    check(answers[27] == 4 && answers[28] == 4 && answers[29] == 4 && answers[30] == 6 && answers[31] == 10, "a job record of each mark");
-    check(answers[32] == -PLANNER_SHORT_SLICE && answers[33] == -PLANNER_BAD_MARK, "a short one and a bad mark");
-    check(record[0] == 'I' && record[1] == 'E' && record[2] == 255 && record[9] == 255, "and the insertion's stays");
+    check(answers[27] == 4 && answers[28] == 4 && answers[29] == 4 && answers[30] == 6 && answers[31] == 10 && answers[32] == 12,
+          "a job record of each mark");
+    check(answers[33] == -PLANNER_SHORT_SLICE && answers[34] == -PLANNER_BAD_MARK, "a short one and a bad mark");
+    check(record[0] == 'I' && record[1] == 'L' && record[2] == 255 && record[11] == 255, "and the insertion's stays");
     on_small_stack(read_a_walk);
     check(answers[16] == 1 && tally->steps == 2048 && tally->overs == 1024 && tally->unders == 1024 && tally->length == length,
           "the walk again, step by step, with its tally");

@@ -1,5 +1,6 @@
 // The check of a whole table.
 use crate::dart::live_darts;
+use crate::length::lengths_fit;
 use crate::vertex::all_led_darts;
 use table::answer::Answer;
 use table::answer::Refusal;
@@ -13,6 +14,9 @@ pub fn is_good(t: &[u16]) -> bool
     ensures { λ r. ⌜ r ≡ good? (now (t .entry)) ⌝ }
 {
     if t.len() != WORDS {
+        return false;
+    }
+    if !lengths_fit(t) {
         return false;
     }
     let Counted::Of(live) = live_darts(t) else {

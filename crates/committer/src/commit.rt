@@ -39,16 +39,17 @@ pub fn commit_insert_edge(
     c1: u16,
     c2: u16,
     k: i16,
+    length: u16,
     forecast: Forecast,
 ) -> Reply
-    ensures { λ r. ⌜ (r ≡ commitReply (now (t .entry)) (InsertEdge e c1 c2 k) forecast)
-        × (now (t .exit) ≡ committed (now (t .entry)) (InsertEdge e c1 c2 k) forecast) ⌝ }
+    ensures { λ r. ⌜ (r ≡ commitReply (now (t .entry)) (InsertEdge e c1 c2 k length) forecast)
+        × (now (t .exit) ≡ committed (now (t .entry)) (InsertEdge e c1 c2 k length) forecast) ⌝ }
 {
-    match commit_verdict(forecast, ask_insert_edge(t, e, c1, c2, k)) {
+    match commit_verdict(forecast, ask_insert_edge(t, e, c1, c2, k, length)) {
         Verdict::Declines(r) => Reply::Refused(r),
         Verdict::Passes => {
             let w = turned_word(100, k);
-            insert(t, e as usize, c1 as usize, c2 as usize, w);
+            insert(t, e as usize, c1 as usize, c2 as usize, w, length);
             told(forecast)
         }
     }

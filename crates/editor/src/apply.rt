@@ -23,7 +23,8 @@ pub fn apply(t: &mut [u16], edit: Edit) -> Reply
             first,
             second,
             turns,
-        } => insert_edge(t, edge, first, second, turns),
+            length,
+        } => insert_edge(t, edge, first, second, turns, length),
         Edit::DeleteEdge(e) => delete_edge(t, e),
         Edit::TurnEdge { edge, amount } => turn_edge(t, edge, amount),
     }

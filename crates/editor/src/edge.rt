@@ -8,6 +8,7 @@ use rules::turning::turn_rule;
 use splicing::splice::link;
 use splicing::splice::unlink;
 use table::layout::EDGE;
+use table::layout::LENGTH;
 use verdicts::turns::turned_word;
 use verdicts::verdict::delete_verdict;
 use verdicts::verdict::insert_verdict;
@@ -21,15 +22,16 @@ ghost use Rattle.edits.specs.declared.edit.Edit.the-variants.{InsertEdge, Delet
 ghost use Rattle.edits.specs.laws.Ready.{InsertReady, DeleteReady};
 ghost use Rattle.table.specs.Layout.{edges};
 
-// Puts edge e, of word w, between corners c1 and c2. The second dart goes first, so that with one corner for both the first stands before it.
-pub fn insert(t: &mut [u16], e: usize, c1: usize, c2: usize, w: u16)
+// Puts edge e, of word w and a length, between corners c1 and c2. The second dart goes first, so that with one corner for both the first stands before it.
+pub fn insert(t: &mut [u16], e: usize, c1: usize, c2: usize, w: u16, length: u16)
     requires { ⌜ InsertReady (now t) e c1 c2 ⌝ }
-    ensures { λ _. ⌜ now (t .exit) ≡ inserted (now (t .entry)) e c1 c2 w ⌝ }
+    ensures { λ _. ⌜ now (t .exit) ≡ inserted (now (t .entry)) e c1 c2 w length ⌝ }
 {
     link(t, 2 * e + 1, c2);
     let c = first_corner(e, c1, c2);
     link(t, 2 * e, c);
     t[EDGE + e] = w;
+    t[LENGTH + e] = length;
 }
 
 // The corner of the first dart, once the second is in.
@@ -43,16 +45,16 @@ fn first_corner(e: usize, c1: usize, c2: usize) -> usize
     c1
 }
 
-// Inserts edge e with turns k: dart 2e into corner c1, 2e+1 into c2. Answers the new face count and the rule met.
-pub fn insert_edge(t: &mut [u16], e: u16, c1: u16, c2: u16, k: i16) -> Reply
-    ensures { λ r. ⌜ (r ≡ reply (now (t .entry)) (InsertEdge e c1 c2 k)) × (now (t .exit) ≡ edited (now (t .entry)) (InsertEdge e c1 c2 k)) ⌝ }
+// Inserts edge e with turns k and a length: dart 2e into corner c1, 2e+1 into c2. Answers the new face count and the rule met.
+pub fn insert_edge(t: &mut [u16], e: u16, c1: u16, c2: u16, k: i16, length: u16) -> Reply
+    ensures { λ r. ⌜ (r ≡ reply (now (t .entry)) (InsertEdge e c1 c2 k length)) × (now (t .exit) ≡ edited (now (t .entry)) (InsertEdge e c1 c2 k length)) ⌝ }
 {
-    match insert_verdict(t, e, c1, c2, k) {
+    match insert_verdict(t, e, c1, c2, k, length) {
         Verdict::Declines(r) => Reply::Refused(r),
         Verdict::Passes => {
             let w = turned_word(100, k);
             let ruling = insert_rule(t, c1, c2, w);
-            insert(t, e as usize, c1 as usize, c2 as usize, w);
+            insert(t, e as usize, c1 as usize, c2 as usize, w, length);
             by_rule(ruling)
         }
     }
@@ -66,6 +68,7 @@ pub fn delete(t: &mut [u16], e: usize)
     unlink(t, 2 * e);
     unlink(t, 2 * e + 1);
     t[EDGE + e] = 0;
+    t[LENGTH + e] = 0;
 }
 
 // Deletes edge e. Answers the new face count and the rule met.

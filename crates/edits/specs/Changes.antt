@@ -22,6 +22,6 @@ turnChange (suc n) c = c
 abbrev pub change : List ℕ → Edit → Change
 change t (AddVertex v) = more
 change t (RemoveVertex v) = less
-change t (InsertEdge e c₁ c₂ k) = insertion (meetingOf (rotation t) c₁ c₂) (oddness k)
+change t (InsertEdge e c₁ c₂ k n) = insertion (meetingOf (rotation t) c₁ c₂) (oddness k)
 change t (DeleteEdge e) = deletion (sidesOf (rotation t) e)
 change t (TurnEdge e a) = turnChange (oddness a) (turning (sidesOf (rotation t) e))

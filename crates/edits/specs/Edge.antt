@@ -4,7 +4,7 @@ use mathlib.Core.Bool.{true, false, cond}
 use mathlib.Core.List.{List}
 use lib.Dec.{eqb, ltb}
 use Rattle.table.specs.Layout.{darts, nothing, isolated, nextWord, prevWord, leaves, vertexWord, loneAt}
-use Rattle.table.specs.Writes.{setEdge, setNext, setPrev, setLeaves, setVertex}
+use Rattle.table.specs.Writes.{setEdge, setNext, setPrev, setLeaves, setVertex, setLength}
 
 -- b comes next after a
 abbrev pub tie : List ℕ → ℕ → ℕ → List ℕ
@@ -26,9 +26,13 @@ link t x c = cond (ltb c darts) (splice t x c (prevWord t c) (leaves t c) (lesse
 abbrev pub firstCorner : ℕ → ℕ → ℕ → ℕ
 firstCorner e c₁ c₂ = cond (eqb c₁ c₂) (2 * e + 1) c₁
 
--- edge e with word w between corners c1 and c2
-abbrev pub inserted : List ℕ → ℕ → ℕ → ℕ → ℕ → List ℕ
-inserted t e c₁ c₂ w = setEdge (link (link t (2 * e + 1) c₂) (2 * e) (firstCorner e c₁ c₂)) e w
+-- edge e's own words: its turns' word and, document 02, request g, its length
+abbrev pub setOwn : List ℕ → ℕ → ℕ → ℕ → List ℕ
+setOwn t e w n = setLength (setEdge t e w) e n
+
+-- edge e with word w and length n between corners c1 and c2
+abbrev pub inserted : List ℕ → ℕ → ℕ → ℕ → ℕ → ℕ → List ℕ
+inserted t e c₁ c₂ w n = setOwn (link (link t (2 * e + 1) c₂) (2 * e) (firstCorner e c₁ c₂)) e w n
 
 -- n comes next after p, and x is no dart of a vertex any more
 abbrev pub cut : List ℕ → ℕ → ℕ → ℕ → List ℕ
@@ -49,6 +53,6 @@ taken t x = cut t x (nextWord t x) (prevWord t x)
 abbrev pub unlink : List ℕ → ℕ → List ℕ
 unlink t x = setVertex (taken t x) (leaves t x) (successor (taken t x) (leaves t x) x (vertexWord t (leaves t x)))
 
--- edge e taken out
+-- edge e taken out; "deletion sets it to 0"
 abbrev pub deleted : List ℕ → ℕ → List ℕ
-deleted t e = setEdge (unlink (unlink t (2 * e)) (2 * e + 1)) e 0
+deleted t e = setOwn (unlink (unlink t (2 * e)) (2 * e + 1)) e 0 0

@@ -1,6 +1,8 @@
 -- The five edits, document 01, "Edits": the table that each leaves, and its answer. A declined edit leaves every word, and answers its number alone.
 use Prim.Native.Nat.{ℕ}
+use mathlib.Core.Bool.{cond}
 use mathlib.Core.List.{List}
+use lib.Dec.{eqb}
 use Rattle.table.specs.Layout.{nothing, isolated, edgeWord}
 use Rattle.table.specs.Rotation.{rotation}
 use Rattle.table.specs.Writes.{setVertex, setEdge}
@@ -20,9 +22,18 @@ use Rattle.table.specs.Answers.{ifDone}
 abbrev pub written : List ℕ → Edit → List ℕ
 written t (AddVertex v) = setVertex t v isolated
 written t (RemoveVertex v) = setVertex t v nothing
-written t (InsertEdge e c₁ c₂ k) = inserted t e c₁ c₂ (turnedWord 100 k)
+written t (InsertEdge e c₁ c₂ k n) = inserted t e c₁ c₂ (turnedWord 100 k) n
 written t (DeleteEdge e) = deleted t e
 written t (TurnEdge e a) = setEdge t e (turnedWord (edgeWord t e) a)
+
+-- document 02, request g: "Insertion takes a length .. and deletion sets it to 0; no other edit alters one": the length of edge i after an accepted
+-- edit, where it was l
+abbrev pub lengthAfter : Edit → ℕ → ℕ → ℕ
+lengthAfter (AddVertex v) i l = l
+lengthAfter (RemoveVertex v) i l = l
+lengthAfter (InsertEdge e c₁ c₂ k n) i l = cond (eqb i e) n l
+lengthAfter (DeleteEdge e) i l = cond (eqb i e) 0 l
+lengthAfter (TurnEdge e a) i l = l
 
 -- "Each accepted edit answers the new face count."
 abbrev answerBy : Verdict → List ℕ → Answer

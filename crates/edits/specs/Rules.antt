@@ -38,7 +38,7 @@ turnRule (suc n) c = ruleFor c
 abbrev pub ruleOf : List ℕ → Edit → Option Rule
 ruleOf t (AddVertex v) = none
 ruleOf t (RemoveVertex v) = none
-ruleOf t (InsertEdge e c₁ c₂ k) = some (ruleFor (insertion (meetingOf (rotation t) c₁ c₂) (oddness k)))
+ruleOf t (InsertEdge e c₁ c₂ k n) = some (ruleFor (insertion (meetingOf (rotation t) c₁ c₂) (oddness k)))
 ruleOf t (DeleteEdge e) = some (ruleFor (deletion (sidesOf (rotation t) e)))
 ruleOf t (TurnEdge e a) = some (turnRule (oddness a) (turning (sidesOf (rotation t) e)))
 

@@ -3,8 +3,9 @@ use Prim.Native.Nat.{ℕ, _+_, _*_}
 use mathlib.Core.Path.{_≡_}
 use mathlib.Core.List.{List}
 use mathlib.Core.Option.{some}
+use Rattle.table.specs.Layout.{lengthWord}
 use Rattle.table.specs.Good.{Good}
-use Rattle.edits.specs.Edits.{written, edited, answer}
+use Rattle.edits.specs.Edits.{written, edited, answer, lengthAfter}
 use Rattle.edits.specs.Rules.{ruleOf, ruleChange, reply, replyCode, facesRead, ruleRead, numberMet}
 use Rattle.edits.specs.declared.rule.Rule.{Rule}
 use Rattle.edits.specs.declared.edit.Edit.{Edit}
@@ -50,18 +51,18 @@ pub edited-declines : (t : List ℕ) (E : Edit) → (r : Refusal) → verdict t 
 edited-declines = edits.edited-declines
 
 -- an inserted edge taken out of the rotation leaves the old one
-pub insert-without : (t : List ℕ) (e c₁ c₂ : ℕ) (k : ℤ) (p : verdict t (InsertEdge e c₁ c₂ k) ≡ Passes)
-    → Without (rotation (written t (InsertEdge e c₁ c₂ k))) e (rotation t)
+pub insert-without : (t : List ℕ) (e c₁ c₂ : ℕ) (k : ℤ) (n : ℕ) (p : verdict t (InsertEdge e c₁ c₂ k n) ≡ Passes)
+    → Without (rotation (written t (InsertEdge e c₁ c₂ k n))) e (rotation t)
 insert-without = accepted.insert-without
 
 -- "each just before the dart that names the corner"
-pub insert-sits : (t : List ℕ) (e c₁ c₂ : ℕ) (k : ℤ) (p : verdict t (InsertEdge e c₁ c₂ k) ≡ Passes)
-    → Inserted (rotation (written t (InsertEdge e c₁ c₂ k))) e (rotation t) c₁ c₂
+pub insert-sits : (t : List ℕ) (e c₁ c₂ : ℕ) (k : ℤ) (n : ℕ) (p : verdict t (InsertEdge e c₁ c₂ k n) ≡ Passes)
+    → Inserted (rotation (written t (InsertEdge e c₁ c₂ k n))) e (rotation t) c₁ c₂
 insert-sits = accepted.insert-sits
 
 -- "With c1 = c2 the order is old, 2e, 2e+1, d"
-pub insert-order : (t : List ℕ) (e c₁ c₂ : ℕ) (k : ℤ) (p : verdict t (InsertEdge e c₁ c₂ k) ≡ Passes) → c₁ ≡ c₂
-    → nextDart (written t (InsertEdge e c₁ c₂ k)) (2 * e) ≡ 2 * e + 1
+pub insert-order : (t : List ℕ) (e c₁ c₂ : ℕ) (k : ℤ) (n : ℕ) (p : verdict t (InsertEdge e c₁ c₂ k n) ≡ Passes) → c₁ ≡ c₂
+    → nextDart (written t (InsertEdge e c₁ c₂ k n)) (2 * e) ≡ 2 * e + 1
 insert-order = accepted.insert-order
 
 -- the rotation after a deletion is the old one without the edge
@@ -69,6 +70,10 @@ pub delete-without : (t : List ℕ) (e : ℕ) → verdict t (DeleteEdge e) ≡ P
 delete-without = accepted.delete-without
 
 -- deleting what was inserted gives the first table back, word for word
-pub insert-delete : (t : List ℕ) (e c₁ c₂ : ℕ) (k : ℤ) (p : verdict t (InsertEdge e c₁ c₂ k) ≡ Passes)
-    → written (written t (InsertEdge e c₁ c₂ k)) (DeleteEdge e) ≡ t
+pub insert-delete : (t : List ℕ) (e c₁ c₂ : ℕ) (k : ℤ) (n : ℕ) (p : verdict t (InsertEdge e c₁ c₂ k n) ≡ Passes)
+    → written (written t (InsertEdge e c₁ c₂ k n)) (DeleteEdge e) ≡ t
 insert-delete = accepted.insert-delete
+
+-- document 02, request g: "Insertion takes a length .. and deletion sets it to 0; no other edit alters one"
+pub written-length : (t : List ℕ) (E : Edit) → verdict t E ≡ Passes → (i : ℕ) → lengthWord (written t E) i ≡ lengthAfter E i (lengthWord t i)
+written-length = accepted.written-length

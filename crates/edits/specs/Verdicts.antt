@@ -4,13 +4,13 @@
 use Prim.Native.Nat.{ℕ}
 use mathlib.Core.Bool.{Bool, not, _&&_}
 use mathlib.Core.List.{List}
-use lib.Dec.{eqb, ltb}
+use lib.Dec.{eqb, ltb, leb}
 use lib.IntN.{ℤ, _+ℤ_}
-use Rattle.table.specs.Layout.{vertices, edges, nothing, isolated, edgeWord, vertexWord}
+use Rattle.table.specs.Layout.{vertices, edges, nothing, isolated, edgeWord, vertexWord, longest}
 use Rattle.table.specs.Rotation.{rotation}
 use Rattle.table.specs.Check.{good?}
 use Rattle.table.specs.Answers.{unless}
-use Rattle.table.specs.declared.answer.Refusal.the-variants.{Torn, NoSuchName, Taken, Absent, Joined, Overturned}
+use Rattle.table.specs.declared.answer.Refusal.the-variants.{Torn, NoSuchName, Taken, Absent, Joined, Overturned, Far}
 use Rattle.tracing.specs.Corner.{wellFormed, present}
 use Rattle.edits.specs.Turns.{turnsIn, overturned}
 use Rattle.edits.specs.declared.edit.Edit.{Edit}
@@ -62,7 +62,7 @@ oldEdge t e =
 abbrev pub onNames : List ℕ → Edit → Verdict
 onNames t (AddVertex v) = newVertex t v
 onNames t (RemoveVertex v) = oldVertex t v
-onNames t (InsertEdge e c₁ c₂ k) = newEdge t e c₁ c₂
+onNames t (InsertEdge e c₁ c₂ k n) = newEdge t e c₁ c₂
 onNames t (DeleteEdge e) = oldEdge t e
 onNames t (TurnEdge e a) = oldEdge t e
 
@@ -74,18 +74,22 @@ isolation w = unless (eqb w isolated) (Declines Joined) Passes
 abbrev pub fewTurns : ℤ → Verdict
 fewTurns k = unless (not (overturned k)) (Declines Overturned) Passes
 
--- 5 and 6
-abbrev pub onLimits : List ℕ → Edit → Verdict
-onLimits t (AddVertex v) = Passes
-onLimits t (RemoveVertex v) = isolation (vertexWord t v)
-onLimits t (InsertEdge e c₁ c₂ k) = fewTurns k
-onLimits t (DeleteEdge e) = Passes
-onLimits t (TurnEdge e a) = fewTurns (turnsIn (edgeWord t e) +ℤ a)
+-- 9, "A length of 0 on insertion is 9, the last of the edit's own numbers": a length is from 1 to 65,535
+abbrev pub fairLength : ℕ → Verdict
+fairLength n = unless (ltb 0 n && leb n longest) (Declines Far) Passes
 
 -- one list of tests after another
 abbrev pub andThen : Verdict → Verdict → Verdict
 andThen Passes v = v
 andThen (Declines r) v = Declines r
+
+-- 5, 6 and 9
+abbrev pub onLimits : List ℕ → Edit → Verdict
+onLimits t (AddVertex v) = Passes
+onLimits t (RemoveVertex v) = isolation (vertexWord t v)
+onLimits t (InsertEdge e c₁ c₂ k n) = andThen (fewTurns k) (fairLength n)
+onLimits t (DeleteEdge e) = Passes
+onLimits t (TurnEdge e a) = fewTurns (turnsIn (edgeWord t e) +ℤ a)
 
 abbrev pub verdict : List ℕ → Edit → Verdict
 verdict t E = andThen (onNames t E) (onLimits t E)

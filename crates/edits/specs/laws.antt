@@ -7,6 +7,7 @@ pub mod Seat
 pub mod Link
 pub mod Edge
 pub mod Ready
+pub mod Lengths
 pub mod Deleted
 pub mod Inserted
 pub mod Marked

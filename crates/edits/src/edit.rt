@@ -9,6 +9,7 @@ pub enum Edit {
         first: u16,
         second: u16,
         turns: i16,
+        length: u16,
     },
     DeleteEdge(u16),
     TurnEdge {

@@ -1,11 +1,17 @@
 -- Edits as job records, document 01, "The job program": the bytes of a record and of a job, for whoever writes a job file. Crate `records` reads them.
+--     recordBy, editFor     the bytes of a mark with its arguments;   the edit that they say
 --     recordOf, jobOf       the bytes of an edit;     of a list of edits
 --     Sixteen, AllSixteen   edits whose arguments are 16-bit words
 --     Bytes                 numbers that are bytes
 use Prim.Native.Nat.{ℕ, _-_, _/_, _%_, _<_}
+use mathlib.Core.Bool.{cond}
 use mathlib.Core.List.{List, [], _∷_, _++_, flatMap}
+use lib.Dec.{eqb}
 use lib.IntN.{ℤ, pos, negsuc}
 use lib.ListN.{getD}
+use Rattle.records.specs.Records.{plainLength}
+use Rattle.records.specs.declared.records.Mark.{Mark}
+use Rattle.records.specs.declared.records.Mark.the-variants.{AV, RV, IE, IL, DE, TW}
 use Rattle.edits.specs.declared.edit.Edit.{Edit}
 use Rattle.edits.specs.declared.edit.Edit.the-variants.{AddVertex, RemoveVertex, InsertEdge, DeleteEdge, TurnEdge}
 
@@ -18,13 +24,39 @@ abbrev pub complement : ℤ → ℕ
 complement (pos n) = n
 complement (negsuc n) = 65535 - n
 
--- "a two-byte mark, then 16-bit words": the letters' codes. "AV v; RV v; IE e c1 c2 k; DE e; TW e amount"
+-- the words of an insertion: "e c1 c2 k"
+abbrev pub insertionWords : ℕ → ℕ → ℕ → ℤ → List ℕ
+insertionWords e c₁ c₂ k = bytesOf e ++ (bytesOf c₁ ++ (bytesOf c₂ ++ bytesOf (complement k)))
+
+-- "a two-byte mark, then 16-bit words": the letters' codes. "AV v; RV v; IE e c1 c2 k; DE e; TW e amount", and document 02, request g, "Record IL is IE with
+-- one more word, the last, for the length". What a mark has no use for is not looked at.
+abbrev pub recordBy : Mark → ℕ → ℕ → ℕ → ℤ → ℕ → List ℕ
+recordBy AV name c₁ c₂ k n = 65 ∷ 86 ∷ bytesOf name
+recordBy RV name c₁ c₂ k n = 82 ∷ 86 ∷ bytesOf name
+recordBy IE name c₁ c₂ k n = 73 ∷ 69 ∷ insertionWords name c₁ c₂ k
+recordBy IL name c₁ c₂ k n = 73 ∷ 76 ∷ (insertionWords name c₁ c₂ k ++ bytesOf n)
+recordBy DE name c₁ c₂ k n = 68 ∷ 69 ∷ bytesOf name
+recordBy TW name c₁ c₂ k n = 84 ∷ 87 ∷ (bytesOf name ++ bytesOf (complement k))
+
+-- the edit that such a record says; "a plain IE writes 16"
+abbrev pub editFor : Mark → ℕ → ℕ → ℕ → ℤ → ℕ → Edit
+editFor AV name c₁ c₂ k n = AddVertex name
+editFor RV name c₁ c₂ k n = RemoveVertex name
+editFor IE name c₁ c₂ k n = InsertEdge name c₁ c₂ k plainLength
+editFor IL name c₁ c₂ k n = InsertEdge name c₁ c₂ k n
+editFor DE name c₁ c₂ k n = DeleteEdge name
+editFor TW name c₁ c₂ k n = TurnEdge name k
+
+-- an insertion of length 16 needs no IL
+abbrev pub insertionMark : ℕ → Mark
+insertionMark n = cond (eqb n plainLength) IE IL
+
 abbrev pub recordOf : Edit → List ℕ
-recordOf (AddVertex v) = 65 ∷ 86 ∷ bytesOf v
-recordOf (RemoveVertex v) = 82 ∷ 86 ∷ bytesOf v
-recordOf (InsertEdge e c₁ c₂ k) = 73 ∷ 69 ∷ (bytesOf e ++ (bytesOf c₁ ++ (bytesOf c₂ ++ bytesOf (complement k))))
-recordOf (DeleteEdge e) = 68 ∷ 69 ∷ bytesOf e
-recordOf (TurnEdge e a) = 84 ∷ 87 ∷ (bytesOf e ++ bytesOf (complement a))
+recordOf (AddVertex v) = recordBy AV v 0 0 (pos 0) 0
+recordOf (RemoveVertex v) = recordBy RV v 0 0 (pos 0) 0
+recordOf (InsertEdge e c₁ c₂ k n) = recordBy (insertionMark n) e c₁ c₂ k n
+recordOf (DeleteEdge e) = recordBy DE e 0 0 (pos 0) 0
+recordOf (TurnEdge e a) = recordBy TW e 0 0 a 0
 
 -- a job is its records, one after the other
 abbrev pub jobOf : List Edit → List ℕ
@@ -42,7 +74,7 @@ SignedWord (negsuc n) = n < 32768
 abbrev pub Sixteen : Edit → Type 0
 Sixteen (AddVertex v) = Word v
 Sixteen (RemoveVertex v) = Word v
-Sixteen (InsertEdge e c₁ c₂ k) = Word e × Word c₁ × Word c₂ × SignedWord k
+Sixteen (InsertEdge e c₁ c₂ k n) = Word e × Word c₁ × Word c₂ × SignedWord k × Word n
 Sixteen (DeleteEdge e) = Word e
 Sixteen (TurnEdge e a) = Word e × SignedWord a
 

@@ -2,17 +2,24 @@
 use Prim.Native.Nat.{ℕ}
 use mathlib.Core.Path.{_≡_}
 use mathlib.Core.List.{List, _++_}
+use lib.IntN.{ℤ}
 use lib.ListN.{length}
 use Rattle.edits.specs.declared.edit.Edit.{Edit}
+use Rattle.records.specs.declared.records.Mark.{Mark}
 use Rattle.records.specs.declared.records.Found.the-variants.{Record}
 use Rattle.records.specs.declared.records.Stop.the-variants.{End}
 use Rattle.records.specs.Records.{firstRecord}
 use Rattle.records.specs.Reading.{reading}
-use Rattle.encoding.specs.Encoding.{recordOf, jobOf, Sixteen, AllSixteen, Bytes}
+use Rattle.encoding.specs.Encoding.{recordBy, editFor, recordOf, jobOf, SignedWord, Sixteen, AllSixteen, Bytes}
 use Rattle.encoding.specs.laws.Bytes as bytes
 use Rattle.encoding.specs.laws.Encoding as encoding
 
--- a record is read back, whatever follows it
+-- the record of a mark is read back, whatever follows it, as the edit that it says
+pub mark-read : (name c₁ c₂ : ℕ) (k : ℤ) (n : ℕ) → SignedWord k → (rest : List ℕ) (m : Mark)
+    → firstRecord (recordBy m name c₁ c₂ k n ++ rest) ≡ Record (editFor m name c₁ c₂ k n) (length (recordBy m name c₁ c₂ k n))
+mark-read = encoding.mark-read
+
+-- and so is the record of an edit
 pub record-read : (E : Edit) → Sixteen E → (rest : List ℕ) → firstRecord (recordOf E ++ rest) ≡ Record E (length (recordOf E))
 record-read = encoding.record-read
 

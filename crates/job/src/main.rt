@@ -10,6 +10,7 @@ use records::records::Stop;
 use records::records::reads_on;
 use report::report::show;
 use table::empty::empty;
+use table::layout::WORDS;
 ghost use Prim.Native.Nat.{_+_, _≤_, _<_, _^_};
 ghost use mathlib.Core.Path.{_≡_};
 ghost use mathlib.Core.Bool.{true};
@@ -19,6 +20,7 @@ ghost use Rattle.table.specs.Layout.{words};
 ghost use Rattle.table.specs.Empty.{emptyTable};
 ghost use Rattle.lines.specs.Lines.{report};
 ghost use Rattle.runs.specs.Run.{run};
+ghost use Rattle.records.specs.Records.{longestRecord};
 ghost use Rattle.records.specs.Reading.{reading};
 ghost use Rattle.records.specs.Blocks.{left};
 ghost use Rattle.records.specs.Lines.{stopLine};
@@ -109,7 +111,7 @@ fn run_and_print(t: &mut [u16], buf: &mut [u8], came: usize, p: Progress) -> Pro
 
 // Reads once and runs the records of what came.
 fn read_block(t: &mut [u16], buf: &mut [u8], p: Progress) -> Progress
-    requires { ⌜ (length (now buf) ≡ 4096) × (p .left < 10) × (p .next ≤ 2 ^ 61) × (p .read ≤ 2 ^ 61) × (p .printed ≤ 2 ^ 63) ⌝ }
+    requires { ⌜ (length (now buf) ≡ 4096) × (p .left < longestRecord) × (p .next ≤ 2 ^ 61) × (p .read ≤ 2 ^ 61) × (p .printed ≤ 2 ^ 63) ⌝ }
     ensures { λ r. ⌜ Turn (now (t .entry)) (now (buf .entry)) p (now (t .exit)) (now (buf .exit)) r ⌝ }
 {
     let left = p.left;
@@ -223,6 +225,6 @@ fn run_job(t: &mut [u16]) -> Job
 }
 
 fn main() {
-    let mut t = [0u16; 7680];
+    let mut t = [0u16; WORDS];
     run_job(&mut t);
 }

@@ -1,7 +1,7 @@
 -- The theorems of this crate, document 02, d. Each is proved by the law of its name.
 use Prim.Native.Nat.{ℕ, _/_, _<_, _≤_}
 use mathlib.Core.Path.{_≡_}
-use mathlib.Core.Bool.{true, false}
+use mathlib.Core.Bool.{true}
 use mathlib.Core.List.{List}
 use mathlib.Core.Logic.{_≢_}
 use Rattle.table.specs.Layout.{leaves}
@@ -13,32 +13,30 @@ use Rattle.tracing.specs.Walk.{walk}
 use Rattle.tracing.specs.Listing.{has, loneCorner}
 use Rattle.weave.specs.declared.named.Named.the-variants.{There}
 use Rattle.weave.specs.Calls.{namedStep}
-use Rattle.weave.specs.Ribbon.{some}
-use Rattle.lengths.specs.CutLength.{farLength, sawLength, cutLengthOf}
+use Rattle.lengths.specs.CutLength.{sawLength, cutLengthOf}
 use Rattle.lengths.specs.laws.Sense as sense
 
 -- the cut length does not depend on the step that names the ribbon
-pub saw-named : (t : List ℕ) (g : Good t) (lengths : List ℕ) (s x : ℕ) → s < steps → has x (walk (rotation t) s) ≡ true → sawLength t lengths s ≡ sawLength t lengths x
+pub saw-named : (t : List ℕ) (g : Good t) (s x : ℕ) → s < steps → has x (walk (rotation t) s) ≡ true → sawLength t s ≡ sawLength t x
 saw-named = sense.saw-named
 
 -- nor on the sense in which its face is traced: over stays over when it is travelled back
-pub saw-mirror : (t : List ℕ) (g : Good t) (lengths : List ℕ) (s : ℕ) → s < steps → sawLength t lengths s ≡ sawLength t lengths (mirror (rotation t) s)
+pub saw-mirror : (t : List ℕ) (g : Good t) (s : ℕ) → s < steps → sawLength t s ≡ sawLength t (mirror (rotation t) s)
 saw-mirror = sense.saw-mirror
 
 -- nor does the call's answer, refusals too: of two names of one ribbon, and of two names of its face, one in each sense
-pub cut-named : (t lengths : List ℕ) (d k d′ k′ : ℕ) {s x : ℕ} → namedStep t d k ≡ There s → namedStep t d′ k′ ≡ There x
-    → has x (walk (rotation t) s) ≡ true → cutLengthOf t d k lengths ≡ cutLengthOf t d′ k′ lengths
+pub cut-named : (t : List ℕ) (d k d′ k′ : ℕ) {s x : ℕ} → namedStep t d k ≡ There s → namedStep t d′ k′ ≡ There x
+    → has x (walk (rotation t) s) ≡ true → cutLengthOf t d k ≡ cutLengthOf t d′ k′
 cut-named = sense.cut-named
 
-pub cut-mirror : (t lengths : List ℕ) (d k d′ k′ : ℕ) {s x : ℕ} → namedStep t d k ≡ There s → namedStep t d′ k′ ≡ There x
-    → x ≡ mirror (rotation t) s → cutLengthOf t d k lengths ≡ cutLengthOf t d′ k′ lengths
+pub cut-mirror : (t : List ℕ) (d k d′ k′ : ℕ) {s x : ℕ} → namedStep t d k ≡ There s → namedStep t d′ k′ ≡ There x
+    → x ≡ mirror (rotation t) s → cutLengthOf t d k ≡ cutLengthOf t d′ k′
 cut-mirror = sense.cut-mirror
 
 -- "any cut length" fits 32 bits: it is at most 135,838,016
-pub saw-most : (t : List ℕ) (g : Good t) (lengths : List ℕ) (s : ℕ) → live? t (s / 2) ≡ true → some (farLength lengths) (walk (rotation t) s) ≡ false
-    → sawLength t lengths s ≤ 135838016
+pub saw-most : (t : List ℕ) (g : Good t) (s : ℕ) → live? t (s / 2) ≡ true → sawLength t s ≤ 135838016
 saw-most = sense.saw-most
 
 -- "An isolated vertex still yields no ribbon": a dart that has a cut length does not leave one, and is not the corner of one
-pub lone-none : (t lengths : List ℕ) (d k n : ℕ) → cutLengthOf t d k lengths ≡ Done n → (v : ℕ) → alone? t v ≡ true → (leaves t d ≢ v) × (d ≢ loneCorner v)
+pub lone-none : (t : List ℕ) (d k n : ℕ) → cutLengthOf t d k ≡ Done n → (v : ℕ) → alone? t v ≡ true → (leaves t d ≢ v) × (d ≢ loneCorner v)
 lone-none = sense.lone-none

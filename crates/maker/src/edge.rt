@@ -1,8 +1,7 @@
 // One edge of a trial job: its draws, its corners, its record.
 use crate::draws::after_draw;
 use crate::draws::draw;
-use edits::edit::Edit;
-use encoding::record::write_record;
+use encoding::record::write_ends;
 use table::layout::LONE;
 ghost use Prim.Native.Nat.{_+_, _≤_, _<_};
 ghost use mathlib.Core.Path.{_≡_};
@@ -41,13 +40,7 @@ pub fn write_edge(out: &mut [u8], corners: &mut [u16; 8], s: u32, e: u16) -> u32
     let turns = draw(3, thrice) as i16 - 1;
     let first = corners[a];
     let second = corners[b];
-    let edit = Edit::InsertEdge {
-        edge: e,
-        first,
-        second,
-        turns,
-    };
-    write_record(out, 32 + 10 * e as usize, edit);
+    write_ends(out, 32 + 10 * e as usize, 0x4945, e, first, second, turns);
     give_dart(corners, a, 2 * e);
     give_dart(corners, b, 2 * e + 1);
     thrice

@@ -1,7 +1,6 @@
 // A whole trial job, written to the front of a slice that is long enough.
 use crate::edge::write_edge;
-use edits::edit::Edit;
-use encoding::record::write_record;
+use encoding::record::write_words;
 use table::layout::LONE;
 ghost use Prim.Native.Nat.{_≤_};
 ghost use mathlib.Core.Path.{_≡_};
@@ -18,7 +17,7 @@ fn write_vertices(out: &mut [u8], corners: &mut [u16; 8])
 {
     let mut v: u16 = 0;
     while v < 8 {
-        write_record(out, 4 * v as usize, Edit::AddVertex(v));
+        write_words(out, 4 * v as usize, 0x4156, v);
         corners[v as usize] = LONE + v;
         v += 1;
     }

@@ -68,12 +68,19 @@ pub extern "C" fn planner_remove_vertex(words: &mut [u16], v: u16) -> i64
     code(editor::vertex::remove_vertex(words, v))
 }
 
-// Inserts edge e with turns k: dart 2e into corner c1, then 2e+1 into c2. Answers the face count and, above its 16 bits, the rule met.
+// Inserts edge e with turns k and the length of its strip: dart 2e into corner c1, then 2e+1 into c2. Answers the face count and, above its 16 bits, the rule met.
 #[no_mangle]
-pub extern "C" fn planner_insert_edge(words: &mut [u16], e: u16, c1: u16, c2: u16, k: i16) -> i64
-    ensures { λ r. ⌜ (r ≡ replyCode (reply (now (words .entry)) (InsertEdge e c1 c2 k))) × (now (words .exit) ≡ edited (now (words .entry)) (InsertEdge e c1 c2 k)) ⌝ }
+pub extern "C" fn planner_insert_edge(
+    words: &mut [u16],
+    e: u16,
+    c1: u16,
+    c2: u16,
+    k: i16,
+    strip: u16,
+) -> i64
+    ensures { λ r. ⌜ (r ≡ replyCode (reply (now (words .entry)) (InsertEdge e c1 c2 k strip))) × (now (words .exit) ≡ edited (now (words .entry)) (InsertEdge e c1 c2 k strip)) ⌝ }
 {
-    reply_code(editor::edge::insert_edge(words, e, c1, c2, k))
+    reply_code(editor::edge::insert_edge(words, e, c1, c2, k, strip))
 }
 
 // Deletes edge e. Answers the face count and, above its 16 bits, the rule met.
@@ -94,10 +101,17 @@ pub extern "C" fn planner_turn_edge(words: &mut [u16], e: u16, amount: i16) -> i
 
 // What inserting edge e would do: the face count after, above its 16 bits the rule, above 32 the face count before.
 #[no_mangle]
-pub extern "C" fn planner_ask_insert_edge(words: &[u16], e: u16, c1: u16, c2: u16, k: i16) -> i64
-    ensures { λ r. ⌜ r ≡ askedCode (ask (now (words .entry)) (InsertEdge e c1 c2 k)) ⌝ }
+pub extern "C" fn planner_ask_insert_edge(
+    words: &[u16],
+    e: u16,
+    c1: u16,
+    c2: u16,
+    k: i16,
+    strip: u16,
+) -> i64
+    ensures { λ r. ⌜ r ≡ askedCode (ask (now (words .entry)) (InsertEdge e c1 c2 k strip)) ⌝ }
 {
-    asked_code(asker::ask::ask_insert_edge(words, e, c1, c2, k))
+    asked_code(asker::ask::ask_insert_edge(words, e, c1, c2, k, strip))
 }
 
 // What deleting edge e would do.
@@ -124,12 +138,21 @@ pub extern "C" fn planner_commit_insert_edge(
     c1: u16,
     c2: u16,
     k: i16,
+    strip: u16,
     forecast: i64,
 ) -> i64
-    ensures { λ r. ⌜ (r ≡ replyCode (commitReply (now (words .entry)) (InsertEdge e c1 c2 k) (forecastIn forecast)))
-        × (now (words .exit) ≡ committed (now (words .entry)) (InsertEdge e c1 c2 k) (forecastIn forecast)) ⌝ }
+    ensures { λ r. ⌜ (r ≡ replyCode (commitReply (now (words .entry)) (InsertEdge e c1 c2 k strip) (forecastIn forecast)))
+        × (now (words .exit) ≡ committed (now (words .entry)) (InsertEdge e c1 c2 k strip) (forecastIn forecast)) ⌝ }
 {
-    reply_code(committer::commit::commit_insert_edge(words, e, c1, c2, k, forecast_in(forecast)))
+    reply_code(committer::commit::commit_insert_edge(
+        words,
+        e,
+        c1,
+        c2,
+        k,
+        strip,
+        forecast_in(forecast),
+    ))
 }
 
 // Deletes edge e if ask would give this forecast now. Answers as the plain edit.
@@ -198,10 +221,10 @@ pub extern "C" fn planner_letters(words: &[u16], dart: u16, kind: u16, out: &mut
 
 // The cut length of the ribbon through the step of dart and type, in sixteenths of a millimetre.
 #[no_mangle]
-pub extern "C" fn planner_cut_length(words: &[u16], dart: u16, kind: u16, lengths: &[u32]) -> i64
-    ensures { λ r. ⌜ r ≡ codeOf (cutLengthOf (now (words .entry)) dart kind (now (lengths .entry))) ⌝ }
+pub extern "C" fn planner_cut_length(words: &[u16], dart: u16, kind: u16) -> i64
+    ensures { λ r. ⌜ r ≡ codeOf (cutLengthOf (now (words .entry)) dart kind) ⌝ }
 {
-    code(lengths::length::cut_length(words, dart, kind, lengths))
+    code(lengths::length::cut_length(words, dart, kind))
 }
 
 // Writes the float path of the ribbon through the step of dart and type: a word and three floats for each piece. Answers the number of pieces.
@@ -246,17 +269,12 @@ pub extern "C" fn planner_whole_path(
 
 // One step of the walk reader: dart and type of the step it stands at, then those of its walk's start. Answers 1 where the walk ends at that step, else 0.
 #[no_mangle]
-pub extern "C" fn planner_walk_step(
-    words: &[u16],
-    reader: &mut Standing,
-    lengths: &[u32],
-    tally: &mut Tally,
-) -> i64
-    ensures { λ r. ⌜ (r ≡ calledOf (now (words .entry)) (now (reader .entry)) (now (lengths .entry)) (now (tally .entry)) .code)
-        × (now (reader .exit) ≡ calledOf (now (words .entry)) (now (reader .entry)) (now (lengths .entry)) (now (tally .entry)) .reader)
-        × (now (tally .exit) ≡ calledOf (now (words .entry)) (now (reader .entry)) (now (lengths .entry)) (now (tally .entry)) .tally) ⌝ }
+pub extern "C" fn planner_walk_step(words: &[u16], reader: &mut Standing, tally: &mut Tally) -> i64
+    ensures { λ r. ⌜ (r ≡ calledOf (now (words .entry)) (now (reader .entry)) (now (tally .entry)) .code)
+        × (now (reader .exit) ≡ calledOf (now (words .entry)) (now (reader .entry)) (now (tally .entry)) .reader)
+        × (now (tally .exit) ≡ calledOf (now (words .entry)) (now (reader .entry)) (now (tally .entry)) .tally) ⌝ }
 {
-    let called = step_call(words, *reader, lengths, *tally);
+    let called = step_call(words, *reader, *tally);
     *reader = called.reader;
     *tally = called.tally;
     called.code
@@ -278,10 +296,11 @@ pub extern "C" fn planner_job_record(
     c1: u16,
     c2: u16,
     k: i16,
+    strip: u16,
     out: &mut [u8],
 ) -> i64
-    ensures { λ r. ⌜ (r ≡ codeOf (markedAnswer (markOf mark) name c1 c2 k (length (now (out .entry)))))
-        × (now (out .exit) ≡ markedOut (markOf mark) name c1 c2 k (now (out .entry))) ⌝ }
+    ensures { λ r. ⌜ (r ≡ codeOf (markedAnswer (markOf mark) name c1 c2 k strip (length (now (out .entry)))))
+        × (now (out .exit) ≡ markedOut (markOf mark) name c1 c2 k strip (now (out .entry))) ⌝ }
 {
-    code(encoding::marked::job_record(mark, name, c1, c2, k, out))
+    code(encoding::marked::job_record(mark, name, c1, c2, k, strip, out))
 }

@@ -12,9 +12,9 @@ abbrev pub readerAt : RefT (List ℕ) → ℕ → ℕ → Reader
 readerAt t d k = record { table = t; dart = d; kind = k; first = record { dart = d; kind = k } }
 
 -- one step of the reader r
-abbrev pub heldStep : Reader → List ℕ → Tally → Stepped
-heldStep r lengths y = stepOf (now (r .table)) (record { dart = r .dart; kind = r .kind }) (r .first) lengths y
+abbrev pub heldStep : Reader → Tally → Stepped
+heldStep r y = stepOf (now (r .table)) (record { dart = r .dart; kind = r .kind }) (r .first) y
 
 -- where it then stands; a declined step leaves it as it was (`EachStep`)
-abbrev pub heldAfter : Reader → List ℕ → Tally → Reader
-heldAfter r lengths y = record { table = r .table; dart = heldStep r lengths y .at .dart; kind = heldStep r lengths y .at .kind; first = r .first }
+abbrev pub heldAfter : Reader → Tally → Reader
+heldAfter r y = record { table = r .table; dart = heldStep r y .at .dart; kind = heldStep r y .at .kind; first = r .first }

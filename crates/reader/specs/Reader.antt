@@ -73,23 +73,23 @@ steppedBy t at first y s (Brought z) = goesOn (step (rotation t) s) first z
 steppedBy t at first y s (Kept r) = stays at y r
 
 -- the tally with step s more, which is "the walk's last step" if the walk ends there
-abbrev pub tallyAt : List ℕ → Step → ℕ → List ℕ → Tally → Tallied
-tallyAt t first s lengths y = tallyOf t s (endsAt (step (rotation t) s) first) lengths y
+abbrev pub tallyAt : List ℕ → Step → ℕ → Tally → Tallied
+tallyAt t first s y = tallyOf t s (endsAt (step (rotation t) s) first) y
 
 -- the step, once its place is known
-abbrev pub stepBy : List ℕ → Step → Step → List ℕ → Tally → Named → Stepped
-stepBy t at first lengths y (There s) = steppedBy t at first y s (tallyAt t first s lengths y)
-stepBy t at first lengths y (Refused r) = stays at y r
+abbrev pub stepBy : List ℕ → Step → Step → Tally → Named → Stepped
+stepBy t at first y (There s) = steppedBy t at first y s (tallyAt t first s y)
+stepBy t at first y (Refused r) = stays at y r
 
 -- one step of a reader that stands at `at` and whose walk began at `first`
-abbrev pub stepOf : List ℕ → Step → Step → List ℕ → Tally → Stepped
-stepOf t at first lengths y = stepBy t at first lengths y (placed t at first)
+abbrev pub stepOf : List ℕ → Step → Step → Tally → Stepped
+stepOf t at first y = stepBy t at first y (placed t at first)
 
 -- every step, of a reader that stands anywhere and whose walk began anywhere
-pub record EachStep (t lengths : List ℕ) (y : Tally) : Type 0 where
+pub record EachStep (t : List ℕ) (y : Tally) : Type 0 where
   -- "Every step declines as the making of the reader would"
-  pub as-made : (s : Step) {r : Refusal} → beginOf t (s .dart) (s .kind) ≡ Declined r → stepOf t s s lengths y ≡ stays s y r
+  pub as-made : (s : Step) {r : Refusal} → beginOf t (s .dart) (s .kind) ≡ Declined r → stepOf t s s y ≡ stays s y r
   -- "after a declined step the reader has not moved"
-  pub not-moved : (at first : Step) {r : Refusal} → stepOf t at first lengths y .answer ≡ Declined r → stepOf t at first lengths y ≡ stays at y r
+  pub not-moved : (at first : Step) {r : Refusal} → stepOf t at first y .answer ≡ Declined r → stepOf t at first y ≡ stays at y r
   -- "whether the walk ends there": where a step says so the reader is back at its start, dart and type
-  pub back : (at first : Step) → stepOf t at first lengths y .answer ≡ Done 1 → stepOf t at first lengths y .at ≡ first
+  pub back : (at first : Step) → stepOf t at first y .answer ≡ Done 1 → stepOf t at first y .at ≡ first

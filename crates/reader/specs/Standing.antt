@@ -25,5 +25,5 @@ abbrev pub called : Standing → Stepped → Called
 called r q = record { code = codeOf (q .answer); reader = standsAt (q .at) r; tally = q .tally }
 
 -- one call; "after a declined step the reader has not moved" (`stays`)
-abbrev pub calledOf : List ℕ → Standing → List ℕ → Tally → Called
-calledOf t r lengths y = called r (stepOf t (atOf r) (startOf r) lengths y)
+abbrev pub calledOf : List ℕ → Standing → Tally → Called
+calledOf t r y = called r (stepOf t (atOf r) (startOf r) y)

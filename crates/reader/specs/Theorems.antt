@@ -1,18 +1,16 @@
 -- The theorems of this crate, document 01, "Corners and walks". Each is proved by the law of its name.
-use Prim.Native.Nat.{ℕ, _≤_}
+use Prim.Native.Nat.{ℕ}
 use mathlib.Core.Path.{_≡_}
 use mathlib.Core.Bool.{false}
 use mathlib.Core.List.{List}
 use mathlib.Core.Logic.{_≢_}
 use lib.Dec.{eqb}
 use lib.ListN.{length}
-use Rattle.table.specs.Layout.{edges}
 use Rattle.table.specs.Rotation.{rotation}
 use Rattle.table.specs.declared.answer.Answer.the-variants.{Done}
 use Rattle.tracing.specs.Walk.{walk}
 use Rattle.tracing.specs.Listing.{has}
-use Rattle.weave.specs.Ribbon.{some}
-use Rattle.lengths.specs.CutLength.{farLength, cutLengthOf}
+use Rattle.lengths.specs.CutLength.{cutLengthOf}
 use Rattle.reader.specs.declared.place.Step.{Step}
 use Rattle.tally.specs.declared.tally.Tally.{Tally}
 use Rattle.tally.specs.Forward.{stepTally}
@@ -23,26 +21,24 @@ use Rattle.reader.specs.laws.Walked as walked
 use Rattle.reader.specs.laws.Elsewhere as elsewhere
 
 -- of every step: it declines as the making would, a declined one changes nothing, and one that ends the walk is back at the start
-pub each-step : (t lengths : List ℕ) (y : Tally) → EachStep t lengths y
+pub each-step : (t : List ℕ) (y : Tally) → EachStep t y
 each-step = reader.each-step
 
 -- "the lap enters the tally with the walk's last step": an accepted step adds its letters and its length, with the lap exactly if it answers 1
-pub step-tallied : (t : List ℕ) (at first : Step) (lengths : List ℕ) (y : Tally) (n : ℕ) → stepOf t at first lengths y .answer ≡ Done n
-    → stepOf t at first lengths y .tally ≡ stepTally t (wordAt at) (eqb n 1) lengths y
+pub step-tallied : (t : List ℕ) (at first : Step) (y : Tally) (n : ℕ) → stepOf t at first y .answer ≡ Done n
+    → stepOf t at first y .tally ≡ stepTally t (wordAt at) (eqb n 1) y
 step-tallied = reader.step-tallied
 
--- over a whole walk, of a reader that can be made, with lengths that are there and none of the walk's edges out of range
-pub reader-walks : (t : List ℕ) (first : Step) (lengths : List ℕ) → beginOf t (first .dart) (first .kind) ≡ Done 0 → edges ≤ length lengths
-    → some (farLength lengths) (walk (rotation t) (wordAt first)) ≡ false → Walked t first lengths
+-- over a whole walk, of a reader that can be made
+pub reader-walks : (t : List ℕ) (first : Step) → beginOf t (first .dart) (first .kind) ≡ Done 0 → Walked t first
 reader-walks = walked.reader-walks
 
 -- at the walk's end the tally's length is the cut length: what the call for it answers
-pub tally-cut : (t : List ℕ) (first : Step) (lengths : List ℕ) → beginOf t (first .dart) (first .kind) ≡ Done 0 → edges ≤ length lengths
-    → some (farLength lengths) (walk (rotation t) (wordAt first)) ≡ false
-    → cutLengthOf t (first .dart) (first .kind) lengths ≡ Done (afterSteps t first lengths (length (walk (rotation t) (wordAt first))) .tally .length)
+pub tally-cut : (t : List ℕ) (first : Step) → beginOf t (first .dart) (first .kind) ≡ Done 0
+    → cutLengthOf t (first .dart) (first .kind) ≡ Done (afterSteps t first (length (walk (rotation t) (wordAt first))) .tally .length)
 tally-cut = walked.tally-cut
 
 -- a reader whose step is there and whose start is not on that step's walk never says that the walk ends
-pub never-ends : (t : List ℕ) (at first : Step) (lengths : List ℕ) (y : Tally) → beginOf t (at .dart) (at .kind) ≡ Done 0
-    → has (wordAt first) (walk (rotation t) (wordAt at)) ≡ false → (n : ℕ) → stepsFrom t at first lengths y n .answer ≢ Done 1
+pub never-ends : (t : List ℕ) (at first : Step) (y : Tally) → beginOf t (at .dart) (at .kind) ≡ Done 0
+    → has (wordAt first) (walk (rotation t) (wordAt at)) ≡ false → (n : ℕ) → stepsFrom t at first y n .answer ≢ Done 1
 never-ends = elsewhere.never-ends

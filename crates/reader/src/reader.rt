@@ -30,16 +30,16 @@ pub fn new<'a>(table: &'a [u16], dart: u16, kind: u16) -> Reader<'a>
 }
 
 // Hands out the step that the reader stands at, and brings it and the tally forward: 1 where the walk ends there, else 0.
-pub fn step<'s, 'a>(r: &'s mut Reader<'a>, lengths: &[u32], tally: &mut Tally) -> Answer
-    ensures { λ a. ⌜ (a ≡ heldStep (now (r .entry)) (now (lengths .entry)) (now (tally .entry)) .answer)
-        × (now (r .exit) ≡ heldAfter (now (r .entry)) (now (lengths .entry)) (now (tally .entry)))
-        × (now (tally .exit) ≡ heldStep (now (r .entry)) (now (lengths .entry)) (now (tally .entry)) .tally) ⌝ }
+pub fn step<'s, 'a>(r: &'s mut Reader<'a>, tally: &mut Tally) -> Answer
+    ensures { λ a. ⌜ (a ≡ heldStep (now (r .entry)) (now (tally .entry)) .answer)
+        × (now (r .exit) ≡ heldAfter (now (r .entry)) (now (tally .entry)))
+        × (now (tally .exit) ≡ heldStep (now (r .entry)) (now (tally .entry)) .tally) ⌝ }
 {
     let at = Step {
         dart: r.dart,
         kind: r.kind,
     };
-    let s = walk_step(r.table, at, r.first, lengths, *tally);
+    let s = walk_step(r.table, at, r.first, *tally);
     r.dart = s.at.dart;
     r.kind = s.at.kind;
     *tally = s.tally;
@@ -47,8 +47,8 @@ pub fn step<'s, 'a>(r: &'s mut Reader<'a>, lengths: &[u32], tally: &mut Tally) -
 }
 
 // One step of a reader that is made for it: it stands at `at`, and its walk began at `first`. For who keeps these steps and not the table, as C does.
-pub fn step_from<'a>(table: &'a [u16], at: Step, first: Step, lengths: &[u32], y: Tally) -> Stepped
-    ensures { λ q. ⌜ q ≡ stepOf (now (table .entry)) at first (now (lengths .entry)) y ⌝ }
+pub fn step_from<'a>(table: &'a [u16], at: Step, first: Step, y: Tally) -> Stepped
+    ensures { λ q. ⌜ q ≡ stepOf (now (table .entry)) at first y ⌝ }
 {
     let mut r = Reader {
         table,
@@ -57,7 +57,7 @@ pub fn step_from<'a>(table: &'a [u16], at: Step, first: Step, lengths: &[u32], y
         first,
     };
     let mut tally = y;
-    let answer = step(&mut r, lengths, &mut tally);
+    let answer = step(&mut r, &mut tally);
     Stepped {
         answer,
         at: Step {

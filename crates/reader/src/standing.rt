@@ -23,8 +23,8 @@ pub struct Called {
 }
 
 // Hands out the step that the reader stands at, and brings it and the tally forward.
-pub fn step_call(t: &[u16], r: Standing, lengths: &[u32], y: Tally) -> Called
-    ensures { λ q. ⌜ q ≡ calledOf (now (t .entry)) r (now (lengths .entry)) y ⌝ }
+pub fn step_call(t: &[u16], r: Standing, y: Tally) -> Called
+    ensures { λ q. ⌜ q ≡ calledOf (now (t .entry)) r y ⌝ }
 {
     let at = Step {
         dart: r.dart,
@@ -34,7 +34,7 @@ pub fn step_call(t: &[u16], r: Standing, lengths: &[u32], y: Tally) -> Called
         dart: r.start_dart,
         kind: r.start_kind,
     };
-    let s = step_from(t, at, first, lengths, y);
+    let s = step_from(t, at, first, y);
     let answer = s.answer;
     let next = s.at;
     let tally = s.tally;

@@ -57,8 +57,8 @@ fn moved(next: u16, first: Step, z: Tally) -> Stepped
 }
 
 // Hands out the step that the reader stands at, and brings it and the tally forward.
-pub fn walk_step(t: &[u16], at: Step, first: Step, lengths: &[u32], y: Tally) -> Stepped
-    ensures { λ r. ⌜ r ≡ stepOf (now (t .entry)) at first (now (lengths .entry)) y ⌝ }
+pub fn walk_step(t: &[u16], at: Step, first: Step, y: Tally) -> Stepped
+    ensures { λ r. ⌜ r ≡ stepOf (now (t .entry)) at first y ⌝ }
 {
     let n = placed(t, at, first);
     match n {
@@ -66,7 +66,7 @@ pub fn walk_step(t: &[u16], at: Step, first: Step, lengths: &[u32], y: Tally) ->
         Named::There(s) => {
             let next = step(t, s);
             let last = ends(next, first);
-            let m = tally_step(t, s, last, lengths, y);
+            let m = tally_step(t, s, last, y);
             match m {
                 Tallied::Kept(r) => stays(at, y, r),
                 Tallied::Brought(z) => moved(next, first, z),

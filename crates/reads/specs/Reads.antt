@@ -6,12 +6,12 @@
 --     readsBelow, allBelow     the same of a test for each number below n, upward
 --     checkReads               the whole check
 use Prim.Native.Nat.{ℕ, zero, suc, _+_, _*_}
-use mathlib.Core.Bool.{Bool, true, false, _&&_, _||_}
+use mathlib.Core.Bool.{Bool, true, false, cond, _&&_, _||_}
 use mathlib.Core.List.{List, [], _∷_}
 use lib.Dec.{eqb, leb, ltb}
 use lib.ListN.{length, getD}
 use Rattle.orbits.specs.Iterate.{iter}
-use Rattle.table.specs.Layout.{words, darts, vertices, prevAt, leavesAt, nothing, isolated, nextWord, prevWord, leaves, edgeWord, vertexWord, edgeOf, edgeWordMost}
+use Rattle.table.specs.Layout.{words, darts, edges, vertices, prevAt, leavesAt, nothing, isolated, nextWord, prevWord, leaves, edgeWord, vertexWord, lengthWord, edgeOf, edgeWordMost, longest}
 
 pub record Test : Type 0 where
   pub reads : ℕ
@@ -124,11 +124,17 @@ vertexBlock t b = record {
   passes = allBelow (λ i. vertexIn t b i .passes) 32;
 }
 
--- the size, for which nothing is read; the edges, by blocks; and the vertices, if all darts keep their rules
+-- an edge's length, by what the edge's word says
+abbrev pub lengthFits : List ℕ → ℕ → Bool
+lengthFits t e = cond (eqb (edgeWord t e) 0) (eqb (lengthWord t e) 0) (ltb 0 (lengthWord t e) && leb (lengthWord t e) longest)
+
+-- the size, for which nothing is read; the lengths, two words for each edge, all of them whatever they are; the edges, by blocks; and the vertices, if all
+-- darts keep their rules
 unfoldable pub checkReads : List ℕ → ℕ
 checkReads t =
     readsOf
     (reading 0 (eqb (length t) words)
+    ∷ reading (2 * edges) (allBelow (lengthFits t) edges)
     ∷ reading (readsBelow (edgeBlock t) 32) (allBelow (λ b. edgeBlock t b .passes) 32)
     ∷ reading (readsBelow (vertexBlock t) 16) true
     ∷ [])

@@ -9,10 +9,10 @@ use Rattle.reads.specs.Reads.{checkReads}
 use Rattle.reads.specs.laws.Bounds as bound
 use Rattle.reads.specs.laws.Full as full
 
--- "read at most 100,000 words of the table in one check": on any slice 13,824 at most
-pub reads-most : (t : List ℕ) → checkReads t ≤ 13824
+-- "read at most 100,000 words of the table in one check": on any slice 15,872 at most
+pub reads-most : (t : List ℕ) → checkReads t ≤ 15872
 reads-most = bound.reads-most
 
 -- and so many on a good table whose edges are all live and whose vertices all have a dart
-pub reads-full : (t : List ℕ) → Good t → ((e : ℕ) → e < edges → edgeWord t e ≢ 0) → ((v : ℕ) → v < vertices → vertexWord t v < darts) → checkReads t ≡ 13824
+pub reads-full : (t : List ℕ) → Good t → ((e : ℕ) → e < edges → edgeWord t e ≢ 0) → ((v : ℕ) → v < vertices → vertexWord t v < darts) → checkReads t ≡ 15872
 reads-full = full.reads-full

@@ -1,4 +1,5 @@
 pub mod Tests
+pub mod Lengths
 pub mod Darts
 pub mod Vertices
 pub mod Whole

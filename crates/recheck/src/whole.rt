@@ -1,5 +1,6 @@
 // The check of a whole table, as in `checker::whole`, each read counted.
 use counting::dart::live_darts;
+use counting::length::lengths_fit;
 use counting::vertex::all_led_darts;
 use table::answer::Answer;
 use table::answer::Refusal;
@@ -23,6 +24,9 @@ fn is_good(t: &[u16], reads: &mut usize) -> bool
     ensures { λ r. ⌜ (r ≡ good? (now (t .entry))) × (now (reads .exit) ≡ now (reads .entry) + checkReads (now (t .entry))) ⌝ }
 {
     if t.len() != WORDS {
+        return false;
+    }
+    if !lengths_fit(t, reads) {
         return false;
     }
     let Counted::Of(live) = live_darts(t, reads) else {

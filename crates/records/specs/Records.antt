@@ -8,7 +8,7 @@ use lib.ListN.{length, getD}
 use Rattle.edits.specs.declared.edit.Edit.{Edit}
 use Rattle.edits.specs.declared.edit.Edit.the-variants.{AddVertex, RemoveVertex, InsertEdge, DeleteEdge, TurnEdge}
 use Rattle.records.specs.declared.records.Mark.{Mark}
-use Rattle.records.specs.declared.records.Mark.the-variants.{AV, RV, IE, DE, TW}
+use Rattle.records.specs.declared.records.Mark.the-variants.{AV, RV, IE, IL, DE, TW}
 use Rattle.records.specs.declared.records.Marked.{Marked}
 use Rattle.records.specs.declared.records.Marked.the-variants.{Known, Unknown}
 use Rattle.records.specs.declared.records.Found.{Found}
@@ -29,22 +29,38 @@ markOf w =
     cond (eqb w (65 * 256 + 86)) (Known AV)
     (cond (eqb w (82 * 256 + 86)) (Known RV)
     (cond (eqb w (73 * 256 + 69)) (Known IE)
+    (cond (eqb w (73 * 256 + 76)) (Known IL)
     (cond (eqb w (68 * 256 + 69)) (Known DE)
     (cond (eqb w (84 * 256 + 87)) (Known TW)
-    Unknown))))
+    Unknown)))))
 
--- "AV v; RV v; IE e c1 c2 k; DE e; TW e amount": the bytes of a record, its mark included
+-- "AV v; RV v; IE e c1 c2 k; DE e; TW e amount", and document 02, request g, "Record IL is IE with one more word, the last, for the length": the bytes of
+-- a record, its mark included
 abbrev pub sizeOf : Mark → ℕ
 sizeOf AV = 4
 sizeOf RV = 4
 sizeOf IE = 10
+sizeOf IL = 12
 sizeOf DE = 4
 sizeOf TW = 6
+
+-- an IL
+abbrev pub longestRecord : ℕ
+longestRecord = 12
+
+-- the insertion that the words of an IE say, with a length
+abbrev pub insertionOf : List ℕ → ℕ → Edit
+insertionOf s n = InsertEdge (word s 2) (word s 4) (word s 6) (signedWord (word s 8)) n
+
+-- "a plain IE writes 16"
+abbrev pub plainLength : ℕ
+plainLength = 16
 
 abbrev pub editOf : Mark → List ℕ → Edit
 editOf AV s = AddVertex (word s 2)
 editOf RV s = RemoveVertex (word s 2)
-editOf IE s = InsertEdge (word s 2) (word s 4) (word s 6) (signedWord (word s 8))
+editOf IE s = insertionOf s plainLength
+editOf IL s = insertionOf s (word s 10)
 editOf DE s = DeleteEdge (word s 2)
 editOf TW s = TurnEdge (word s 2) (signedWord (word s 4))
 

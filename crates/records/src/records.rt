@@ -3,14 +3,18 @@ use edits::edit::Edit;
 ghost use mathlib.Core.Path.{_≡_};
 ghost use Prim.Native.Nat.{_+_, _≤_, _<_};
 ghost use lib.ListN.{length};
-ghost use Rattle.records.specs.Records.{word, signedWord, markOf, sizeOf, editOf, knownRecord, firstRecord};
+ghost use Rattle.records.specs.Records.{word, signedWord, markOf, sizeOf, insertionOf, editOf, knownRecord, firstRecord};
 ghost use Rattle.records.specs.Reading.{readsOn};
 
-// The marks, by document 01's names.
+// The length of an edge whose record says none.
+pub const PLAIN_LENGTH: u16 = 16;
+
+// The marks, by document 01's names, and document 02's.
 pub enum Mark {
     AV,
     RV,
     IE,
+    IL,
     DE,
     TW,
 }
@@ -70,6 +74,9 @@ pub fn mark_of(w: u16) -> Marked
     if w == 0x4945 {
         return Marked::Known(Mark::IE);
     }
+    if w == 0x494C {
+        return Marked::Known(Mark::IL);
+    }
     if w == 0x4445 {
         return Marked::Known(Mark::DE);
     }
@@ -87,8 +94,23 @@ fn size_of(m: Mark) -> usize
         Mark::AV => 4,
         Mark::RV => 4,
         Mark::IE => 10,
+        Mark::IL => 12,
         Mark::DE => 4,
         Mark::TW => 6,
+    }
+}
+
+// The insertion that the words of a record say, with a length.
+fn insertion(s: &[u8], n: u16) -> Edit
+    requires { ⌜ 10 ≤ length (now s) ⌝ }
+    ensures { λ r. ⌜ r ≡ insertionOf (now (s .entry)) n ⌝ }
+{
+    Edit::InsertEdge {
+        edge: word(s, 2),
+        first: word(s, 4),
+        second: word(s, 6),
+        turns: signed(word(s, 8)),
+        length: n,
     }
 }
 
@@ -100,12 +122,8 @@ fn edit_of(s: &[u8], m: Mark) -> Edit
     match m {
         Mark::AV => Edit::AddVertex(word(s, 2)),
         Mark::RV => Edit::RemoveVertex(word(s, 2)),
-        Mark::IE => Edit::InsertEdge {
-            edge: word(s, 2),
-            first: word(s, 4),
-            second: word(s, 6),
-            turns: signed(word(s, 8)),
-        },
+        Mark::IE => insertion(s, PLAIN_LENGTH),
+        Mark::IL => insertion(s, word(s, 10)),
         Mark::DE => Edit::DeleteEdge(word(s, 2)),
         Mark::TW => Edit::TurnEdge {
             edge: word(s, 2),

@@ -1,6 +1,8 @@
 -- A run of edits, document 01, "Runs of edits": any list of the five edits with any arguments, over one table.
 use Prim.Native.Nat.{ℕ}
+use mathlib.Core.Bool.{cond}
 use mathlib.Core.List.{List, [], _∷_}
+use lib.Dec.{eqb}
 use lib.IntN.{ℤ, pos, negsuc, _+ℤ_}
 use Rattle.table.specs.Rotation.{rotation}
 use Rattle.tracing.specs.Listing.{faceCount}
@@ -49,7 +51,7 @@ faceNumber t = pos (faceCount (rotation t))
 abbrev pub vertexTells : Edit → ℤ
 vertexTells (AddVertex v) = number more
 vertexTells (RemoveVertex v) = number less
-vertexTells (InsertEdge e c₁ c₂ k) = pos 0
+vertexTells (InsertEdge e c₁ c₂ k n) = pos 0
 vertexTells (DeleteEdge e) = pos 0
 vertexTells (TurnEdge e a) = pos 0
 
@@ -62,3 +64,20 @@ tells E (Refused r) = pos 0
 unfoldable pub told : List ℕ → List Edit → ℤ
 told t [] = pos 0
 told t (E ∷ Es) = tells E (reply t E) +ℤ told (edited t E) Es
+
+-- document 02, request g, "Insertion takes a length": the one that an insertion of edge e gives it, and l by any other edit
+abbrev pub lengthIn : Edit → ℕ → ℕ → ℕ
+lengthIn (AddVertex v) e l = l
+lengthIn (RemoveVertex v) e l = l
+lengthIn (InsertEdge e′ c₁ c₂ k n) e l = cond (eqb e e′) n l
+lengthIn (DeleteEdge e′) e l = l
+lengthIn (TurnEdge e′ a) e l = l
+
+abbrev pub lengthBy : Verdict → Edit → ℕ → ℕ → ℕ
+lengthBy Passes E e l = lengthIn E e l
+lengthBy (Declines r) E e l = l
+
+-- the length that the last accepted insertion of edge e gave it, l where the run has none
+unfoldable pub lengthGiven : List ℕ → List Edit → ℕ → ℕ → ℕ
+lengthGiven t [] e l = l
+lengthGiven t (E ∷ Es) e l = lengthGiven (edited t E) Es e (lengthBy (verdict t E) E e l)

@@ -1,13 +1,15 @@
 -- The third demand: one claim about a whole run, a field for each clause, document 01, "Runs of edits" and "Counts".
 -- It holds for every list of edits, declined ones included, from every good table, and so from the empty mesh (`Theorems`).
-use Prim.Native.Nat.{ℕ, _+_, _*_, _/_, _≤_}
+use Prim.Native.Nat.{ℕ, _<_, _+_, _*_, _/_, _≤_}
 use mathlib.Core.Path.{_≡_}
 use mathlib.Core.Bool.{true}
 use mathlib.Core.List.{List, [], _∷_, _++_}
 use mathlib.Core.Logic.{_↔_}
+use mathlib.Core.Logic.{_≢_}
 use mathlib.Core.Option.{some}
 use lib.ListN.{length}
 use lib.IntN.{ℤ, pos, _+ℤ_}
+use Rattle.table.specs.Layout.{edges, edgeWord, lengthWord}
 use Rattle.table.specs.Good.{Good}
 use Rattle.table.specs.Check.{checkOf}
 use Rattle.table.specs.Rotation.{Rotation, rotation}
@@ -31,7 +33,7 @@ use Rattle.surface.specs.Calls.{countsOf, countsAnswer, countsOut, partRows, pa
 use Rattle.weave.specs.Letters.{letters, alternates, plain}
 use Rattle.weave.specs.Calls.{lettersOf, lettersOut, alternatesOf, plainOf}
 use Rattle.weave.specs.Ribbon.{SameWay}
-use Rattle.runs.specs.Run.{run, called, told, faceNumber}
+use Rattle.runs.specs.Run.{run, called, told, faceNumber, lengthGiven}
 
 module _ (t : List ℕ) (Es : List Edit) where
   -- "Walks, counts, orientable marks and letters are those of the table after the run": that table, and its rotation system
@@ -81,6 +83,8 @@ module _ (t : List ℕ) (Es : List Edit) where
         × ((r : Rule) → ruleOf (run t front) E ≡ some r → Changes (ruleChange r) (faceCount (rotation (run t front))) n)
     -- so the face count is that at the start plus what the answered rules say
     pub told-count : faceNumber after ≡ faceNumber t +ℤ told t Es
+    -- document 02, request g: a live edge has the length that its last accepted insertion gave it, or that of the start where the run has none
+    pub lengths : (e : ℕ) → e < edges → edgeWord after e ≢ 0 → lengthWord after e ≡ lengthGiven t Es e (lengthWord t e)
     -- "a ribbon alternates exactly if its turned edges all turn the same way": the ribbon through any step on a live dart
     pub alternation : (s : ℕ) → R .live (s / 2) ≡ true → (alternates after s ≡ true) ↔ SameWay after s
     -- "the calls for the listing, the counts and the letters, where accepted on it, answer exactly these"

@@ -79,19 +79,19 @@ pub record Holds (s : Sample) : Type 0 where
 
 -- "two vertices, one edge" with turns k
 abbrev pub oneEdge : ℤ → List Edit
-oneEdge k = AddVertex 0 ∷ AddVertex 1 ∷ InsertEdge 0 (loneCorner 0) (loneCorner 1) k ∷ []
+oneEdge k = AddVertex 0 ∷ AddVertex 1 ∷ InsertEdge 0 (loneCorner 0) (loneCorner 1) k 16 ∷ []
 
 -- "one loop" with turns k
 abbrev pub oneLoop : ℤ → List Edit
-oneLoop k = AddVertex 0 ∷ InsertEdge 0 (loneCorner 0) (loneCorner 0) k ∷ []
+oneLoop k = AddVertex 0 ∷ InsertEdge 0 (loneCorner 0) (loneCorner 0) k 16 ∷ []
 
 -- a "loop of turns" k, "then turns" l "between corners 0 and 1"
 abbrev pub twoLoops : ℤ → ℤ → List Edit
-twoLoops k l = AddVertex 0 ∷ InsertEdge 0 (loneCorner 0) (loneCorner 0) k ∷ InsertEdge 1 0 1 l ∷ []
+twoLoops k l = AddVertex 0 ∷ InsertEdge 0 (loneCorner 0) (loneCorner 0) k 16 ∷ InsertEdge 1 0 1 l 16 ∷ []
 
 -- one loop with turns 99, turned by a
 abbrev pub turnedLoop : ℤ → List Edit
-turnedLoop a = AddVertex 0 ∷ InsertEdge 0 (loneCorner 0) (loneCorner 0) (pos 99) ∷ TurnEdge 0 a ∷ []
+turnedLoop a = AddVertex 0 ∷ InsertEdge 0 (loneCorner 0) (loneCorner 0) (pos 99) 16 ∷ TurnEdge 0 a ∷ []
 
 -- a line of the list
 abbrev pub sample : List Edit → List ℤ → List Fact → Sample

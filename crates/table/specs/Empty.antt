@@ -9,9 +9,9 @@ use Rattle.table.specs.declared.answer.Answer.the-variants.{Done, Declin
 use Rattle.table.specs.declared.answer.Refusal.the-variants.{Torn}
 use Rattle.table.specs.Answers.{unless, ifDone}
 
--- three words for each dart, then a word for each edge, then one for each vertex
+-- three words for each dart, then a word for each edge, one for each vertex, and a length for each edge
 unfoldable pub emptyTable : List ℕ
-emptyTable = replicate edgeAt nothing ++ (replicate edges 0 ++ replicate vertices nothing)
+emptyTable = replicate edgeAt nothing ++ (replicate edges 0 ++ (replicate vertices nothing ++ replicate edges 0))
 
 -- a fresh fill tests only the size
 abbrev pub emptyOf : List ℕ → Answer

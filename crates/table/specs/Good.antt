@@ -5,7 +5,7 @@ use mathlib.Core.List.{List}
 use mathlib.Core.Logic.{_≢_}
 use lib.ListN.{length}
 use Rattle.orbits.specs.Reach.{Reach}
-use Rattle.table.specs.Layout.{vertices, edges, darts, words, nothing, isolated, nextWord, prevWord, leaves, edgeWord, vertexWord, edgeOf, Live, edgeWordMost}
+use Rattle.table.specs.Layout.{vertices, edges, darts, words, nothing, isolated, nextWord, prevWord, leaves, edgeWord, vertexWord, lengthWord, edgeOf, Live, edgeWordMost, longest}
 
 -- "The three words of a dart that is not live are 65,535."
 pub record Bare (t : List ℕ) (d : ℕ) : Type 0 where
@@ -19,12 +19,19 @@ pub record Smallest (t : List ℕ) (v d : ℕ) : Type 0 where
   pub here : leaves t d ≡ v
   pub least : (d′ : ℕ) → Live t d′ → leaves t d′ ≡ v → d ≤ d′
 
+-- document 02, request g: "for each edge its length, 1 to 65,535 if live, 0 if not"
+pub record LengthRule (t : List ℕ) (e : ℕ) : Type 0 where
+  pub some : edgeWord t e ≢ 0 → lengthWord t e ≢ 0
+  pub none : edgeWord t e ≡ 0 → lengthWord t e ≡ 0
+  pub most : lengthWord t e ≤ longest
+
 pub record Good (t : List ℕ) : Type 0 where
-  -- "a lent slice of 7,680 unsigned 16-bit words"
+  -- "a lent slice of 8,704 unsigned 16-bit words"
   pub size : length t ≡ words
   -- "0 if not live, else its turns plus 100; turns run from -99 to 99"
   pub turns : (e : ℕ) → e < edges → edgeWord t e ≤ edgeWordMost
   pub bare : (d : ℕ) → d < darts → edgeWord t (edgeOf d) ≡ 0 → Bare t d
+  pub lengths : (e : ℕ) → e < edges → LengthRule t e
   -- "every live dart leaves a live vertex"
   pub leaves-low : (d : ℕ) → Live t d → leaves t d < vertices
   pub leaves-live : (d : ℕ) → Live t d → vertexWord t (leaves t d) ≢ nothing

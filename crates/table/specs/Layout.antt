@@ -14,9 +14,9 @@ edges = 1024
 abbrev pub darts : ℕ
 darts = 2048
 
--- "a lent slice of 7,680 unsigned 16-bit words"
+-- "a lent slice of 8,704 unsigned 16-bit words"
 abbrev pub words : ℕ
-words = 7680
+words = 8704
 
 -- where each kind of word begins: "next" words begin at 0
 abbrev pub prevAt : ℕ
@@ -30,6 +30,9 @@ edgeAt = 6144
 
 abbrev pub vertexAt : ℕ
 vertexAt = 7168
+
+abbrev pub lengthAt : ℕ
+lengthAt = 7680
 
 -- the word of what is not there: a dart that is not live, a vertex that is not live
 abbrev pub nothing : ℕ
@@ -58,6 +61,14 @@ edgeWord t e = getD t (edgeAt + e) 0
 -- "for each vertex, 65,535 if not live, 65,534 if live and isolated, else its smallest live dart"
 abbrev pub vertexWord : List ℕ → ℕ → ℕ
 vertexWord t v = getD t (vertexAt + v) 0
+
+-- document 02, request g: "for each edge its length"
+abbrev pub lengthWord : List ℕ → ℕ → ℕ
+lengthWord t e = getD t (lengthAt + e) 0
+
+-- "1 to 65,535 if live"
+abbrev pub longest : ℕ
+longest = 65535
 
 -- "turns run from -99 to 99", plus 100
 abbrev pub edgeWordMost : ℕ

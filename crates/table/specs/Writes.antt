@@ -2,7 +2,7 @@
 use Prim.Native.Nat.{ℕ, _+_}
 use mathlib.Core.List.{List}
 use lib.ListN.{set}
-use Rattle.table.specs.Layout.{prevAt, leavesAt, edgeAt, vertexAt}
+use Rattle.table.specs.Layout.{prevAt, leavesAt, edgeAt, vertexAt, lengthAt}
 
 abbrev pub setNext : List ℕ → ℕ → ℕ → List ℕ
 setNext t d n = set t d n
@@ -18,3 +18,6 @@ setEdge t e w = set t (edgeAt + e) w
 
 abbrev pub setVertex : List ℕ → ℕ → ℕ → List ℕ
 setVertex t v w = set t (vertexAt + v) w
+
+abbrev pub setLength : List ℕ → ℕ → ℕ → List ℕ
+setLength t e n = set t (lengthAt + e) n

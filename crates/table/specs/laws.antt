@@ -4,6 +4,7 @@ pub mod Counting
 pub mod Darts
 pub mod Cycle
 pub mod Vertices
+pub mod Lengths
 pub mod Decided
 pub mod Answers
 pub mod Check

@@ -2,6 +2,7 @@
 use crate::answer::Answer;
 use crate::answer::Refusal;
 use crate::layout::EDGE;
+use crate::layout::LENGTH;
 use crate::layout::NOTHING;
 use crate::layout::VERTEX;
 use crate::layout::WORDS;
@@ -32,6 +33,7 @@ pub fn empty(t: &mut [u16]) -> Answer
     }
     fill(t, 0, EDGE, NOTHING);
     fill(t, EDGE, VERTEX, 0);
-    fill(t, VERTEX, WORDS, NOTHING);
+    fill(t, VERTEX, LENGTH, NOTHING);
+    fill(t, LENGTH, WORDS, 0);
     Answer::Done(0)
 }

@@ -5,7 +5,7 @@ pub const EDGES: usize = 1024;
 
 pub const DARTS: usize = 2048;
 
-pub const WORDS: usize = 7680;
+pub const WORDS: usize = 8704;
 
 // Where each kind of word begins; "next" words begin at 0.
 pub const PREV: usize = 2048;
@@ -15,6 +15,8 @@ pub const LEAVES: usize = 4096;
 pub const EDGE: usize = 6144;
 
 pub const VERTEX: usize = 7168;
+
+pub const LENGTH: usize = 7680;
 
 // The word of what is not there, and of a vertex that is live and isolated.
 pub const NOTHING: u16 = 65535;

@@ -1,14 +1,12 @@
--- A tally brought forward by one step, document 01, "Corners and walks", with the length of document 02, d, and when the step is declined: 7, then 9, then 6.
+-- A tally brought forward by one step, document 01, "Corners and walks", with the length of document 02, d, and when the step is declined: 6.
 use Prim.Native.Nat.{ℕ, _+_}
-use mathlib.Core.Bool.{Bool, true, false, not, _&&_}
+use mathlib.Core.Bool.{Bool, true, false, _&&_}
 use mathlib.Core.List.{List}
-use lib.Dec.{ltb, leb}
-use lib.ListN.{length}
-use Rattle.table.specs.Layout.{edges}
-use Rattle.table.specs.declared.answer.Refusal.the-variants.{Overturned, ShortSlice, Far}
+use lib.Dec.{ltb}
+use Rattle.table.specs.declared.answer.Refusal.the-variants.{Overturned}
 use Rattle.tracing.specs.Met.{times}
 use Rattle.weave.specs.Letters.{over, under, stepLetters}
-use Rattle.lengths.specs.CutLength.{farLength, takenBy, lap}
+use Rattle.lengths.specs.CutLength.{takenBy, lap}
 use Rattle.tally.specs.declared.tally.Tally.{Tally}
 use Rattle.tally.specs.declared.tally.Tallied.{Tallied}
 use Rattle.tally.specs.declared.tally.Tallied.the-variants.{Brought, Kept}
@@ -36,16 +34,12 @@ lapAt true = lap
 lapAt false = 0
 
 -- what step s adds to the length: what it takes up, and the lap if it is the walk's last one
-abbrev pub stepLength : List ℕ → ℕ → Bool → List ℕ → ℕ
-stepLength t s last lengths = takenBy t lengths s + lapAt last
+abbrev pub stepLength : List ℕ → ℕ → Bool → ℕ
+stepLength t s last = takenBy t s + lapAt last
 
 -- the tally with step s more: its letters and its length
-abbrev pub stepTally : List ℕ → ℕ → Bool → List ℕ → Tally → Tally
-stepTally t s last lengths y = forward y (times over (stepLetters t s)) (times under (stepLetters t s)) (stepLength t s last lengths)
+abbrev pub stepTally : List ℕ → ℕ → Bool → Tally → Tally
+stepTally t s last y = forward y (times over (stepLetters t s)) (times under (stepLetters t s)) (stepLength t s last)
 
--- "7 if they are short, and 9 for its own edge's length alone, which a step tests before 6"
-unfoldable pub tallyOf : List ℕ → ℕ → Bool → List ℕ → Tally → Tallied
-tallyOf t s last lengths y =
-    unless (leb edges (length lengths)) (Kept ShortSlice)
-    (unless (not (farLength lengths s)) (Kept Far)
-    (forwardOf y (times over (stepLetters t s)) (times under (stepLetters t s)) (stepLength t s last lengths)))
+unfoldable pub tallyOf : List ℕ → ℕ → Bool → Tally → Tallied
+tallyOf t s last y = forwardOf y (times over (stepLetters t s)) (times under (stepLetters t s)) (stepLength t s last)

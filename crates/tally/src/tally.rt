@@ -1,13 +1,11 @@
 // A tally, brought forward by one step: its letters are counted without a loop, and no field may pass 32 bits.
 use lengths::length::LAP;
-use lengths::length::LONGEST;
 use lengths::length::OVER_ALLOWANCE;
-use lengths::length::SHORTEST;
+use lengths::length::edge_length;
 use letters::letter::crossings;
 use letters::letter::edge_word;
 use letters::letter::overs;
 use table::answer::Refusal;
-use table::layout::EDGES;
 ghost use mathlib.Core.Path.{_≡_};
 ghost use Rattle.walks.specs.laws.Stands.{Stands};
 ghost use Rattle.tally.specs.Forward.{forwardOf, tallyOf};
@@ -55,23 +53,14 @@ fn forward(y: Tally, o: u16, u: u16, length: u32) -> Tallied
 }
 
 // The tally with step s more, which is the walk's last one or is not.
-pub fn tally_step(t: &[u16], s: u16, last: bool, lengths: &[u32], y: Tally) -> Tallied
+pub fn tally_step(t: &[u16], s: u16, last: bool, y: Tally) -> Tallied
     requires { ⌜ Stands (now t) s ⌝ }
-    ensures { λ r. ⌜ r ≡ tallyOf (now (t .entry)) s last (now (lengths .entry)) y ⌝ }
+    ensures { λ r. ⌜ r ≡ tallyOf (now (t .entry)) s last y ⌝ }
 {
-    if lengths.len() < EDGES {
-        return Tallied::Kept(Refusal::ShortSlice);
-    }
-    let l = lengths[(s / 2 / 2) as usize];
-    if l < SHORTEST {
-        return Tallied::Kept(Refusal::Far);
-    }
-    if LONGEST < l {
-        return Tallied::Kept(Refusal::Far);
-    }
+    let l = edge_length(t, s);
     let w = edge_word(t, s);
     let o = overs(w, s % 2);
     let u = crossings(w) - o;
-    let length = l + OVER_ALLOWANCE * o as u32 + LAP * last as u32;
+    let length = l as u32 + OVER_ALLOWANCE * o as u32 + LAP * last as u32;
     forward(y, o, u, length)
 }

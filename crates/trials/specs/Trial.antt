@@ -18,6 +18,7 @@ use Rattle.table.specs.declared.answer.Answer.the-variants.{Done, Declined}
 use Rattle.table.specs.declared.answer.Refusal.the-variants.{ShortSlice, ManyEdges}
 use Rattle.edits.specs.declared.edit.Edit.{Edit}
 use Rattle.edits.specs.declared.edit.Edit.the-variants.{AddVertex, InsertEdge}
+use Rattle.records.specs.Records.{plainLength}
 use Rattle.runs.specs.Run.{run}
 use Rattle.encoding.specs.Encoding.{jobOf}
 
@@ -50,7 +51,7 @@ turnsDrawn start e = pos (draw 3 (state start (3 * e + 3))) -ℤ pos 1
 
 -- the insertion of edge e, its corners "both chosen on the table before this insertion"
 abbrev pub insertionOn : List ℕ → ℕ → ℕ → Edit
-insertionOn t start e = InsertEdge e (cornerAt t (firstVertex start e)) (cornerAt t (secondVertex start e)) (turnsDrawn start e)
+insertionOn t start e = InsertEdge e (cornerAt t (firstVertex start e)) (cornerAt t (secondVertex start e)) (turnsDrawn start e) plainLength
 
 -- vertices 0 to n-1
 unfoldable pub additions : ℕ → List Edit

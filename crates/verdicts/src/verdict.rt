@@ -20,7 +20,7 @@ ghost use Rattle.table.specs.Rotation.{rotation};
 ghost use Rattle.table.specs.Answers.{unless};
 ghost use Rattle.table.specs.declared.answer.Refusal.the-variants.{Overturned};
 ghost use Rattle.tracing.specs.Corner.{wellFormed, present};
-ghost use Rattle.edits.specs.Verdicts.{newVertex, oldVertex, newEdge, oldEdge, isolation, verdict};
+ghost use Rattle.edits.specs.Verdicts.{newVertex, oldVertex, newEdge, oldEdge, isolation, fairLength, andThen, verdict};
 ghost use Rattle.edits.specs.declared.edit.Edit.the-variants.{AddVertex, RemoveVertex, InsertEdge, DeleteEdge, TurnEdge};
 ghost use Rattle.edits.specs.declared.edit.Verdict.the-variants.{Passes, Declines};
 
@@ -135,6 +135,26 @@ fn room_for(w: u16) -> Verdict
     Verdict::Passes
 }
 
+// By the length of an edge to insert.
+fn fair_length(length: u16) -> Verdict
+    ensures { λ r. ⌜ r ≡ fairLength length ⌝ }
+{
+    if length == 0 {
+        return Verdict::Declines(Refusal::Far);
+    }
+    Verdict::Passes
+}
+
+// By the edge word that an insertion would write, then its length.
+fn strip_for(w: u16, length: u16) -> Verdict
+    ensures { λ r. ⌜ r ≡ andThen (unless (not (eqb w 0)) (Declines Overturned) Passes) (fairLength length) ⌝ }
+{
+    match room_for(w) {
+        Verdict::Declines(r) => Verdict::Declines(r),
+        Verdict::Passes => fair_length(length),
+    }
+}
+
 // To add vertex v.
 pub fn add_verdict(t: &[u16], v: u16) -> Verdict
     ensures { λ r. ⌜ r ≡ verdict (now (t .entry)) (AddVertex v) ⌝ }
@@ -152,13 +172,13 @@ pub fn remove_verdict(t: &[u16], v: u16) -> Verdict
     }
 }
 
-// To insert edge e with turns k between corners c1 and c2.
-pub fn insert_verdict(t: &[u16], e: u16, c1: u16, c2: u16, k: i16) -> Verdict
-    ensures { λ r. ⌜ r ≡ verdict (now (t .entry)) (InsertEdge e c1 c2 k) ⌝ }
+// To insert edge e with turns k and a length between corners c1 and c2.
+pub fn insert_verdict(t: &[u16], e: u16, c1: u16, c2: u16, k: i16, length: u16) -> Verdict
+    ensures { λ r. ⌜ r ≡ verdict (now (t .entry)) (InsertEdge e c1 c2 k length) ⌝ }
 {
     match new_edge(t, e, c1, c2) {
         Verdict::Declines(r) => Verdict::Declines(r),
-        Verdict::Passes => room_for(turned_word(100, k)),
+        Verdict::Passes => strip_for(turned_word(100, k), length),
     }
 }
 

@@ -1,26 +1,29 @@
 //! Damage to good tables: single words, and changes that keep most rules and break one. Some leave the table good.
 
 use super::random::Random;
+use super::tables::random_length;
 use crate::table::*;
 
 /// Change a good table of the right size in one way.
 pub fn damage(random: &mut Random, table: &mut [u16]) {
-    match random.below(16) {
+    match random.below(18) {
         0 => one_word(random, table, NEXT, DARTS),
         1 => one_word(random, table, PREVIOUS, DARTS),
         2 => one_word(random, table, LEAVES, DARTS),
         3 => one_word(random, table, TURNS, EDGES),
         4 => one_word(random, table, VERTEX, VERTICES),
-        5 => one_word(random, table, 0, WORDS),
-        6 => swap_words(random, table),
-        7 => swap_rotations(random, table),
-        8 => exchange_next(random, table),
-        9 => move_cycle(random, table),
-        10 => name_another_dart(random, table),
-        11 => change_live_mark(random, table),
-        12 => clear_live_dart(random, table),
-        13 => move_dart(random, table),
-        14 => change_vertex_mark(random, table),
+        5 => one_word(random, table, LENGTH, EDGES),
+        6 => one_word(random, table, 0, WORDS),
+        7 => swap_words(random, table),
+        8 => swap_rotations(random, table),
+        9 => exchange_next(random, table),
+        10 => move_cycle(random, table),
+        11 => name_another_dart(random, table),
+        12 => change_live_mark(random, table),
+        13 => change_length(random, table),
+        14 => clear_live_dart(random, table),
+        15 => move_dart(random, table),
+        16 => change_vertex_mark(random, table),
         _ => turn_rotation_round(random, table),
     }
 }
@@ -47,6 +50,7 @@ fn one_word(random: &mut Random, table: &mut [u16], from: usize, count: usize) {
 fn place_of_live(table: &[u16], d: Dart, from: usize) -> usize {
     match from {
         TURNS => TURNS + edge_of(d) as usize,
+        LENGTH => LENGTH + edge_of(d) as usize,
         VERTEX => VERTEX + leaves(table, d) as usize % VERTICES,
         _ => from + d as usize,
     }
@@ -69,6 +73,7 @@ fn swap_words(random: &mut Random, table: &mut [u16]) {
         (LEAVES, DARTS),
         (TURNS, EDGES),
         (VERTEX, VERTICES),
+        (LENGTH, EDGES),
         (NEXT, 2 * DARTS),
         (NEXT, WORDS),
     ]);
@@ -139,17 +144,34 @@ fn name_another_dart(random: &mut Random, table: &mut [u16]) {
     }
 }
 
-/// An edge word from live to not live, the darts kept, or the other way.
-fn change_live_mark(random: &mut Random, table: &mut [u16]) {
-    let e = match random_live_dart(random, table) {
+/// An edge, every second time one that is live if any is.
+fn random_edge(random: &mut Random, table: &[u16]) -> Edge {
+    match random_live_dart(random, table) {
         Some(d) if random.once_in(2) => edge_of(d),
         _ => random.below(EDGES) as Edge,
-    };
+    }
+}
+
+/// An edge word from live to not live, the darts kept, or the other way; the length with it, or as it was.
+fn change_live_mark(random: &mut Random, table: &mut [u16]) {
+    let e = random_edge(random, table);
+    let before = length(table, e);
     if edge_is_live(table, e) {
         clear_edge(table, e);
     } else {
         set_turns(table, e, random.between(-MOST_TURNS, MOST_TURNS));
+        set_length(table, e, random_length(random));
     }
+    if random.once_in(2) {
+        set_length(table, e, before);
+    }
+}
+
+/// An edge gets another length, which is good if it is live, or none, which is good if it is not.
+fn change_length(random: &mut Random, table: &mut [u16]) {
+    let e = random_edge(random, table);
+    let length = if random.once_in(2) { NO_LENGTH } else { random_length(random) };
+    set_length(table, e, length);
 }
 
 /// One, two or three words of a live dart are those of a dart that is not live.

@@ -1,6 +1,7 @@
-//! Edits with arguments of every kind: right, absent, taken, malformed, past the range, overturned.
+//! Edits with arguments of every kind: right, absent, taken, malformed, past the range, overturned, without a length.
 
 use super::random::Random;
+use super::tables::random_length;
 use crate::edit::Edit;
 use crate::faces::VERTEX_CORNER;
 use crate::table::*;
@@ -46,7 +47,9 @@ fn random_insertion(random: &mut Random, table: &[u16], window: Window) -> Edit 
     let e = random_name(random, window.edges, EDGES, |e| !edge_is_live(table, e));
     let c1 = random_corner(random, table, window);
     let c2 = if random.once_in(4) { c1 } else { random_corner(random, table, window) };
-    Edit::InsertEdge { e, c1, c2, k: random_turns(random) }
+    let k = random_turns(random);
+    let length = if random.once_in(12) { NO_LENGTH } else { random_length(random) };
+    Edit::InsertEdge { e, c1, c2, k, length }
 }
 
 fn random_vertex(random: &mut Random, window: Window, right: impl Fn(Vertex) -> bool) -> u16 {

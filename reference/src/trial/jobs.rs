@@ -3,7 +3,7 @@
 use super::edits::{random_edit, WINDOWS};
 use super::random::Random;
 use crate::edit::{edit, Edit};
-use crate::job::record;
+use crate::job::{record, record_with_length};
 use crate::table::empty_mesh;
 
 /// A list of edits from the empty mesh, of which most are accepted.
@@ -19,9 +19,19 @@ pub fn random_edits(random: &mut Random, count: usize) -> Vec<Edit> {
     edits
 }
 
+/// A record of an edit. An insertion of length 16 is an IE or an IL.
+pub fn random_record(random: &mut Random, change: Edit) -> Vec<u8> {
+    if random.once_in(2) {
+        record(change)
+    } else {
+        record_with_length(change)
+    }
+}
+
 /// A job file of such edits; some are cut short, some have a bad mark among the records.
 pub fn random_job(random: &mut Random, count: usize) -> Vec<u8> {
-    let mut records: Vec<Vec<u8>> = random_edits(random, count).into_iter().map(record).collect();
+    let edits = random_edits(random, count);
+    let mut records: Vec<Vec<u8>> = edits.into_iter().map(|change| random_record(random, change)).collect();
     if random.once_in(4) {
         let bad = [random.word() as u8, random.word() as u8, 0, 0];
         records.insert(random.below(records.len() + 1), bad.to_vec());

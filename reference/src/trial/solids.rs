@@ -1,6 +1,7 @@
 //! The Platonic solids as tables, their rotations read off the corner points in space.
 
 use super::tables::Mesh;
+use crate::job::PLAIN_LENGTH;
 
 pub type Space = [f64; 3];
 
@@ -17,7 +18,7 @@ fn minus(a: Space, b: Space) -> Space {
 }
 
 /// The mesh of a solid about the origin whose edges are its closest pairs of corner points: around each corner, the
-/// edges by their angle as seen from outside.
+/// edges by their angle as seen from outside. The lengths are those that a plain IE writes.
 pub fn solid(corners: &[Space], turns: i32) -> Vec<u16> {
     let apart = |a: usize, b: usize| dot(minus(corners[a], corners[b]), minus(corners[a], corners[b]));
     let pairs: Vec<(usize, usize)> =
@@ -41,7 +42,7 @@ pub fn solid(corners: &[Space], turns: i32) -> Vec<u16> {
         darts.into_iter().map(|(d, _)| d).collect()
     };
     let rotations = (0..corners.len()).map(|v| (v as u16, rotation(v))).collect();
-    Mesh { rotations, turns: (0..edges.len()).map(|e| (e as u16, turns)).collect() }.written()
+    Mesh { rotations, edges: (0..edges.len()).map(|e| (e as u16, turns, PLAIN_LENGTH)).collect() }.written()
 }
 
 /// All signs of a point, each once, in the three cyclic orders of its coordinates.

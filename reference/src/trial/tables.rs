@@ -1,21 +1,24 @@
 //! Good tables, written straight from rotations and by no edit.
 
 use super::random::Random;
+use crate::job::PLAIN_LENGTH;
 use crate::table::*;
 
-/// A mesh as it is said in words: at each live vertex its darts counterclockwise, and each live edge's turns.
+/// A mesh as it is said in words: at each live vertex its darts counterclockwise, and each live edge with its turns and
+/// its length.
 #[derive(Clone, Debug, Default)]
 pub struct Mesh {
     pub rotations: Vec<(Vertex, Vec<Dart>)>,
-    pub turns: Vec<(Edge, i32)>,
+    pub edges: Vec<(Edge, i32, u16)>,
 }
 
 impl Mesh {
     /// The table of this mesh.
     pub fn written(&self) -> Vec<u16> {
         let mut table = empty_mesh();
-        for &(e, turns) in &self.turns {
+        for &(e, turns, length) in &self.edges {
             set_turns(&mut table, e, turns);
+            set_length(&mut table, e, length);
         }
         for (v, rotation) in &self.rotations {
             set_vertex_word(&mut table, *v, rotation.iter().copied().min().unwrap_or(ISOLATED));
@@ -52,18 +55,37 @@ impl Turns {
     }
 }
 
+/// The length of a live edge: at times the shortest, that of a plain IE or the longest, else anything between.
+pub fn random_length(random: &mut Random) -> u16 {
+    match random.below(8) {
+        0 => 1,
+        1..=3 => PLAIN_LENGTH,
+        4 => u16::MAX,
+        _ => 1 + random.below(65_535) as u16,
+    }
+}
+
+/// The same table with these lengths on its live edges.
+pub fn with_lengths(table: &[u16], mut of: impl FnMut(Edge) -> u16) -> Vec<u16> {
+    let mut table = table.to_vec();
+    for e in live_edges(&table).collect::<Vec<_>>() {
+        set_length(&mut table, e, of(e));
+    }
+    table
+}
+
 /// A mesh of so many vertices and edges with names from the whole range. A drawn share of the vertices stays
 /// isolated, and a drawn share of the edges are loops within one corner, which make many faces.
 pub fn random_mesh(random: &mut Random, vertices: usize, edges: usize) -> Mesh {
     let names = random.names(vertices, VERTICES);
     let mut rotations: Vec<(Vertex, Vec<Dart>)> = names.into_iter().map(|v| (v, Vec::new())).collect();
-    let mut turns = Vec::new();
+    let mut strips = Vec::new();
     if vertices > 0 {
         let joined = 1 + random.below(vertices);
         let loops = random.pick(&[1, 2, 10, 1_000_000]);
         let kind = random.pick(&ALL_TURNS);
         for e in random.names(edges, EDGES) {
-            turns.push((e, kind.draw(random)));
+            strips.push((e, kind.draw(random), random_length(random)));
             let first = put(random, &mut rotations[..joined], 2 * e);
             if random.once_in(loops) {
                 rotations[first.0].1.insert(first.1 + 1, 2 * e + 1);
@@ -72,7 +94,7 @@ pub fn random_mesh(random: &mut Random, vertices: usize, edges: usize) -> Mesh {
             }
         }
     }
-    Mesh { rotations, turns }
+    Mesh { rotations, edges: strips }
 }
 
 /// Put a dart anywhere among the rotations and answer where.

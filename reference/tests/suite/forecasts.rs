@@ -11,7 +11,7 @@ use reference::trial::damage::damage;
 use reference::trial::edits::{random_edge_edit, random_edit, WINDOWS};
 use reference::trial::random::Random;
 use reference::trial::tables::random_table;
-use Refusal::{Absent, NoSuchName, Overturned, StaleForecast, Taken, Torn};
+use Refusal::{Absent, Far, NoSuchName, Overturned, StaleForecast, Taken, Torn};
 use Rule::{A, B1, B2, E};
 
 fn forecast(before: usize, rule: Rule, after: usize) -> Forecast {
@@ -78,6 +78,12 @@ fn the_edits_own_numbers_go_first() {
         (insert(1, 5, 0, 0), Absent),
         (insert(1, 0, around(0), 100), Absent),
         (insert(1, 0, 1, 100), Overturned),
+        (insert_long(1_024, 0, 0, 0, 0), NoSuchName),
+        (insert_long(0, 0, 1, 0, 0), Taken),
+        (insert_long(1, 5, 0, 0, 0), Absent),
+        (insert_long(1, 0, 1, 100, 0), Overturned),
+        (insert_long(1, 0, 1, 0, 0), Far),
+        (insert_long(1_023, around(1), around(1), -99, 0), Far),
         (delete(1_024), NoSuchName),
         (delete(1), Absent),
         (turn(1_024, 1), NoSuchName),
@@ -95,7 +101,8 @@ fn the_edits_own_numbers_go_first() {
             table[7_000] = 200;
             assert_eq!(ask(&table, change), Err(Torn));
             assert_eq!(commit(&mut table, change, offered), Err(Torn));
-            assert_eq!(commit(&mut table[..7_679], change, offered), Err(Torn));
+            assert_eq!(commit(&mut table[..8_703], change, offered), Err(Torn));
+            assert_eq!(commit(&mut sample.clone()[..7_680], change, offered), Err(Torn));
         }
     }
 }

@@ -6,6 +6,7 @@ mod forecasts;
 mod good;
 mod job;
 mod k4;
+mod lengths;
 mod reader;
 mod refusals;
 mod ribbons;
@@ -32,8 +33,13 @@ pub fn remove(v: u16) -> Edit {
     Edit::RemoveVertex { v }
 }
 
+/// An insertion with the length that a plain IE writes, 16.
 pub fn insert(e: u16, c1: u16, c2: u16, k: i16) -> Edit {
-    Edit::InsertEdge { e, c1, c2, k }
+    insert_long(e, c1, c2, k, 16)
+}
+
+pub fn insert_long(e: u16, c1: u16, c2: u16, k: i16, length: u16) -> Edit {
+    Edit::InsertEdge { e, c1, c2, k, length }
 }
 
 pub fn delete(e: u16) -> Edit {

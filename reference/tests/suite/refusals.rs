@@ -44,6 +44,7 @@ fn torn_goes_before_everything() {
         insert(1, 0, 1, 0),
         insert(0, 0, 0, 100),
         insert(2_000, 3_000, 9, 100),
+        insert_long(1, 0, 1, 0, 0),
         delete(0),
         delete(9),
         delete(1_024),
@@ -57,7 +58,8 @@ fn torn_goes_before_everything() {
         let before = torn.clone();
         assert_eq!(edit(&mut torn, change), Err(Torn));
         assert_eq!(torn, before);
-        assert_eq!(edit(&mut torn[..7_679], change), Err(Torn));
+        assert_eq!(edit(&mut torn[..8_703], change), Err(Torn));
+        assert_eq!(edit(&mut sample()[..7_680], change), Err(Torn), "the words of document 01 alone");
         assert_eq!(edit(&mut [], change), Err(Torn));
     }
 }
@@ -101,6 +103,12 @@ fn inserting_an_edge() {
     for k in [100, -100, 32_767, -32_768] {
         declines(insert(1, 0, 1, k), Overturned);
     }
+    for length in [1, 2, 15, 17, 32_767, 32_768, 65_534, 65_535] {
+        accepts(insert_long(1, 0, 1, -99, length));
+    }
+    for (e, c1, c2, k) in [(1, 0, 1, 0), (1, 0, 0, 99), (1_023, around(1), 1, -99), (7, around(1), around(1), 1)] {
+        declines(insert_long(e, c1, c2, k, 0), Far);
+    }
 }
 
 #[test]
@@ -112,6 +120,15 @@ fn inserting_an_edge_for_more_than_one_reason() {
     declines(insert(0, 0, 0, 100), Taken);
     declines(insert(1, 5, 0, 100), Absent);
     declines(insert(1, 0, around(0), -100), Absent);
+    // "A length of 0 on insertion is 9, the last of the edit's own numbers."
+    declines(insert_long(1_024, 0, 1, 0, 0), NoSuchName);
+    declines(insert_long(1, 0, 2_048, 0, 0), NoSuchName);
+    declines(insert_long(0, 0, 1, 0, 0), Taken);
+    declines(insert_long(1, 5, 0, 0, 0), Absent);
+    declines(insert_long(1, 0, around(2), 0, 0), Absent);
+    declines(insert_long(1, 0, 1, 100, 0), Overturned);
+    declines(insert_long(1, 0, 1, -100, 0), Overturned);
+    declines(insert_long(1_024, 2_048, 5, 100, 0), NoSuchName);
 }
 
 #[test]

@@ -7,7 +7,7 @@ use reference::refusal::Refusal;
 use reference::table::*;
 use reference::trace::{corner_met, other_sense, step, walk_from, Step};
 use reference::trial::random::Random;
-use reference::trial::tables::random_table;
+use reference::trial::tables::{random_table, with_lengths};
 use reference::weave::{alternate, count, crossings, ribbon_alternates, ribbon_letters, Letter::*};
 
 #[test]
@@ -48,27 +48,32 @@ fn letters_of_a_ribbon_decline_as_they_should() {
     assert_eq!(ribbon_alternates(&table, 0, 0), Ok(true));
 }
 
+/// The sample with these lengths.
+fn sample_of(first: u16, second: u16) -> Vec<u16> {
+    with_lengths(&sample(), |e| if e == 0 { first } else { second })
+}
+
 /// The ribbon (0,0), (1,1), (2,0) has the letters O and U, the one of step (3,0) has none.
 #[test]
 fn a_cut_length_is_edges_overs_and_the_lap() {
-    let table = sample();
-    let mut lengths = vec![0; 1_024];
-    (lengths[0], lengths[1]) = (1_000, 65_535);
+    let table = sample_of(1_000, 65_535);
     // Cycle at 0: 0, 2, 3. From (0,0) the type is 1 at the far end, the only dart there is 1; back over edge 0 the
     // type is 0 again, and next after dart 0 comes dart 2; its reverse is 3, and next after that is 0.
     assert_eq!(walk_from(&table, step(0, 0)), [step(0, 0), step(1, 1), step(2, 0)]);
     for (dart, t) in [(0, 0), (1, 1), (2, 0)] {
-        assert_eq!(cut_length(&table, dart, t, &lengths), Ok(1_000 + 1_000 + 65_535 + 8 + 320));
+        assert_eq!(cut_length(&table, dart, t), Ok(1_000 + 1_000 + 65_535 + 8 + 320));
     }
-    assert_eq!(cut_length(&table, 3, 0, &lengths), Ok(65_535 + 320), "no letters, and yet a lap");
+    assert_eq!(cut_length(&table, 3, 0), Ok(65_535 + 320), "no letters, and yet a lap");
+    // What the insertions wrote: three edges of 16, one O, the lap.
+    assert_eq!(cut_length(&sample(), 0, 0), Ok(48 + 8 + 320));
 }
 
 /// An edge of turns k between two vertices: its ribbon passes both sides, so at each crossing it is over once.
 #[test]
 fn eight_for_each_letter_o() {
     for (k, overs) in [(0, 0), (1, 1), (-1, 1), (2, 2), (-3, 3), (99, 99), (-99, 99)] {
-        let table = made(&[add(0), add(1), insert(0, around(0), around(1), k)]);
-        assert_eq!(cut_length(&table, 0, 0, &[1_000; 1_024]), Ok(2_000 + 8 * overs + 320), "{k} turns");
+        let table = made(&[add(0), add(1), insert_long(0, around(0), around(1), k, 1_000)]);
+        assert_eq!(cut_length(&table, 0, 0), Ok(2_000 + 8 * overs + 320), "{k} turns");
     }
 }
 
@@ -77,53 +82,43 @@ fn eight_for_each_letter_o() {
 /// O's: (1,0) 50 of 99, (2,1) OUO two; (0,1) 49 of 99, (2,0) UOU one.
 #[test]
 fn each_side_has_its_own_overs() {
-    let table = made(&[add(0), insert(0, around(0), around(0), 99), insert(1, 0, 1, -3)]);
+    let table = made(&[add(0), insert_long(0, around(0), around(0), 99, 1_000), insert_long(1, 0, 1, -3, 70)]);
     assert_eq!(walk_from(&table, step(1, 0)), [step(1, 0), step(2, 1)]);
     assert_eq!(walk_from(&table, step(0, 1)), [step(0, 1), step(2, 0)]);
-    let mut lengths = vec![0; 1_024];
-    (lengths[0], lengths[1]) = (1_000, 70);
-    assert_eq!(cut_length(&table, 1, 0, &lengths), Ok(1_000 + 70 + 8 * 52 + 320));
-    assert_eq!(cut_length(&table, 0, 1, &lengths), Ok(1_000 + 70 + 8 * 50 + 320));
+    assert_eq!(cut_length(&table, 1, 0), Ok(1_000 + 70 + 8 * 52 + 320));
+    assert_eq!(cut_length(&table, 0, 1), Ok(1_000 + 70 + 8 * 50 + 320));
 }
 
 /// "An isolated vertex still yields no ribbon": no step names its empty walk, and the ribbons beside it stay.
 #[test]
 fn an_isolated_vertex_has_no_cut_length() {
     let alone = made(&[add(7)]);
-    assert_eq!(cut_length(&alone, around(7), 0, &[1; 1_024]), Err(Refusal::NoSuchName));
-    assert_eq!(cut_length(&alone, 7, 0, &[1; 1_024]), Err(Refusal::Absent));
-    let mut table = sample();
+    assert_eq!(cut_length(&alone, around(7), 0), Err(Refusal::NoSuchName));
+    assert_eq!(cut_length(&alone, 7, 0), Err(Refusal::Absent));
+    let mut table = sample_of(1, 1);
     edit(&mut table, add(7)).unwrap();
-    assert_eq!(cut_length(&table, around(7), 0, &[1; 1_024]), Err(Refusal::NoSuchName));
-    assert_eq!(cut_length(&table, 0, 0, &[1; 1_024]), Ok(3 + 8 + 320));
+    assert_eq!(cut_length(&table, around(7), 0), Err(Refusal::NoSuchName));
+    assert_eq!(cut_length(&table, 0, 0), Ok(3 + 8 + 320));
 }
 
-/// A ribbon is "named by any step on it", in either sense; where one length is far, it is far from each of them.
+/// A ribbon is "named by any step on it", in either sense.
 #[test]
 fn every_step_names_the_same_cut_length() {
     let mut random = Random::new(0xc07);
     let mut named = 0;
     for _ in 0..30 {
         let table = random_table(&mut random);
-        let mut lengths: Vec<u32> = (0..1_024).map(|_| 1 + random.below(65_535) as u32).collect();
         for ribbon in ribbons(&table).iter().filter(|ribbon| ribbon.len() < 300).take(8) {
             let mut names: Vec<Step> = ribbon.clone();
             names.extend(ribbon.iter().map(|&s| other_sense(&table, s)));
             assert!(ribbon.iter().all(|&s| corner_met(&table, s) == corner_met(&table, other_sense(&table, s))));
             assert_eq!(walk_from(&table, names[ribbon.len()]).len(), ribbon.len());
-            let all = |lengths: &[u32]| {
-                let mut answers: Vec<_> =
-                    names.iter().map(|s| cut_length(&table, s.dart, s.t as u16, lengths)).collect();
-                answers.dedup();
-                answers
-            };
+            let mut answers: Vec<_> = names.iter().map(|s| cut_length(&table, s.dart, s.t as u16)).collect();
+            answers.dedup();
             let letters = ribbon_letters(&table, ribbon[0].dart, ribbon[0].t as u16).unwrap();
-            let edges: u32 = ribbon.iter().map(|s| lengths[s.edge() as usize]).sum();
-            assert_eq!(all(&lengths), [Ok(edges + 8 * count(&letters, O) + 320)]);
-            let far = random.pick(ribbon).edge() as usize;
-            let before = std::mem::replace(&mut lengths[far], random.pick(&[0, 65_536, u32::MAX]));
-            assert_eq!(all(&lengths), [Err(Refusal::Far)]);
-            lengths[far] = before;
+            // Word 7,680 + e, whichever of the edge's darts the step is on.
+            let edges: u32 = ribbon.iter().map(|s| u32::from(table[7_680 + s.dart as usize / 2])).sum();
+            assert_eq!(answers, [Ok(edges + 8 * count(&letters, O) + 320)]);
             named += names.len();
         }
     }
@@ -134,36 +129,28 @@ fn every_step_names_the_same_cut_length() {
 /// dart 1; from (0,1) it is 0, and dart 2 comes next after dart 1; and so on over all of them.
 #[test]
 fn the_largest_cut_length() {
-    let mut edits = vec![add(0), insert(0, around(0), around(0), 99)];
-    edits.extend((1..1_024).map(|e| insert(e, 0, 0, 99)));
+    let mut edits = vec![add(0), insert_long(0, around(0), around(0), 99, 65_535)];
+    edits.extend((1..1_024).map(|e| insert_long(e, 0, 0, 99, 65_535)));
     let table = made(&edits);
     assert_eq!(walk_sizes(&table), [2_048]);
     // 134,215,680 for the edges; (2e,0) has 50 O's and (2e,1) has 49: 811,008 for the O's; and the lap.
-    assert_eq!(cut_length(&table, 0, 0, &[65_535; 1_024]), Ok(2_048 * 65_535 + 8 * 1_024 * 99 + 320));
-    assert_eq!(cut_length(&table, 0, 0, &[65_535; 1_024]), Ok(135_027_008));
+    assert_eq!(cut_length(&table, 0, 0), Ok(2_048 * 65_535 + 8 * 1_024 * 99 + 320));
+    assert_eq!(cut_length(&table, 0, 0), Ok(135_027_008));
 }
 
+/// "no longer answer 7 or 9": a length that is none is a torn table, wherever it stands.
 #[test]
 fn a_cut_length_declines() {
-    let table = sample();
-    let good = vec![1; 1_024];
-    let mut far = vec![1; 1_024];
-    far[1] = 65_536;
-    far[900] = 0;
-    assert_eq!(cut_length(&table, 0, 0, &far), Err(Refusal::Far));
-    far[1] = 0;
-    assert_eq!(cut_length(&table, 0, 0, &far), Err(Refusal::Far));
-    far[1] = 1;
-    // Three edges of 1, one O, the lap.
-    assert_eq!(cut_length(&table, 0, 0, &far), Ok(331), "only edges on the ribbon count");
-    far[0] = u32::MAX;
-    assert_eq!(cut_length(&table, 3, 0, &far), Ok(321));
-    assert_eq!(cut_length(&table, 0, 0, &far[..1_023]), Err(Refusal::ShortSlice), "7 before 9");
-    assert_eq!(cut_length(&table, 0, 0, &good[..1_023]), Err(Refusal::ShortSlice));
-    assert_eq!(cut_length(&table, 4, 0, &[]), Err(Refusal::Absent), "4 before 7");
-    assert_eq!(cut_length(&table, 4, 2, &[]), Err(Refusal::NoSuchName));
-    assert_eq!(cut_length(&[], 4, 2, &[]), Err(Refusal::Torn));
-    assert_eq!(cut_length(&table, 0, 0, &[vec![1; 1_024], vec![0]].concat()), Ok(331), "a longer slice");
+    let table = sample_of(1, 1);
+    // Three edges of 1, one O, the lap; the other ribbon has one edge and no O.
+    assert_eq!((cut_length(&table, 0, 0), cut_length(&table, 3, 0)), (Ok(331), Ok(321)));
+    assert_eq!(cut_length(&table, 4, 0), Err(Refusal::Absent));
+    assert_eq!(cut_length(&table, 4, 2), Err(Refusal::NoSuchName));
+    assert_eq!(cut_length(&table, 2_048, 0), Err(Refusal::NoSuchName));
+    assert_eq!(cut_length(&[], 4, 2), Err(Refusal::Torn));
+    for torn in [sample_of(0, 1), sample_of(1, 0), table[..7_680].to_vec(), table[..8_703].to_vec()] {
+        assert_eq!(cut_length(&torn, 3, 0), Err(Refusal::Torn));
+    }
 }
 
 /// The float path with room to spare; what is written, and that nothing past it is.

@@ -8,7 +8,7 @@ use reference::faces::face_count;
 use reference::job::{job, read_record, record};
 use reference::refusal::Refusal::{self, *};
 use reference::run::run;
-use reference::table::{live_edges, live_vertices, turns};
+use reference::table::{length, live_edges, live_vertices, turns};
 use reference::trial::random::Random;
 use reference::trial_job::{trial_bytes, trial_edits, trial_job};
 use Reading::*;
@@ -145,8 +145,9 @@ fn read(mut bytes: &[u8]) -> Vec<Edit> {
     edits
 }
 
-/// "Every record made so is accepted when run from the empty mesh." After it stand 8 vertices and N edges, each of at most one turn, on a
-/// table of which all is true that is true after any run.
+/// "Every record made so is accepted when run from the empty mesh." After it stand 8 vertices and N edges, each of at
+/// most one turn and of the length that a plain IE writes, on a table of which all is true that is true after any
+/// run.
 #[test]
 fn every_record_is_accepted() {
     for (start, edges) in pairs(&mut Random::new(0x7a2), 300) {
@@ -158,7 +159,7 @@ fn every_record_is_accepted() {
         let run = run(&mut table, &edits);
         assert!(run.answers.iter().all(Result::is_ok), "{start} {edges}");
         assert!(live_vertices(&table).eq(0..8) && live_edges(&table).eq(0..edges as u16), "{start} {edges}");
-        assert!(live_edges(&table).all(|e| turns(&table, e).abs() <= 1), "{start} {edges}");
+        assert!(live_edges(&table).all(|e| turns(&table, e).abs() <= 1 && length(&table, e) == 16), "{start} {edges}");
         assert!(is_good(&table));
         let faces = run.start_faces as i64 + run.changes.iter().sum::<i64>();
         assert_eq!([boundary_circles(&table) as i64, face_count(&table) as i64], [faces; 2]);

@@ -3,7 +3,7 @@
 
 use reference::table::{darts_of, Dart, Vertex};
 use reference::trial::random::Random;
-use reference::trial::tables::Mesh;
+use reference::trial::tables::{random_length, Mesh};
 use std::ops::Range;
 
 pub const BLOCK: usize = 32;
@@ -75,6 +75,9 @@ pub fn table_on(random: &mut Random, lie: Lie, edges: &[u16], joined: &[Vertex],
     }
     rotations.extend(isolated.iter().map(|&v| (v, Vec::new())));
     let same = random.once_in(2).then(|| random.pick(&SAME));
-    let turns = edges.iter().map(|&e| (e, same.unwrap_or_else(|| random.between(-3, 3)))).collect();
-    Mesh { rotations, turns }.written()
+    let mut drawn = |e: u16| {
+        let turns = same.unwrap_or_else(|| random.between(-3, 3));
+        (e, turns, random_length(random))
+    };
+    Mesh { rotations, edges: edges.iter().map(|&e| drawn(e)).collect() }.written()
 }

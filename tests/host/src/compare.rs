@@ -22,12 +22,14 @@ impl Twins {
         Twins { lent: Guarded::new(table, GUARD), own: table.to_vec() }
     }
 
-    /// Vertices 0 and 1, and edge 0 with k turns between two of their corners, 32,768 and 32,769. As a loop at vertex 0 it leaves
-    /// vertex 1 a face of its own; flat, each of its darts has a face, (0, 0) and (1, 0); with an odd k the walk is (0, 0), (0, 1).
-    /// Between the two vertices its walk is (0, 0), (1, t), with t the parity of k.
+    /// Vertices 0 and 1, and edge 0 of length 700 with k turns between two of their corners, 32,768 and 32,769. As a
+    /// loop at vertex 0 it leaves vertex 1 a face of its own; flat, each of its darts has a face, (0, 0) and (1, 0);
+    /// with an odd k the walk is (0, 0), (0, 1). Between the two vertices its walk is (0, 0), (1, t), with t the
+    /// parity of k.
     pub fn with_edge(c1: u16, c2: u16, k: i16) -> Twins {
         let mut twins = Twins::new(&empty_mesh());
-        for change in [Edit::AddVertex { v: 0 }, Edit::AddVertex { v: 1 }, Edit::InsertEdge { e: 0, c1, c2, k }] {
+        let insert = Edit::InsertEdge { e: 0, c1, c2, k, length: 700 };
+        for change in [Edit::AddVertex { v: 0 }, Edit::AddVertex { v: 1 }, insert] {
             assert!(twins.edit(change) >= 0);
         }
         twins
@@ -125,7 +127,7 @@ fn outcomes(kind: &str) -> &'static [i64] {
     match kind {
         "add" => &[0, -2, -3],
         "remove" => &[0, -2, -4, -5],
-        "insert" => &[1, 2, 3, -2, -3, -4, -6],
+        "insert" => &[1, 2, 3, -2, -3, -4, -6, -9],
         "delete" => &[1, 2, 3, -2, -4],
         _ => &[1, 2, 3, 4, -2, -4, -6],
     }

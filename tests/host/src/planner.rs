@@ -15,10 +15,19 @@ mod c {
         pub fn planner_listing(table: *const u16, words: usize, out: *mut u16, out_words: usize) -> i64;
         pub fn planner_add_vertex(table: *mut u16, words: usize, v: u16) -> i64;
         pub fn planner_remove_vertex(table: *mut u16, words: usize, v: u16) -> i64;
-        pub fn planner_insert_edge(table: *mut u16, words: usize, e: u16, c1: u16, c2: u16, k: i16) -> i64;
+        pub fn planner_insert_edge(table: *mut u16, words: usize, e: u16, c1: u16, c2: u16, k: i16, length: u16)
+            -> i64;
         pub fn planner_delete_edge(table: *mut u16, words: usize, e: u16) -> i64;
         pub fn planner_turn_edge(table: *mut u16, words: usize, e: u16, amount: i16) -> i64;
-        pub fn planner_ask_insert_edge(table: *const u16, words: usize, e: u16, c1: u16, c2: u16, k: i16) -> i64;
+        pub fn planner_ask_insert_edge(
+            table: *const u16,
+            words: usize,
+            e: u16,
+            c1: u16,
+            c2: u16,
+            k: i16,
+            length: u16,
+        ) -> i64;
         pub fn planner_ask_delete_edge(table: *const u16, words: usize, e: u16) -> i64;
         pub fn planner_ask_turn_edge(table: *const u16, words: usize, e: u16, amount: i16) -> i64;
         pub fn planner_commit_insert_edge(
@@ -28,6 +37,7 @@ mod c {
             c1: u16,
             c2: u16,
             k: i16,
+            length: u16,
             forecast: i64,
         ) -> i64;
         pub fn planner_commit_delete_edge(table: *mut u16, words: usize, e: u16, forecast: i64) -> i64;
@@ -44,14 +54,7 @@ mod c {
             out: *mut u8,
             out_bytes: usize,
         ) -> i64;
-        pub fn planner_cut_length(
-            table: *const u16,
-            words: usize,
-            dart: u16,
-            kind: u16,
-            lengths: *const u32,
-            n_lengths: usize,
-        ) -> i64;
+        pub fn planner_cut_length(table: *const u16, words: usize, dart: u16, kind: u16) -> i64;
         pub fn planner_float_path(
             table: *const u16,
             words: usize,
@@ -86,8 +89,6 @@ mod c {
             table: *const u16,
             words: usize,
             reader: *mut super::Reader,
-            lengths: *const u32,
-            n_lengths: usize,
             tally: *mut super::Tally,
         ) -> i64;
         pub fn planner_trial_job(start: u32, edges: u32, out: *mut u8, out_bytes: usize) -> i64;
@@ -97,6 +98,7 @@ mod c {
             c1: u16,
             c2: u16,
             k: i16,
+            length: u16,
             out: *mut u8,
             out_bytes: usize,
         ) -> i64;
@@ -228,8 +230,8 @@ pub fn letters(table: &[u16], dart: u16, kind: u16, out: &mut [u8]) -> i64 {
     unsafe { c::planner_letters(table.as_ptr(), table.len(), dart, kind, out.as_mut_ptr(), out.len()) }
 }
 
-pub fn cut_length(table: &[u16], dart: u16, kind: u16, lengths: &[u32]) -> i64 {
-    unsafe { c::planner_cut_length(table.as_ptr(), table.len(), dart, kind, lengths.as_ptr(), lengths.len()) }
+pub fn cut_length(table: &[u16], dart: u16, kind: u16) -> i64 {
+    unsafe { c::planner_cut_length(table.as_ptr(), table.len(), dart, kind) }
 }
 
 /// The float path of the ribbon through the step, into two outputs.
@@ -289,8 +291,8 @@ pub fn whole_path_of_nulls(table: &[u16], (dart, kind): (u16, u16)) -> i64 {
 }
 
 /// One step of the reader that the host keeps.
-pub fn walk_step(table: &[u16], reader: &mut Reader, lengths: &[u32], tally: &mut Tally) -> i64 {
-    unsafe { c::planner_walk_step(table.as_ptr(), table.len(), reader, lengths.as_ptr(), lengths.len(), tally) }
+pub fn walk_step(table: &[u16], reader: &mut Reader, tally: &mut Tally) -> i64 {
+    unsafe { c::planner_walk_step(table.as_ptr(), table.len(), reader, tally) }
 }
 
 pub fn trial_job(start: u32, edges: u32, out: &mut [u8]) -> i64 {
@@ -302,13 +304,23 @@ pub fn trial_job_null(start: u32, edges: u32) -> i64 {
     unsafe { c::planner_trial_job(start, edges, std::ptr::null_mut(), 0) }
 }
 
-pub fn job_record(mark: u16, name: u16, c1: u16, c2: u16, k: i16, out: &mut [u8]) -> i64 {
-    unsafe { c::planner_job_record(mark, name, c1, c2, k, out.as_mut_ptr(), out.len()) }
+/// The numbers that a job record may have beside its mark; which of them it has goes by the mark.
+#[derive(Clone, Copy, Debug, PartialEq, Eq)]
+pub struct Numbers {
+    pub name: u16,
+    pub c1: u16,
+    pub c2: u16,
+    pub k: i16,
+    pub length: u16,
+}
+
+pub fn job_record(mark: u16, n: Numbers, out: &mut [u8]) -> i64 {
+    unsafe { c::planner_job_record(mark, n.name, n.c1, n.c2, n.k, n.length, out.as_mut_ptr(), out.len()) }
 }
 
 /// A job record into an output of no bytes whose pointer is null.
-pub fn job_record_null(mark: u16, name: u16, c1: u16, c2: u16, k: i16) -> i64 {
-    unsafe { c::planner_job_record(mark, name, c1, c2, k, std::ptr::null_mut(), 0) }
+pub fn job_record_null(mark: u16, n: Numbers) -> i64 {
+    unsafe { c::planner_job_record(mark, n.name, n.c1, n.c2, n.k, n.length, std::ptr::null_mut(), 0) }
 }
 
 pub fn edit(table: &mut [u16], edit: Edit) -> i64 {
@@ -325,7 +337,7 @@ fn edit_at(table: *mut u16, words: usize, edit: Edit) -> i64 {
         match edit {
             Edit::AddVertex { v } => c::planner_add_vertex(table, words, v),
             Edit::RemoveVertex { v } => c::planner_remove_vertex(table, words, v),
-            Edit::InsertEdge { e, c1, c2, k } => c::planner_insert_edge(table, words, e, c1, c2, k),
+            Edit::InsertEdge { e, c1, c2, k, length } => c::planner_insert_edge(table, words, e, c1, c2, k, length),
             Edit::DeleteEdge { e } => c::planner_delete_edge(table, words, e),
             Edit::TurnEdge { e, amount } => c::planner_turn_edge(table, words, e, amount),
         }
@@ -345,7 +357,7 @@ pub fn ask_null(edit: Edit) -> i64 {
 fn ask_at(table: *const u16, words: usize, edit: Edit) -> i64 {
     unsafe {
         match edit {
-            Edit::InsertEdge { e, c1, c2, k } => c::planner_ask_insert_edge(table, words, e, c1, c2, k),
+            Edit::InsertEdge { e, c1, c2, k, length } => c::planner_ask_insert_edge(table, words, e, c1, c2, k, length),
             Edit::DeleteEdge { e } => c::planner_ask_delete_edge(table, words, e),
             Edit::TurnEdge { e, amount } => c::planner_ask_turn_edge(table, words, e, amount),
             Edit::AddVertex { .. } | Edit::RemoveVertex { .. } => panic!("{edit:?}: a vertex has no forecast"),
@@ -365,7 +377,9 @@ pub fn commit_null(edit: Edit, forecast: i64) -> i64 {
 fn commit_at(table: *mut u16, words: usize, edit: Edit, forecast: i64) -> i64 {
     unsafe {
         match edit {
-            Edit::InsertEdge { e, c1, c2, k } => c::planner_commit_insert_edge(table, words, e, c1, c2, k, forecast),
+            Edit::InsertEdge { e, c1, c2, k, length } => {
+                c::planner_commit_insert_edge(table, words, e, c1, c2, k, length, forecast)
+            }
             Edit::DeleteEdge { e } => c::planner_commit_delete_edge(table, words, e, forecast),
             Edit::TurnEdge { e, amount } => c::planner_commit_turn_edge(table, words, e, amount, forecast),
             Edit::AddVertex { .. } | Edit::RemoveVertex { .. } => panic!("{edit:?}: a vertex has no forecast"),

@@ -2,7 +2,7 @@
 
 use host::compare::{vertex_names, Twins};
 use reference::edit::Edit;
-use reference::table::{empty_mesh, VERTICES};
+use reference::table::{empty_mesh, LENGTH, VERTICES};
 use reference::trial::random::Random;
 use reference::trial::tables::random_table;
 
@@ -23,7 +23,9 @@ fn every_name_on_random_tables() {
     for _ in 0..40 {
         let table = random_table(&mut random);
         for v in vertex_names() {
-            let answer = Twins::new(&table).edit(Edit::AddVertex { v });
+            let mut twins = Twins::new(&table);
+            let answer = twins.edit(Edit::AddVertex { v });
+            assert_eq!(twins.words()[LENGTH..], table[LENGTH..], "no length is altered");
             seen[(-answer).max(0) as usize] += 1;
         }
     }

@@ -13,8 +13,13 @@ use reference::trial::tables::{random_mesh, random_table};
 
 const KINDS: [&str; 3] = ["insert", "delete", "turn"];
 
+/// An insertion with the length that a plain IE writes.
 fn insert(e: u16, c1: u16, c2: u16, k: i16) -> Edit {
-    Edit::InsertEdge { e, c1, c2, k }
+    insert_long(e, c1, c2, k, 16)
+}
+
+fn insert_long(e: u16, c1: u16, c2: u16, k: i16, length: u16) -> Edit {
+    Edit::InsertEdge { e, c1, c2, k, length }
 }
 
 /// `Twins::with_edge` has three faces with a flat loop, two with a turned one, one with an edge between its vertices.
@@ -99,7 +104,32 @@ fn every_name_on_random_tables() {
     seen.assert_all(&["delete", "turn"], 20);
 }
 
-/// Corners that are there, absent and malformed, two by two, with names and turns of every kind.
+/// The forecast of an insertion is the same for every length but 0, for which it is 9, after all of the edit's other
+/// numbers.
+#[test]
+fn every_length() {
+    let mut twins = Twins::with_edge(32_768, 32_768, 1);
+    for length in 1..=u16::MAX {
+        assert_eq!(twins.ask(insert_long(1, 0, 1, 1, length)), 2 * BEFORE + B1 + 3, "length {length}");
+    }
+    assert_eq!(twins.ask(insert_long(1, 0, 1, 1, 0)), -9);
+    for (e, c1, c2, k, own) in [
+        (1_024, 0, 1, 1, -2),
+        (1, 2_048, 1, 1, -2),
+        (1, 0, 33_280, 1, -2),
+        (0, 0, 1, 1, -3),
+        (1, 2, 1, 1, -4),
+        (1, 0, 32_768, 1, -4),
+        (1, 0, 1, 100, -6),
+        (1, 32_769, 32_769, -100, -6),
+    ] {
+        for length in [0, 1, 16, 65_535] {
+            assert_eq!(twins.ask(insert_long(e, c1, c2, k, length)), own, "{e} {c1} {c2} {k} {length}");
+        }
+    }
+}
+
+/// Corners that are there, absent and malformed, two by two, with names, turns and lengths of every kind.
 #[test]
 fn every_pair_of_corners() {
     let mut random = Random::new(0xa3);
@@ -116,7 +146,8 @@ fn every_pair_of_corners() {
                 let any = random.below(EDGES) as u16;
                 let e = random.pick(&[live, any, 1_024]);
                 let k = random.pick(&[0, 1, -1, 2, 99, -99, 100, -100, 32_767, -32_768]);
-                seen.note(insert(e, c1, c2, k), twins.ask(insert(e, c1, c2, k)));
+                let change = insert_long(e, c1, c2, k, random.pick(&[0, 1, 16, 65_534, 65_535]));
+                seen.note(change, twins.ask(change));
             }
         }
     }
@@ -150,9 +181,9 @@ fn torn_tables() {
 fn other_sizes() {
     let mut random = Random::new(0xa5);
     let long = [random_table(&mut random), empty_mesh()].concat();
-    let asked = [insert(0, 0, 2_048, 100), Edit::DeleteEdge { e: 1_024 }, Edit::TurnEdge { e: 0, amount: 200 }];
+    let asked = [insert_long(0, 0, 2_048, 100, 0), Edit::DeleteEdge { e: 1_024 }, Edit::TurnEdge { e: 0, amount: 200 }];
     for change in asked {
-        for size in [0, 1, 511, WORDS - 1, WORDS + 1, 8_704, 2 * WORDS] {
+        for size in [0, 1, 511, 7_680, WORDS - 1, WORDS + 1, 2 * WORDS] {
             assert_eq!(Twins::new(&long[..size]).ask(change), -1, "{change:?} over {size} words");
         }
         assert_eq!(planner::ask_null(change), -1, "{change:?}");

@@ -12,6 +12,7 @@ use reference::faces::Faces;
 use reference::listing::words;
 use reference::table::*;
 use reference::trial::random::Random;
+use reference::trial::tables::random_length;
 use reference::weave::plain;
 
 const GUARD: u16 = 0xa5c3;
@@ -46,7 +47,8 @@ fn insertion(random: &mut Random, table: &[u16], e: u16) -> Edit {
     let corners = corners(table);
     let c1 = random.pick(&corners);
     let c2 = if random.once_in(4) { c1 } else { random.pick(&corners) };
-    Edit::InsertEdge { e, c1, c2, k: random.between(-2, 2) as i16 }
+    let k = random.between(-2, 2) as i16;
+    Edit::InsertEdge { e, c1, c2, k, length: random_length(random) }
 }
 
 /// Ask, then the edit, which is accepted, then every count of the table that it leaves.
@@ -179,7 +181,7 @@ fn a_block_of_vertices_comes_into_use_and_goes_out() {
             for (e, c1, c2) in
                 [(own[0], first, elsewhere), (own[1], last, 2 * own[0]), (own[2], 2 * own[1], 2 * own[1])]
             {
-                ask_and_edit(&mut twins, Edit::InsertEdge { e, c1, c2, k: 1 });
+                ask_and_edit(&mut twins, Edit::InsertEdge { e, c1, c2, k: 1, length: e + 1 });
             }
             for &e in own {
                 ask_and_edit(&mut twins, Edit::DeleteEdge { e });

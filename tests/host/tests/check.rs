@@ -5,7 +5,7 @@ use host::blocks::{blocks, ends, one_in_each, table_on, Lie, BLOCK};
 use host::guarded::Guarded;
 use host::planner;
 use reference::check::{check, is_good};
-use reference::edit::edit;
+use reference::edit::{edit, Edit};
 use reference::table::*;
 use reference::trial::damage::damage;
 use reference::trial::edits::{random_edit, WINDOWS};
@@ -137,8 +137,8 @@ fn every_word_at_the_limits() {
 
 /// The places of the words that say something of a live dart, edge or vertex.
 fn live_places(table: &[u16]) -> impl Iterator<Item = usize> + '_ {
-    let dead = |place: usize| if (TURNS..VERTEX).contains(&place) { 0 } else { u16::MAX };
-    (0..WORDS).filter(move |&place| table[place] != dead(place))
+    let of_an_edge = |place: usize| (TURNS..VERTEX).contains(&place) || place >= LENGTH;
+    (0..WORDS).filter(move |&place| table[place] != if of_an_edge(place) { 0 } else { NOT_LIVE })
 }
 
 /// Two words of each kind exchanged.
@@ -168,7 +168,7 @@ fn other_sizes_are_torn() {
     let mut random = Random::new(0xc6);
     let mut long = empty_mesh();
     long.extend(random_table(&mut random));
-    for size in (0..WORDS).step_by(13).chain([WORDS - 1, WORDS + 1, 8_704, 2 * WORDS]) {
+    for size in (0..WORDS).step_by(13).chain([7_680, WORDS - 1, WORDS + 1, 2 * WORDS]) {
         assert_eq!(planner::check(&long[..size]), -1, "{size} words");
     }
     assert_eq!(planner::check(&long[..WORDS]), 0);
@@ -184,7 +184,7 @@ fn good_tables_cut_and_extended_are_torn() {
     for table in tables_by_blocks(&mut random) {
         for more in [table.clone(), empty_mesh(), vec![0; WORDS], vec![NOT_LIVE; WORDS]] {
             let long = [table.clone(), more].concat();
-            for size in [0, 1, 7_679, 7_681, 8_704] {
+            for size in [0, 1, 7_679, 7_680, 7_681, 8_703, 8_705] {
                 let lent = Guarded::new(&long[..size], GUARD);
                 assert_eq!(planner::check(lent.slice()), -1, "{size} words");
                 assert_eq!(lent.slice(), &long[..size]);
@@ -268,7 +268,7 @@ fn nothing_is_written() {
     }
 }
 
-/// Each of the 7,680 words at the limits, beside its own value, at a dart, and at a drawn one.
+/// Each of the 8,704 words at the limits, beside its own value, at a dart, and at a drawn one.
 #[test]
 fn every_word_of_every_block() {
     let mut random = Random::new(0xcc);
@@ -291,10 +291,83 @@ fn every_word_of_every_block() {
     }
 }
 
-/// Where the words of each block begin, and how many there are of a kind: next, previous and leaves of its darts, its edges, vertices.
+/// Each of the 1,024 lengths, on a table without edges, on one with an edge in every block, on a full one and on a
+/// drawn one: "1 to 65,535 if live, 0 if not", whatever stood there before.
+#[test]
+fn every_length_of_every_block() {
+    let mut random = Random::new(0xd1);
+    let [empty, _, some, full] = tables_by_blocks(&mut random);
+    let mixed = random_mesh(&mut random, VERTICES / 2, EDGES / 2).written();
+    for (table, live) in [(empty, 0), (some, EDGES / BLOCK), (full, EDGES), (mixed, EDGES / 2)] {
+        assert_eq!(live_edges(&table).count(), live);
+        let mut lent = Guarded::new(&table, GUARD);
+        let mut seen = Seen::default();
+        for e in edges() {
+            let (place, own) = (LENGTH + e as usize, length(&table, e));
+            let beside = [own.wrapping_sub(1), own.wrapping_add(1)];
+            for value in [0, 1, 16, 65_535, own, beside[0], beside[1], random.word()] {
+                lent.slice_mut()[place] = value;
+                seen.compare(lent.slice());
+                assert_eq!(is_good(lent.slice()), (value > 0) == edge_is_live(&table, e), "edge {e}: {value}");
+                assert_eq!(lent.slice()[place], value, "word {place} is only read");
+            }
+            lent.slice_mut()[place] = own;
+            assert_eq!(lent.slice(), table, "the table is only read");
+        }
+        lent.assert_guards();
+        // Of the eight values of an edge that is not live two are 0; of a live edge's 0 is one, and 1, 16 and 65,535
+        // are not.
+        assert!(seen.good >= 2 * EDGES && seen.torn >= EDGES, "{} good, {} torn", seen.good, seen.torn);
+    }
+}
+
+/// Two lengths exchanged: good if both edges are live or neither is; else the length has moved from a live edge to one
+/// that is not.
+#[test]
+fn lengths_exchanged() {
+    let mut random = Random::new(0xd2);
+    let mut seen = Seen::default();
+    for _ in 0..60 {
+        let table = random_mesh(&mut random, 8, EDGES / 2).written();
+        for _ in 0..60 {
+            let [a, b] = [(); 2].map(|()| random.below(EDGES) as u16);
+            let (of_a, of_b) = (length(&table, a), length(&table, b));
+            seen.compare_changed(&table, &[(LENGTH + a as usize, of_b), (LENGTH + b as usize, of_a)]);
+        }
+    }
+    assert!(seen.good > 1_000 && seen.torn > 1_000, "{} good, {} torn", seen.good, seen.torn);
+}
+
+/// An edge whose word says that it is live and whose length says that it is not, or the other way, and its darts as
+/// one of the two says.
+#[test]
+fn edge_words_and_lengths_that_disagree() {
+    let mut random = Random::new(0xd3);
+    let mut seen = Seen::default();
+    for block in blocks(EDGES) {
+        for e in ends(&block) {
+            let with = table_on(&mut random, Lie::Anywhere, &[e, (e + 512) % EDGES as u16], &[31, 32], &[]);
+            let mut without = with.clone();
+            edit(&mut without, Edit::DeleteEdge { e }).unwrap();
+            let (word, length) = (TURNS + e as usize, LENGTH + e as usize);
+            for table in [&with, &without] {
+                seen.compare(table);
+                for (turns, long) in [(0, 0), (0, 16), (0, 65_535), (100, 0), (1, 0), (100, 16), (199, 1)] {
+                    seen.compare_changed(table, &[(word, turns), (length, long)]);
+                }
+            }
+        }
+    }
+    // Both tables as they are; with its darts the last two of the seven, without them the first.
+    assert_eq!((seen.good, seen.torn), (64 * (2 + 2 + 1), 64 * (5 + 6)));
+}
+
+/// Where the words of each block begin, and how many there are of a kind: next, previous and leaves of its darts, its
+/// edges, vertices, lengths.
 fn runs_of_words() -> Vec<(usize, usize)> {
     let darts = [NEXT, PREVIOUS, LEAVES].into_iter().flat_map(|kind| runs_from(kind, EDGES, 2));
-    darts.chain(runs_from(TURNS, EDGES, 1)).chain(runs_from(VERTEX, VERTICES, 1)).collect()
+    let edges = [TURNS, LENGTH].into_iter().flat_map(|kind| runs_from(kind, EDGES, 1));
+    darts.chain(edges).chain(runs_from(VERTEX, VERTICES, 1)).collect()
 }
 
 fn runs_from(kind: usize, names: usize, words_each: usize) -> impl Iterator<Item = (usize, usize)> {

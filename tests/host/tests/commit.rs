@@ -5,7 +5,7 @@ use host::compare::{Seen, Twins};
 use host::forecasts::other_than;
 use host::planner::{self, A, B1, B2, BEFORE, E};
 use reference::edit::Edit;
-use reference::table::{empty_mesh, turns, vertex_is_live, EDGES, VERTICES, WORDS};
+use reference::table::{empty_mesh, turns, vertex_is_live, EDGES, LENGTH, VERTICES, WORDS};
 use reference::trial::damage::damage;
 use reference::trial::edits::{random_edge_edit, random_edit, Window, WINDOWS};
 use reference::trial::random::Random;
@@ -13,8 +13,13 @@ use reference::trial::tables::random_table;
 
 const KINDS: [&str; 3] = ["insert", "delete", "turn"];
 
+/// An insertion with the length that a plain IE writes.
 fn insert(e: u16, c1: u16, c2: u16, k: i16) -> Edit {
-    Edit::InsertEdge { e, c1, c2, k }
+    insert_long(e, c1, c2, k, 16)
+}
+
+fn insert_long(e: u16, c1: u16, c2: u16, k: i16, length: u16) -> Edit {
+    Edit::InsertEdge { e, c1, c2, k, length }
 }
 
 fn delete(e: u16) -> Edit {
@@ -92,7 +97,7 @@ fn every_other_number_is_stale() {
     }
 }
 
-/// 12 comes after 1, 2, 3, 4 and 6: each of these is answered though the forecast is stale too, whatever it is.
+/// 12 comes after 1, 2, 3, 4, 6 and 9: each of these is answered though the forecast is stale too, whatever it is.
 #[test]
 fn the_edits_own_numbers_go_first() {
     let mut overturned = Twins::with_edge(32_768, 32_768, 99);
@@ -108,6 +113,12 @@ fn the_edits_own_numbers_go_first() {
         (insert(1, 0, 32_770, 100), -4),
         (insert(1, 0, 1, 100), -6),
         (insert(1, 0, 1, -32_768), -6),
+        (insert_long(1_024, 0, 0, 0, 0), -2),
+        (insert_long(0, 0, 1, 0, 0), -3),
+        (insert_long(1, 5, 0, 0, 0), -4),
+        (insert_long(1, 0, 1, 100, 0), -6),
+        (insert_long(1, 0, 1, 0, 0), -9),
+        (insert_long(1_023, 32_769, 32_769, -99, 0), -9),
         (delete(1_024), -2),
         (delete(1), -4),
         (turn(1_024, 1), -2),
@@ -148,6 +159,26 @@ fn a_negative_answer_is_no_forecast() {
         assert!(twins.edit(in_between) >= 0);
         assert!(twins.ask(change) >= 0, "{change:?}");
         assert_eq!(twins.commit(change, answer), -12, "{change:?}");
+    }
+}
+
+/// The forecast says nothing of the length, so an insertion may be committed with another length than was asked with;
+/// 0 is 9 though the forecast is true.
+#[test]
+fn a_commit_writes_its_own_length() {
+    for length in [1, 2, 15, 16, 17, 255, 256, 32_768, 65_534, 65_535] {
+        let mut twins = flat_loop();
+        let before = twins.words().to_vec();
+        let forecast = twins.ask(insert_long(1_023, 0, 1, 0, 40));
+        assert_eq!(forecast, 3 * BEFORE + A + 2);
+        assert_eq!(twins.commit(insert_long(1_023, 0, 1, 0, 0), forecast), -9);
+        assert_eq!(twins.words(), before);
+        assert_eq!(twins.commit(insert_long(1_023, 0, 1, 0, length), forecast), A + 2);
+        assert_eq!(twins.words()[LENGTH..WORDS - 1], before[LENGTH..WORDS - 1], "no other length");
+        assert_eq!(twins.words()[WORDS - 1], length);
+        let back = twins.ask(delete(1_023));
+        assert!(twins.commit(delete(1_023), back) >= 0);
+        assert_eq!(twins.words(), before, "given back word for word");
     }
 }
 
@@ -353,10 +384,12 @@ fn torn_tables_are_declined_and_kept() {
 fn other_sizes_are_declined_and_kept() {
     let mut twins = flat_loop();
     let long = [twins.words(), &empty_mesh()].concat();
-    for change in [insert(1, 0, 1, 0), insert(0, 0, 2_048, 100), delete(0), delete(1_024), turn(0, 1), turn(0, 100)] {
+    let insertions = [insert(1, 0, 1, 0), insert(0, 0, 2_048, 100), insert_long(1, 0, 1, 0, 0)];
+    let others = [delete(0), delete(1_024), turn(0, 1), turn(0, 100)];
+    for change in insertions.into_iter().chain(others) {
         let forecast = twins.ask(change);
         for offered in [forecast, 0, 3 * BEFORE + A + 2, -1] {
-            for size in [0, 1, 511, WORDS - 1, WORDS + 1, 8_704, 2 * WORDS] {
+            for size in [0, 1, 511, 7_680, WORDS - 1, WORDS + 1, 2 * WORDS] {
                 assert_eq!(Twins::new(&long[..size]).commit(change, offered), -1, "{change:?} over {size} words");
             }
             assert_eq!(planner::commit_null(change, offered), -1, "{change:?}");

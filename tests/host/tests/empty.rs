@@ -27,11 +27,12 @@ fn the_right_size_is_filled_whatever_it_held() {
 
 #[test]
 fn the_filled_words_are_the_documents() {
-    let mut table = vec![1; 7_680];
+    let mut table = vec![1; 8_704];
     assert_eq!(planner::empty(&mut table), 0);
     assert!(table[..6_144].iter().all(|&word| word == 65_535), "no dart is live");
     assert!(table[6_144..7_168].iter().all(|&word| word == 0), "no edge is live");
-    assert!(table[7_168..].iter().all(|&word| word == 65_535), "no vertex is live");
+    assert!(table[7_168..7_680].iter().all(|&word| word == 65_535), "no vertex is live");
+    assert!(table[7_680..].iter().all(|&word| word == 0), "no edge has a length");
 }
 
 #[test]

@@ -2,10 +2,11 @@
 //! jobs. How it reads and writes is in job_streams.rs.
 
 use host::program::printed;
-use reference::job::{job, record};
+use reference::edit::Edit;
+use reference::job::{job, record, record_with_length};
 use reference::table::{empty_mesh, EDGES, VERTICES};
 use reference::trial::edits::{random_edit, Window, WINDOWS};
-use reference::trial::jobs::{random_edits, random_job};
+use reference::trial::jobs::{random_edits, random_job, random_record};
 use reference::trial::random::Random;
 
 fn compare(input: &[u8]) {
@@ -33,6 +34,47 @@ fn every_cut_of_a_job() {
     }
     for end in 0..=whole.len() {
         compare(&whole[..end]);
+    }
+}
+
+/// An IE and ILs of several lengths, cut after each byte. Of an IL the first ten bytes would be a whole IE; twelve
+/// are needed.
+#[test]
+fn every_cut_of_an_insertion() {
+    let insert = |length: u16| Edit::InsertEdge { e: 0, c1: 32_768, c2: 32_768, k: 1, length };
+    let add = record(Edit::AddVertex { v: 0 });
+    let inserted = "mesh 1 1 1 1 1\npart 0 1 n\nwalk 0 2 0/0:O 0/1:U\nweave plain\n";
+    let before = "mesh 1 0 1 1 2\npart 0 2 o\nwalk 0 0 *0\nweave plain\n";
+    let longs = [1, 16, 1_000, 65_535].map(|length| (record_with_length(insert(length)), 12));
+    for (insertion, size) in longs.into_iter().chain([(record(insert(16)), 10)]) {
+        assert_eq!(insertion.len(), size);
+        let whole = [add.clone(), insertion].concat();
+        for end in 5..whole.len() {
+            assert_eq!(printed(&whole[..end], 100), format!("no 2 11\n{before}"), "{end} bytes of {whole:02x?}");
+        }
+        assert_eq!(printed(&whole, 100), inserted, "{whole:02x?}");
+        assert_eq!(printed(&whole, 1), inserted, "{whole:02x?}");
+    }
+}
+
+/// An IL of length 0 is declined with 9, after 2, 3, 4 and 6, and reading goes on behind its last word.
+#[test]
+fn insertions_without_a_length() {
+    let none = |e: u16, c2: u16, k: i16| record(Edit::InsertEdge { e, c1: 32_768, c2, k, length: 0 });
+    let job = [
+        record(Edit::AddVertex { v: 0 }),
+        none(0, 32_768, 1),
+        none(0, 32_768, 100),
+        none(0, 32_769, 1),
+        none(1_024, 32_768, 1),
+        record(Edit::InsertEdge { e: 0, c1: 32_768, c2: 32_768, k: 1, length: 16 }),
+        none(0, 0, 1),
+        record(Edit::AddVertex { v: 1 }),
+    ];
+    let no = "no 2 9\nno 3 6\nno 4 4\nno 5 2\nno 7 3\n";
+    let report = "mesh 2 1 2 2 3\npart 0 1 n\npart 1 2 o\nwalk 0 2 0/0:O 0/1:U\nwalk 1 0 *1\nweave plain\n";
+    for piece in [1, 7, 12, 100] {
+        assert_eq!(printed(&job.concat(), piece), format!("{no}{report}"));
     }
 }
 
@@ -65,7 +107,7 @@ fn noise() {
     }
 }
 
-/// Records that build on each other: each is drawn for the table that those before it left.
+/// Records that build on each other: each is drawn for the table that those before it left. Insertions are IE and IL.
 fn long_job(random: &mut Random, window: Window, records: usize) -> Vec<u8> {
     let mut table = empty_mesh();
     let mut input = Vec::new();
@@ -76,7 +118,7 @@ fn long_job(random: &mut Random, window: Window, records: usize) -> Vec<u8> {
         }
         let edit = random_edit(random, &table, window, growth);
         let _ = reference::edit::edit(&mut table, edit);
-        input.extend(record(edit));
+        input.extend(random_record(random, edit));
     }
     input
 }

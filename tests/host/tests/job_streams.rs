@@ -3,9 +3,10 @@
 
 use host::program::{errors_on_a_full_disk, printed, printed_by_pieces, printed_from_a_file, where_input_is_a_folder};
 use reference::edit::Edit;
-use reference::job::{job, record};
+use reference::job::{job, record, PLAIN_LENGTH};
 use reference::table::{EDGES, MOST_TURNS, VERTICES};
 use reference::trial::edits::{random_edit, WINDOWS};
+use reference::trial::jobs::random_record;
 use reference::trial::random::Random;
 
 /// The program prints its report so many bytes at a time, and reads a job so many bytes at a time.
@@ -27,7 +28,7 @@ fn long_ribbon(edges: usize, turns: impl Fn(usize) -> i16, isolated: &[u16]) -> 
             _ if e < chain => (2 * e - 1, lone(FIRST + 1 + e)),
             _ => (0, 0),
         };
-        edits.push(Edit::InsertEdge { e, c1, c2, k: turns(usize::from(e)) });
+        edits.push(Edit::InsertEdge { e, c1, c2, k: turns(usize::from(e)), length: PLAIN_LENGTH });
     }
     edits.extend(isolated.iter().map(|&v| Edit::AddVertex { v }));
     edits.into_iter().flat_map(record).collect()
@@ -93,41 +94,50 @@ fn lines_before_a_long_report() {
     assert!(printed(&input, input.len()) == expected);
 }
 
-/// Edits over a small mesh, so many bytes of them at least; some are declined.
+/// Edits over a small mesh, so many bytes of them at least; some are declined. Insertions are IE and IL.
 fn edits_of(random: &mut Random, bytes: usize) -> Vec<u8> {
     let mut table = reference::table::empty_mesh();
     let mut input = Vec::new();
     while input.len() < bytes {
         let edit = random_edit(random, &table, WINDOWS[1], 10);
         let _ = reference::edit::edit(&mut table, edit);
-        input.extend(record(edit));
+        input.extend(random_record(random, edit));
     }
     input
 }
 
-/// From a file a block ends at a multiple of the program's buffer. In front of an insertion stands so much that it is cut there
-/// at each of its places; then comes more than a block.
+/// Records of exactly so many bytes, an even number: vertex 0 added, at first and again, and turns of an edge that is
+/// not there.
+fn filled(bytes: usize) -> Vec<u8> {
+    let add = record(Edit::AddVertex { v: 0 });
+    let turn = record(Edit::TurnEdge { e: 9, amount: -1 });
+    let mut input = add.clone();
+    while input.len() < bytes {
+        // Six bytes, or four where a multiple of six would go past the place.
+        let six = (bytes - input.len()) % 4 != 0;
+        input.extend(if six { &turn } else { &add });
+    }
+    assert_eq!(input.len(), bytes);
+    input
+}
+
+/// From a file a block ends at a multiple of the program's buffer. In front of an insertion, an IE or an IL, stands
+/// so much that it is cut there at each of its places; then comes more than a block. The file ends after all of it,
+/// or within the insertion, after each of its bytes.
 #[test]
 fn insertions_cut_at_the_end_of_a_block() {
     let mut random = Random::new(0xb10c);
-    let add = record(Edit::AddVertex { v: 0 });
-    let turn = record(Edit::TurnEdge { e: 9, amount: -1 });
-    let insert = record(Edit::InsertEdge { e: 0, c1: 32_768, c2: 32_768, k: 3 });
     let rest = edits_of(&mut random, 2 * BLOCK);
-    for before in (0..=insert.len()).step_by(2) {
-        let mut input = add.clone();
-        while input.len() < BLOCK - before {
-            // Six bytes, or four where a multiple of six would go past the place.
-            let six = (BLOCK - before - input.len()) % 4 != 0;
-            input.extend(if six { &turn } else { &add });
-        }
-        assert_eq!(input.len(), BLOCK - before);
-        input.extend(&insert);
-        input.extend(&rest);
-        let expected = job(&input);
-        assert_eq!(printed_from_a_file(&input), expected, "{before} bytes of it in the first block");
-        for end in BLOCK..BLOCK + 12 {
-            assert_eq!(printed_from_a_file(&input[..end]), job(&input[..end]), "cut after {end} bytes");
+    for (length, size) in [(PLAIN_LENGTH, 10), (1_000, 12), (0, 12)] {
+        let insert = record(Edit::InsertEdge { e: 0, c1: 32_768, c2: 32_768, k: 3, length });
+        assert_eq!(insert.len(), size);
+        for before in (0..=size).step_by(2) {
+            let input = [filled(BLOCK - before), insert.clone(), rest.clone()].concat();
+            let expected = job(&input);
+            assert_eq!(printed_from_a_file(&input), expected, "{before} bytes of it in the first block");
+            for end in BLOCK - before..=BLOCK - before + size {
+                assert_eq!(printed_from_a_file(&input[..end]), job(&input[..end]), "cut after {end} bytes");
+            }
         }
     }
 }

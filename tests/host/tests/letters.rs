@@ -60,7 +60,7 @@ fn document_01s_samples() {
     // One vertex with a loop of turns 1: one ribbon, over and under.
     let mut table = empty_mesh();
     (table[0], table[1], table[2_048], table[2_049], table[4_096], table[4_097]) = (1, 0, 1, 0, 0, 0);
-    (table[6_144], table[7_168]) = (101, 0);
+    (table[6_144], table[7_168], table[7_680]) = (101, 0, 16);
     assert_eq!(written(&table, 0, 0, 2), (2, b"OU".to_vec()));
     assert_eq!(written(&table, 0, 1, 2), (2, b"UO".to_vec()));
     // Travelled backwards the letters are not exchanged: the hand stays.

@@ -95,12 +95,12 @@ fn other_sizes_are_declined_and_kept() {
     let edits = [
         Edit::AddVertex { v: 0 },
         Edit::RemoveVertex { v: 600 },
-        Edit::InsertEdge { e: 0, c1: 0, c2: 2_048, k: 100 },
+        Edit::InsertEdge { e: 0, c1: 0, c2: 2_048, k: 100, length: 0 },
         Edit::DeleteEdge { e: 0 },
         Edit::TurnEdge { e: 1_024, amount: 1 },
     ];
     for change in edits {
-        for size in [0, 1, 511, WORDS - 1, WORDS + 1, 8_704, 2 * WORDS] {
+        for size in [0, 1, 511, 7_680, WORDS - 1, WORDS + 1, 2 * WORDS] {
             assert_eq!(Twins::new(&long[..size]).edit(change), -1, "{change:?} over {size} words");
         }
         assert_eq!(planner::edit_null(change), -1, "{change:?}");

@@ -6,7 +6,7 @@ use host::planner;
 use host::program::printed;
 use reference::edit::Edit;
 use reference::job::{job, read_record};
-use reference::table::{empty_mesh, EDGES};
+use reference::table::{empty_mesh, length, live_edges, EDGES};
 use reference::trial::random::Random;
 use reference::trial_job::{trial_bytes, trial_job};
 
@@ -148,6 +148,7 @@ fn every_record_is_accepted_by_the_calls() {
         }
         assert_eq!(kinds, [8, edges]);
         assert_eq!(planner::check(&table), 0);
+        assert!(live_edges(&table).all(|e| length(&table, e) == 16), "{start} {edges}: a plain IE writes 16");
         let mut counts = [0; 5];
         assert_eq!(planner::counts(&table, &mut counts), 5);
         assert_eq!(counts[..2], [8, edges as i32], "{start} {edges}");

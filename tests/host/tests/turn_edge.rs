@@ -3,7 +3,7 @@
 use host::compare::{Seen, Twins};
 use host::planner::{A, B1, B2, E};
 use reference::edit::Edit;
-use reference::table::{empty_mesh, live_edges, turns, EDGES};
+use reference::table::{empty_mesh, live_edges, turns, EDGES, LENGTH};
 use reference::trial::random::Random;
 use reference::trial::tables::random_table;
 
@@ -12,7 +12,7 @@ use reference::trial::tables::random_table;
 fn the_documents_sample() {
     let mut twins = Twins::new(&empty_mesh());
     twins.edit(Edit::AddVertex { v: 0 });
-    twins.edit(Edit::InsertEdge { e: 0, c1: 32_768, c2: 32_768, k: 99 });
+    twins.edit(Edit::InsertEdge { e: 0, c1: 32_768, c2: 32_768, k: 99, length: 16 });
     assert_eq!(twins.edit(Edit::TurnEdge { e: 0, amount: 1 }), -6);
     assert_eq!(twins.edit(Edit::TurnEdge { e: 0, amount: -198 }), 1 + E);
     assert_eq!(turns(twins.words(), 0), -99);
@@ -44,7 +44,7 @@ fn every_amount() {
     for k in [-99, -98, -1, 0, 1, 50, 99] {
         let mut start = Twins::new(&empty_mesh());
         start.edit(Edit::AddVertex { v: 0 });
-        start.edit(Edit::InsertEdge { e: 0, c1: 32_768, c2: 32_768, k });
+        start.edit(Edit::InsertEdge { e: 0, c1: 32_768, c2: 32_768, k, length: 16 });
         let around_limits = (-300..=300).chain(-32_768..=-32_700).chain(32_700..=32_767);
         for amount in around_limits.chain((-32_768..=32_767).step_by(997)) {
             let answer = Twins::new(start.words()).edit(Edit::TurnEdge { e: 0, amount: amount as i16 });
@@ -60,11 +60,13 @@ fn every_name_on_random_tables() {
     let mut seen = Seen::default();
     for _ in 0..12 {
         let mut twins = Twins::new(&random_table(&mut random));
+        let lengths = twins.words()[LENGTH..].to_vec();
         for e in (0..EDGES as u16 + 2).chain([2_048, 32_768, 65_534, 65_535]) {
             let amount = random.pick(&[0, 1, -1, 2, -2, 3, 98, 99, -99, 100, -100, 198, -198, 199, 32_767, -32_768]);
             let change = Edit::TurnEdge { e, amount };
             seen.note(change, twins.edit(change));
         }
+        assert_eq!(twins.words()[LENGTH..], lengths, "a turn alters no length");
     }
     seen.assert_all(&["turn"], 50);
 }

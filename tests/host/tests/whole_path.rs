@@ -165,7 +165,8 @@ fn few_turns_by_hand() {
 /// left; by 2: 7 is 3 and 1 left.
 #[test]
 fn twice_in_the_same_direction() {
-    let table = Mesh { rotations: vec![(0, vec![0, 2]), (1, vec![1, 3])], turns: vec![(0, 3), (1, 0)] }.written();
+    let edges = vec![(0, 3, 16), (1, 0, 16)];
+    let table = Mesh { rotations: vec![(0, vec![0, 2]), (1, vec![1, 3])], edges }.written();
     assert_eq!(walk_from(&table, step(0, 0)), [step(0, 0), step(3, 1), step(0, 1), step(3, 0)]);
     let (points, lifts) = (padded(&[0, 0, 0, 7, 7, 7], POINTS), padded(&[10; 6], LIFTS));
     let (o, u) = (
@@ -249,7 +250,7 @@ fn every_exact_size_and_one_less() {
 fn far_words_one_by_one() {
     // Edge 0 of 2 turns from 0 to 1, edge 1 without turns from there to 2, edge 2 of -1 turns from 3 to 4.
     let rotations = vec![(0, vec![0]), (1, vec![1, 2]), (2, vec![3]), (3, vec![4]), (4, vec![5])];
-    let table = Mesh { rotations, turns: vec![(0, 2), (1, 0), (2, -1)] }.written();
+    let table = Mesh { rotations, edges: vec![(0, 2, 16), (1, 0, 16), (2, -1, 16)] }.written();
     assert_eq!(walk_from(&table, step(0, 0)), [step(0, 0), step(2, 0), step(3, 0), step(1, 0)]);
     let (points, lifts) = (vec![3; POINTS], vec![5; LIFTS]);
     let answer = |points: &[i32], lifts: &[i32]| compare(&table, 0, 0, &exact(points, lifts, 7));

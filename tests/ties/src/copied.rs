@@ -19,16 +19,18 @@ const READ: &str = "read";
 const OWN: [&str; 2] = [READ, "counted_check"];
 const COUNT: (&str, &str) = ("reads", "&mut usize");
 /// What the check and its copy may use besides their own functions.
-const CONSTANTS: [&str; 14] = [
+const CONSTANTS: [&str; 16] = [
     "table::block::BLOCK",
     "table::block::DART_BLOCK",
     "table::block::EDGE_BLOCKS",
     "table::block::VERTEX_BLOCKS",
     "table::layout::DARTS",
     "table::layout::EDGE",
+    "table::layout::EDGES",
     "table::layout::EDGE_WORD_MAX",
     "table::layout::ISOLATED",
     "table::layout::LEAVES",
+    "table::layout::LENGTH",
     "table::layout::NOTHING",
     "table::layout::PREV",
     "table::layout::VERTEX",

@@ -3,9 +3,10 @@
 //! And the numbers that a host works with as the sources do.
 //!
 //! In C a slice `x` is a pointer `x` and then its size, `n_x`, `x_words` or `x_bytes`. A struct `Name` of the sources is
-//! `struct planner_name`. Three names differ, and keep document 01's words in the header: the table's slice is `words` in the
-//! sources (where `table` is a crate), `table` and its size `words` in C; `kind` of a step is `type` in C; `Standing`, a reader
-//! without the table, is `struct planner_reader` in C, since `Reader` of the sources holds the table too.
+//! `struct planner_name`. Four names differ, and keep the documents' words in the header: the table's slice is `words` in the
+//! sources (where `table` is a crate), `table` and its size `words` in C; `kind` of a step is `type` in C; `strip`, the length of
+//! an edge, is `length` in C, since `length` in a contract is a list's; `Standing`, a reader without the table, is `struct
+//! planner_reader` in C, since `Reader` of the sources holds the table too.
 
 use crate::header::{self, Header};
 use crate::rattle::{self, Function};
@@ -16,7 +17,9 @@ const HEADER: &str = "include/planner.h";
 const EXPORTS: &str = "crates/planner/src/lib.rt";
 
 /// Numbers of the header, each with the source and the constant that it is.
-const NUMBERS: [(&str, &str, &str); 2] = [
+const NUMBERS: [(&str, &str, &str); 4] = [
+    ("PLANNER_TABLE_WORDS", "crates/table/src/layout.rt", "WORDS"),
+    ("PLANNER_LENGTH_AT", "crates/table/src/layout.rt", "LENGTH"),
     ("PLANNER_OVER_ALLOWANCE", "crates/lengths/src/length.rt", "OVER_ALLOWANCE"),
     ("PLANNER_LAP", "crates/lengths/src/length.rt", "LAP"),
 ];
@@ -142,7 +145,12 @@ fn size_names(pointer: &str) -> Vec<String> {
 
 /// `kind` of a step is `type` in C, as in `start_kind`.
 fn name_in_c(name: &str) -> String {
-    name.split('_').map(|part| if part == "kind" { "type" } else { part }).collect::<Vec<_>>().join("_")
+    let part_in_c = |part| match part {
+        "kind" => "type",
+        "strip" => "length",
+        part => part,
+    };
+    name.split('_').map(part_in_c).collect::<Vec<_>>().join("_")
 }
 
 /// A number's type in C.

@@ -8,12 +8,15 @@ const EXPORTS: &str = "crates/planner/src/lib.rt";
 const TALLY: &str = "crates/reader/src/tally.rt";
 const LENGTH: &str = "crates/lengths/src/length.rt";
 
-const FILES: [(&str, &str); 4] = [
+const LAYOUT: &str = "crates/table/src/layout.rt";
+
+const FILES: [(&str, &str); 5] = [
     (
         HEADER,
         "/* int64_t planner_no(int x); */\n#include <stdint.h>\n#ifdef __cplusplus\nextern \"C\" {\n#endif\n#define A 1\n#define B(x) \\\n    (x)\n\
          /* #define PLANNER_LAP 5 */\n#define PLANNER_OVER_ALLOWANCE 8 /* each */\n#define PLANNER_LAP 320\n\
-         int64_t planner_insert(uint16_t *table, size_t words, uint16_t e, uint16_t c1, uint16_t c2, int16_t k);\n\
+         #define PLANNER_TABLE_WORDS 8704\n#define PLANNER_LENGTH_AT 7680 /* for each edge */\n\
+         int64_t planner_insert(uint16_t *table, size_t words, uint16_t e, uint16_t c1, uint16_t c2, int16_t k, uint16_t length);\n\
          int64_t planner_path(const uint16_t *table, size_t words, uint16_t dart, uint16_t type, const int32_t *points,\n\
          \x20                    size_t n_points, float *out, size_t out_words);\n\
          struct planner_tally {\n    uint32_t steps, overs;\n    uint16_t start_type;\n};\n\
@@ -23,8 +26,8 @@ const FILES: [(&str, &str); 4] = [
     (
         EXPORTS,
         "use reader::tally::Tally;\nuse table::answer::code;\n// pub extern \"C\" fn planner_no(x: i16) -> i64\n\n\
-         #[no_mangle]\npub extern \"C\" fn planner_insert(words: &mut [u16], e: u16, c1: u16, c2: u16, k: i16) -> i64\n\
-         \x20   ensures { λ r. ⌜ r ≡ insert (now (words .entry)) e c1 c2 k ⌝ }\n{\n    code(insert(words, e, c1, c2, k))\n}\n\n\
+         #[no_mangle]\npub extern \"C\" fn planner_insert(words: &mut [u16], e: u16, c1: u16, c2: u16, k: i16, strip: u16) -> i64\n\
+         \x20   ensures { λ r. ⌜ r ≡ insert (now (words .entry)) e c1 c2 k strip ⌝ }\n{\n    code(insert(words, e, c1, c2, k, strip))\n}\n\n\
          #[no_mangle]\npub extern \"C\" fn planner_path(\n    words: &[u16],\n    dart: u16,\n    kind: u16,\n    points: &[i32],\n\
          \x20   out: &mut [f32],\n) -> i64\n    ensures { λ r. ⌜ r ≡ path ⌝ }\n{\n    0\n}\n\n\
          #[no_mangle]\npub extern \"C\" fn planner_step(tally: &mut Tally, from: &Tally) -> i64\n    ensures { λ r. ⌜ r ≡ 0 ⌝ }\n{\n    0\n}\n\n\
@@ -35,6 +38,7 @@ const FILES: [(&str, &str); 4] = [
         LENGTH,
         "// pub const LAP: u32 = 5;\npub const OVER_ALLOWANCE: u32 = 8;\n\n// once\npub const LAP: u32 = 320; // sixteenths\n",
     ),
+    (LAYOUT, "pub const WORDS: usize = 8704;\n\n// Where lengths begin.\npub const LENGTH: usize = 7680;\n"),
 ];
 
 const TRIAL: Trial = Trial { files: &FILES, faults };
@@ -100,10 +104,11 @@ fn a_changed_type() {
         "e: Option<u16>",
         &[
             "planner_insert: cannot read the type of `e: Option<u16>`",
-            "planner_insert: 6 arguments in the header, 5 in the sources",
+            "planner_insert: 7 arguments in the header, 6 in the sources",
             "argument 3",
             "argument 4",
             "argument 5",
+            "argument 6",
         ],
     );
 }
@@ -147,9 +152,9 @@ fn an_argument_more() {
     TRIAL.after(
         "more",
         HEADER,
-        "int16_t k)",
-        "int16_t k, int16_t l)",
-        &["planner_insert: 7 arguments in the header, 6 in the sources"],
+        "uint16_t length)",
+        "uint16_t length, int16_t l)",
+        &["planner_insert: 8 arguments in the header, 7 in the sources"],
     );
 }
 
@@ -225,6 +230,20 @@ fn numbers() {
         "OVER_ALLOWANCE: u32 = 8",
         "OVER_ALLOWANCE: u32 = 16",
         &["PLANNER_OVER_ALLOWANCE is 8, OVER_ALLOWANCE of crates/lengths/src/length.rt is 16"],
+    );
+    TRIAL.after(
+        "table",
+        HEADER,
+        "PLANNER_TABLE_WORDS 8704",
+        "PLANNER_TABLE_WORDS 7680",
+        &["PLANNER_TABLE_WORDS is 7680, WORDS of crates/table/src/layout.rt is 8704"],
+    );
+    TRIAL.after(
+        "lengths",
+        LAYOUT,
+        "LENGTH: usize = 7680",
+        "LENGTH: usize = 7168",
+        &["PLANNER_LENGTH_AT is 7680, LENGTH of crates/table/src/layout.rt is 7168"],
     );
     let undefined = ["include/planner.h: the number PLANNER_LAP is missing"];
     TRIAL.after("undefined", HEADER, "#define PLANNER_LAP 320\n", "", &undefined);

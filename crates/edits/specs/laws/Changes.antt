@@ -168,29 +168,29 @@ module _ (t : List ℕ) where
       ap (λ w. faceCount (rotation w)) (sym back)
       ∙ add-count (good-lawful u good) (subst (λ w. Lawful (rotation w)) (sym back) (good-lawful t (m .good))) (vertex-added u good v (m .low) absent)
 
-  inserted-parity : (e c₁ c₂ : ℕ) (k : ℤ) (m : MayInsert t e c₁ c₂ k) → parity (rotation (inserted t e c₁ c₂ (turnedWord 100 k))) e ≡ oddness k
+  inserted-parity : (e c₁ c₂ : ℕ) (k : ℤ) (n : ℕ) (m : MayInsert t e c₁ c₂ k n) → parity (rotation (inserted t e c₁ c₂ (turnedWord 100 k) n)) e ≡ oddness k
   unfolding turnsOf
-  inserted-parity e c₁ c₂ k m =
+  inserted-parity e c₁ c₂ k n m =
       let w = inserted-word k (m .few) in
       let half : edgeOf (2 * e) ≡ e = omega arith in
-      let own = inserted-own t (m .good) e c₁ c₂ (turnedWord 100 k) (m .low) (m .free) (w .0) (w .1) (present-corner t c₁ (m .first-there)) (present-corner t c₂ (m .second-there)) in
+      let own = inserted-own t (m .good) e c₁ c₂ (turnedWord 100 k) n (m .low) (m .free) (w .0) (w .1) (m .long) (present-corner t c₁ (m .first-there)) (present-corner t c₂ (m .second-there)) in
       let odd = odd-turned 100 k (ap overturned (hundred k) ∙ m .few) in
-      ap (λ i. edgeWord (inserted t e c₁ c₂ (turnedWord 100 k)) i % 2) half ∙ ap (λ n. n % 2) own ∙ odd ∙ omega arith
+      ap (λ i. edgeWord (inserted t e c₁ c₂ (turnedWord 100 k) n) i % 2) half ∙ ap (λ x. x % 2) own ∙ odd ∙ omega arith
 
   pub written-changes : (E : Edit) → verdict t E ≡ Passes → Changes (change t E) (faceCount (rotation t)) (faceCount (rotation (written t E)))
   written-changes (AddVertex v) p =
       let m = may-add t v p in
       add-count (good-lawful t (m .good)) (good-lawful _ (add-good t v m)) (vertex-added t (m .good) v (m .low) (m .absent))
   written-changes (RemoveVertex v) p = remove-changes v (may-remove t v p)
-  written-changes (InsertEdge e c₁ c₂ k) p =
-      let m = may-insert t e c₁ c₂ k p in
+  written-changes (InsertEdge e c₁ c₂ k n) p =
+      let m = may-insert t e c₁ c₂ k n p in
       let w = inserted-word k (m .few) in
       let C₁ = present-corner t c₁ (m .first-there) in
       let C₂ = present-corner t c₂ (m .second-there) in
-      rw (← (inserted-parity e c₁ c₂ k m))
-      (insert-count (good-lawful _ (insert-good t e c₁ c₂ k m)) (good-lawful t (m .good))
-      (inserted-without t (m .good) e c₁ c₂ (turnedWord 100 k) (m .low) (m .free) (w .0) (w .1) C₁ C₂)
-      (inserted-sits t (m .good) e c₁ c₂ (turnedWord 100 k) (m .low) (m .free) (w .0) (w .1) C₁ C₂))
+      rw (← (inserted-parity e c₁ c₂ k n m))
+      (insert-count (good-lawful _ (insert-good t e c₁ c₂ k n m)) (good-lawful t (m .good))
+      (inserted-without t (m .good) e c₁ c₂ (turnedWord 100 k) n (m .low) (m .free) (w .0) (w .1) (m .long) C₁ C₂)
+      (inserted-sits t (m .good) e c₁ c₂ (turnedWord 100 k) n (m .low) (m .free) (w .0) (w .1) (m .long) C₁ C₂))
   written-changes (DeleteEdge e) p =
       let m = may-delete t e p in
       delete-count (good-lawful t (m .good)) (good-lawful _ (delete-good t e m)) (deleted-without t (m .good) e (m .low) (m .there))

@@ -9,18 +9,19 @@ use mathlib.Core.Logic.{_≢_}
 use lib.ListN.{length}
 use Rattle.orbits.specs.laws.Truth.{clash, both, both-left, both-right, same-truth}
 use Rattle.orbits.specs.laws.Count.{without, without-at, without-other, without-on}
-use Rattle.table.specs.Layout.{vertices, edges, darts, words, leaves, edgeWord, vertexWord, edgeOf, edgeWordMost}
-use Rattle.table.specs.Good.{Good}
+use Rattle.table.specs.Layout.{vertices, edges, darts, words, leaves, edgeWord, vertexWord, lengthWord, edgeOf, edgeWordMost}
+use Rattle.table.specs.Good.{Good, LengthRule}
 use Rattle.table.specs.Rotation.{rotation, live?, nextDart, turnsOf, there?}
 use Rattle.table.specs.laws.Rotation.{live-yes, yes-live, there-yes, there-word}
-use Rattle.table.specs.laws.Writes.{upd-at, upd-off, edge-edge, leaves-edge, vertex-edge}
+use Rattle.table.specs.laws.Writes.{upd, upd-at, upd-off, upd-same}
 use Rattle.surgery.specs.Without.{bypass, Without, apart}
 use Rattle.surgery.specs.laws.Without.{apart-own, apart-other}
 use Rattle.edits.specs.laws.Held.{Held, good-held, held-good, nextIn}
 use Rattle.edits.specs.Edge.{unlink, deleted}
 use Rattle.edits.specs.laws.Unlink.{Shrunk}
 use Rattle.edits.specs.laws.Ready.{DeleteReady, unlink-ready}
-use Rattle.edits.specs.laws.Edge.{unlink-shrunk, edge-held, edge-next, next-of}
+use Rattle.edits.specs.laws.Edge.{unlink-shrunk, own-edge, own-length, own-leaves, own-vertex, own-held, own-next, next-of}
+use Rattle.edits.specs.laws.Lengths.{unlink-length}
 
 module _ (t : List ℕ) (g : Good t) (e : ℕ) (h : e < edges) (on : edgeWord t e ≢ 0) where
   own : (d : ℕ) → d < darts → edgeOf d ≡ e → live? t d ≡ true
@@ -52,10 +53,10 @@ module _ (t : List ℕ) (g : Good t) (e : ℕ) (h : e < edges) (on : edgeWord t 
   size = twice .held .size
 
   pub deleted-other : (i : ℕ) → i < edges → i ≢ e → edgeWord (deleted t e) i ≡ edgeWord t i
-  deleted-other i l n = edge-edge bare size e 0 i h ∙ upd-off (edgeWord bare) e 0 i n ∙ twice .edge i l ∙ once .edge i l
+  deleted-other i l n = own-edge bare e 0 0 h size i l ∙ upd-off (edgeWord bare) e 0 i n ∙ twice .edge i l ∙ once .edge i l
 
   pub deleted-own : edgeWord (deleted t e) e ≡ 0
-  deleted-own = edge-edge bare size e 0 e h ∙ upd-at (edgeWord bare) e 0
+  deleted-own = own-edge bare e 0 0 h size e h ∙ upd-at (edgeWord bare) e 0
 
   -- a dart is left if it was live and is no dart of e
   left-means : (d : ℕ) → left d ≡ true → (live? t d ≡ true) × (edgeOf d ≢ e)
@@ -90,12 +91,30 @@ module _ (t : List ℕ) (g : Good t) (e : ℕ) (h : e < edges) (on : edgeWord t 
     | no n ↦ rw (deleted-other i l n) (g .turns i l)
   ]
 
+  -- every other edge keeps its length
+  pub deleted-length : (i : ℕ) → lengthWord (deleted t e) i ≡ upd (lengthWord t) e 0 i
+  deleted-length i =
+      own-length bare e 0 0 h size i
+      ∙ upd-same (lengthWord bare) (lengthWord t) e 0 i (unlink-length (unlink t (2 * e)) i (2 * e + 1) (delete-ready .second) ∙ unlink-length t i (2 * e) (delete-ready .first))
+
+  lengths-fit : (i : ℕ) → i < edges → LengthRule (deleted t e) i
+  lengths-fit i l = elim (ℕ-discrete i e) [
+    | yes q ↦
+        let is : lengthWord (deleted t e) i ≡ 0 = rw q (deleted-length e ∙ upd-at (lengthWord t) e 0) in
+        record { some = λ on. absurd (on (rw q deleted-own)); none = λ _. is; most = rw is (omega arith) }
+    | no o ↦
+        let is : lengthWord (deleted t e) i ≡ lengthWord t i = deleted-length i ∙ upd-off (lengthWord t) e 0 i o in
+        let f = g .lengths i l in
+        let word = deleted-other i l o in
+        record { some = λ w. rw is (f .some (rw word at w)); none = λ z. is ∙ f .none (sym word ∙ z); most = rw is (f .most) }
+  ]
+
   pub deleted-good : Good (deleted t e)
-  deleted-good = held-good (deleted t e) (subst (λ L. Held (deleted t e) L) same-live (edge-held bare left (twice .held) e 0 h)) turns-low
+  deleted-good = held-good (deleted t e) (subst (λ L. Held (deleted t e) L) same-live (own-held bare e 0 0 h left (twice .held))) turns-low lengths-fit
 
   deleted-next : (d : ℕ) → nextDart (deleted t e) d ≡ bypass (bypass (nextDart t) (2 * e)) (2 * e + 1) d
   deleted-next d =
-      next-of (deleted t e) d ∙ ap (λ L. nextIn (deleted t e) L d) (sym same-live) ∙ edge-next bare left (twice .held) e 0 h d ∙ twice .next d
+      next-of (deleted t e) d ∙ ap (λ L. nextIn (deleted t e) L d) (sym same-live) ∙ own-next bare e 0 0 h left (twice .held) d ∙ twice .next d
       ∙ ap (λ f. bypass f (2 * e + 1) d) (fun-ext (once .next)) ∙ ap (λ f. bypass (bypass f (2 * e)) (2 * e + 1) d) (sym (fun-ext (next-of t)))
 
   deleted-from : (d : ℕ) → live? (deleted t e) d ≡ true → leaves (deleted t e) d ≡ leaves t d
@@ -103,7 +122,7 @@ module _ (t : List ℕ) (g : Good t) (e : ℕ) (h : e < edges) (on : edgeWord t 
       let m = left-means d (sym (live-left d) ∙ l) in
       let n = m .1 in
       let low = live-yes t d (m .0) .low in
-      leaves-edge bare e 0 d low ∙ twice .from d low (omega arith) ∙ once .from d low (omega arith)
+      own-leaves bare e 0 0 h d low ∙ twice .from d low (omega arith) ∙ once .from d low (omega arith)
 
   deleted-there : (v : ℕ) → there? (deleted t e) v ≡ there? t v
   deleted-there v = same-truth (there? (deleted t e) v) (there? t v)
@@ -111,7 +130,7 @@ module _ (t : List ℕ) (g : Good t) (e : ℕ) (h : e < edges) (on : edgeWord t 
       (λ y. let w = there-word t v y in there-yes (deleted t e) v (w .0) (λ z. w .1 (once .there v (w .0) .0 (twice .there v (w .0) .0 (sym (same (w .0)) ∙ z)))))
     where
       same : v < vertices → vertexWord (deleted t e) v ≡ vertexWord bare v
-      same l = vertex-edge bare e 0 v h
+      same l = own-vertex bare e 0 0 h v l
 
   pub deleted-without : Without (rotation t) e (rotation (deleted t e))
   unfolding turnsOf

@@ -6,15 +6,16 @@ use mathlib.Core.Path.{_≡_, refl, sym, _∙_, ap, subst}
 use mathlib.Core.Bool.{Bool, true, false, cond}
 use mathlib.Core.List.{List}
 use mathlib.Core.Logic.{_≢_}
-use lib.ListN.{length-set}
+use lib.ListN.{length, length-set}
 use borrow.Author.Tests.{eq-eqb, ne-eqb, lt-ltb, le-ltb}
 use Rattle.orbits.specs.laws.Truth.{truth, holds, fails}
-use Rattle.table.specs.Layout.{vertices, edges, darts, nothing, isolated, nextWord, prevWord, leaves, edgeWord, vertexWord, loneAt}
+use Rattle.table.specs.Layout.{vertices, edges, darts, nothing, isolated, nextWord, prevWord, leaves, edgeWord, vertexWord, lengthWord, loneAt, words}
 use Rattle.table.specs.Rotation.{live?, nextDart}
 use Rattle.table.specs.Writes.{setEdge}
-use Rattle.table.specs.laws.Writes.{upd, next-edge, prev-edge, leaves-edge, vertex-edge, leaves-vertex}
+use Rattle.table.specs.laws.Writes.{upd, upd-same, next-edge, prev-edge, leaves-edge, vertex-edge, leaves-vertex, edge-edge, length-edge, length-length}
+use Rattle.table.specs.laws.Writes.{next-length, prev-length, leaves-length, edge-length, vertex-length}
 use Rattle.edits.specs.laws.Held.{Held, nextIn, next-in, next-out, held-kept}
-use Rattle.edits.specs.Edge.{splice, lesser, seek, successor, taken, unlink, link, firstCorner, inserted, deleted}
+use Rattle.edits.specs.Edge.{splice, lesser, seek, successor, taken, unlink, link, firstCorner, setOwn, inserted, deleted}
 use Rattle.edits.specs.laws.Splice.{Reads, reads-splice, reads-cut, reads-vertex}
 use Rattle.edits.specs.laws.Unlink.{Sought, found, none, sought, Shrunk, out-shrunk}
 use Rattle.edits.specs.laws.Grown.{new, old, plus-case, Grown}
@@ -124,16 +125,39 @@ module _ (t : List ℕ) (L : ℕ → Bool) (H : Held t L) (e w : ℕ) (h : e < e
   edge-held = held-kept t (setEdge t e w) L H (length-set t _ w ∙ H .size)
       (λ d l. next-edge t e w d l) (λ d l. prev-edge t e w d l) (λ d l. leaves-edge t e w d l) (λ v l. vertex-edge t e w v h)
 
-  pub edge-next : (d : ℕ) → nextIn (setEdge t e w) L d ≡ nextIn t L d
-  edge-next d = elim (truth (L d)) [
-    | holds l ↦ next-in (setEdge t e w) L d l ∙ next-edge t e w d (H .low d l) ∙ sym (next-in t L d l)
-    | fails f ↦ next-out (setEdge t e w) L d f ∙ sym (next-out t L d f)
-  ]
+-- An edge's own words written change no other word.
+module _ (t : List ℕ) (e w n : ℕ) (h : e < edges) where
+  pub own-edge : length t ≡ words → (i : ℕ) → i < edges → edgeWord (setOwn t e w n) i ≡ upd (edgeWord t) e w i
+  own-edge size i l = edge-length (setEdge t e w) e n i l ∙ edge-edge t size e w i h
+
+  pub own-length : length t ≡ words → (i : ℕ) → lengthWord (setOwn t e w n) i ≡ upd (lengthWord t) e n i
+  own-length size i =
+      length-length (setEdge t e w) (length-set t _ w ∙ size) e n i h ∙ upd-same (lengthWord (setEdge t e w)) (lengthWord t) e n i (length-edge t e w i h)
+
+  pub own-leaves : (d : ℕ) → d < darts → leaves (setOwn t e w n) d ≡ leaves t d
+  own-leaves d l = leaves-length (setEdge t e w) e n d l ∙ leaves-edge t e w d l
+
+  pub own-vertex : (v : ℕ) → v < vertices → vertexWord (setOwn t e w n) v ≡ vertexWord t v
+  own-vertex v l = vertex-length (setEdge t e w) e n v l ∙ vertex-edge t e w v h
+
+  own-dart : (d : ℕ) → d < darts → nextWord (setOwn t e w n) d ≡ nextWord t d
+  own-dart d l = next-length (setEdge t e w) e n d l ∙ next-edge t e w d l
+
+  module _ (L : ℕ → Bool) (H : Held t L) where
+    pub own-held : Held (setOwn t e w n) L
+    own-held = held-kept t (setOwn t e w n) L H (length-set (setEdge t e w) _ n ∙ length-set t _ w ∙ H .size)
+        own-dart (λ d l. prev-length (setEdge t e w) e n d l ∙ prev-edge t e w d l) own-leaves own-vertex
+
+    pub own-next : (d : ℕ) → nextIn (setOwn t e w n) L d ≡ nextIn t L d
+    own-next d = elim (truth (L d)) [
+      | holds l ↦ next-in (setOwn t e w n) L d l ∙ own-dart d (H .low d l) ∙ sym (next-in t L d l)
+      | fails f ↦ next-out (setOwn t e w n) L d f ∙ sym (next-out t L d f)
+    ]
 
 -- the last of the writes
-pub insert-last : (t u v : List ℕ) (e c₁ c₂ c w : ℕ) → u ≡ link t (2 * e + 1) c₂ → c ≡ firstCorner e c₁ c₂
-    → v ≡ link u (2 * e) c → setEdge v e w ≡ inserted t e c₁ c₂ w
-insert-last t u v e c₁ c₂ c w p q r = ap (λ x. setEdge x e w) (r ∙ ap (λ x. link x (2 * e) c) p ∙ ap (link (link t (2 * e + 1) c₂) (2 * e)) q)
+pub insert-last : (t u v : List ℕ) (e c₁ c₂ c w n : ℕ) → u ≡ link t (2 * e + 1) c₂ → c ≡ firstCorner e c₁ c₂
+    → v ≡ link u (2 * e) c → setOwn v e w n ≡ inserted t e c₁ c₂ w n
+insert-last t u v e c₁ c₂ c w n p q r = ap (λ x. setOwn x e w n) (r ∙ ap (λ x. link x (2 * e) c) p ∙ ap (link (link t (2 * e + 1) c₂) (2 * e)) q)
 
-pub delete-last : (t u v : List ℕ) (e : ℕ) → u ≡ unlink t (2 * e) → v ≡ unlink u (2 * e + 1) → setEdge v e 0 ≡ deleted t e
-delete-last t u v e p q = ap (λ x. setEdge x e 0) (q ∙ ap (λ x. unlink x (2 * e + 1)) p)
+pub delete-last : (t u v : List ℕ) (e : ℕ) → u ≡ unlink t (2 * e) → v ≡ unlink u (2 * e + 1) → setOwn v e 0 0 ≡ deleted t e
+delete-last t u v e p q = ap (λ x. setOwn x e 0 0) (q ∙ ap (λ x. unlink x (2 * e + 1)) p)

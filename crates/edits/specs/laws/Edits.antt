@@ -47,9 +47,9 @@ pub same-edit : (t u : List ℕ) (E F : Edit) (r : Reply) → E ≡ F → (r ≡
 same-edit t u E F r e p = rw e p
 
 -- turns and amounts that are handed on keep their values
-pub same-insertion : (t u : List ℕ) (E : Edit) (r : Reply) (e c₁ c₂ : ℕ) (k : ℤ) → SFits w16 k → E ≡ InsertEdge e c₁ c₂ k
-    → (r ≡ reply t (InsertEdge e c₁ c₂ (toZ w16 (ofZ w16 k)))) × (u ≡ edited t (InsertEdge e c₁ c₂ (toZ w16 (ofZ w16 k)))) → (r ≡ reply t E) × (u ≡ edited t E)
-same-insertion t u E r e c₁ c₂ k f p q = same-edit t u E _ r (p ∙ ap (InsertEdge e c₁ c₂) (sym (toZ-ofZ {w = w16} f))) q
+pub same-insertion : (t u : List ℕ) (E : Edit) (r : Reply) (e c₁ c₂ : ℕ) (k : ℤ) (n : ℕ) → SFits w16 k → E ≡ InsertEdge e c₁ c₂ k n
+    → (r ≡ reply t (InsertEdge e c₁ c₂ (toZ w16 (ofZ w16 k)) n)) × (u ≡ edited t (InsertEdge e c₁ c₂ (toZ w16 (ofZ w16 k)) n)) → (r ≡ reply t E) × (u ≡ edited t E)
+same-insertion t u E r e c₁ c₂ k n f p q = same-edit t u E _ r (p ∙ ap (λ z. InsertEdge e c₁ c₂ z n) (sym (toZ-ofZ {w = w16} f))) q
 
 pub same-turn : (t u : List ℕ) (E : Edit) (r : Reply) (e : ℕ) (a : ℤ) → SFits w16 a → E ≡ TurnEdge e a
     → (r ≡ reply t (TurnEdge e (toZ w16 (ofZ w16 a)))) × (u ≡ edited t (TurnEdge e (toZ w16 (ofZ w16 a)))) → (r ≡ reply t E) × (u ≡ edited t E)

@@ -10,11 +10,16 @@ use lib.ListN.{length}
 use Rattle.orbits.specs.laws.Truth.{clash, truth, holds, fails}
 use Rattle.orbits.specs.Reach.{Reach}
 use Rattle.orbits.specs.laws.Reach.{reach-agree}
-use Rattle.table.specs.Layout.{vertices, edges, darts, words, nothing, isolated, nextWord, prevWord, leaves, edgeWord, vertexWord, edgeOf, edgeWordMost}
-use Rattle.table.specs.Good.{Good, Bare}
+use Rattle.table.specs.Layout.{vertices, edges, darts, words, nothing, isolated, nextWord, prevWord, leaves, edgeWord, vertexWord, lengthWord, edgeOf, edgeWordMost, longest}
+use Rattle.table.specs.Good.{Good, Bare, LengthRule}
 use Rattle.table.specs.laws.Writes.{same-words}
 use Rattle.table.specs.Rotation.{live?}
 use Rattle.table.specs.laws.Rotation.{live-yes, yes-live, not-live}
+
+-- a length that a live edge may have
+pub record Long (n : ℕ) : Type 0 where
+  pub some : n ≢ 0
+  pub most : n ≤ longest
 
 -- d is the smallest dart of L that leaves v
 pub record SmallestIn (t : List ℕ) (L : ℕ → Bool) (v d : ℕ) : Type 0 where
@@ -63,10 +68,11 @@ module _ (t : List ℕ) where
         | no n ↦ absurd (clash (yes-live t d (record { low = h; on = n })) e)
       ]
 
-  pub held-good : Held t (live? t) → ((e : ℕ) → e < edges → edgeWord t e ≤ edgeWordMost) → Good t
-  held-good h turns = record {
+  pub held-good : Held t (live? t) → ((e : ℕ) → e < edges → edgeWord t e ≤ edgeWordMost) → ((e : ℕ) → e < edges → LengthRule t e) → Good t
+  held-good h turns lengths = record {
     size = h .size;
     turns = turns;
+    lengths = lengths;
     bare = λ d l z. h .bare d l (not-live t d (λ v. v .on z));
     leaves-low = λ d l. h .leaves-low d (yes-live t d l);
     leaves-live = λ d l. h .leaves-live d (yes-live t d l);
@@ -126,9 +132,10 @@ module _ (t u : List ℕ) (L : ℕ → Bool) (H : Held t L) (size : length u ≡
         rw same (record { live = s .live; here = at _ (s .live) ∙ s .here; least = λ k e q. s .least k e (sym (at k e) ∙ q) });
   }
 
--- a table is told by its next words, the vertices that its darts leave, its edge words and which vertices are live
+-- a table is told by its next words, the vertices that its darts leave, its edge words, its lengths and which vertices are live
 module _ (t u : List ℕ) (L : ℕ → Bool) (H : Held t L) (K : Held u L) (next : (d : ℕ) → L d ≡ true → nextWord u d ≡ nextWord t d)
     (from : (d : ℕ) → L d ≡ true → leaves u d ≡ leaves t d) (edge : (e : ℕ) → e < edges → edgeWord u e ≡ edgeWord t e)
+    (long : (e : ℕ) → e < edges → lengthWord u e ≡ lengthWord t e)
     (there : (v : ℕ) → v < vertices → (vertexWord u v ≡ nothing) ↔ (vertexWord t v ≡ nothing)) where
   prev-same : (d : ℕ) → L d ≡ true → prevWord u d ≡ prevWord t d
   prev-same d e =
@@ -168,4 +175,4 @@ module _ (t u : List ℕ) (L : ℕ → Bool) (H : Held t L) (K : Held u L) (next
   ]
 
   pub held-same : u ≡ t
-  held-same = same-words u t (K .size) (H .size) dart-same edge vertex-same
+  held-same = same-words u t (K .size) (H .size) dart-same edge vertex-same long

@@ -8,22 +8,23 @@ use mathlib.Core.List.{List}
 use mathlib.Core.Logic.{_≢_}
 use borrow.Author.Tests.{eq-eqb, ne-eqb}
 use Rattle.orbits.specs.laws.Truth.{clash, both, both-left, both-right, same-truth}
-use Rattle.table.specs.Layout.{vertices, edges, darts, isolated, nextWord, leaves, edgeWord, vertexWord, edgeOf, edgeWordMost, loneAt}
-use Rattle.table.specs.Good.{Good}
+use Rattle.table.specs.Layout.{vertices, edges, darts, isolated, nextWord, leaves, edgeWord, vertexWord, lengthWord, edgeOf, edgeWordMost, loneAt}
+use Rattle.table.specs.Good.{Good, LengthRule}
 use Rattle.table.specs.Rotation.{rotation, live?, nextDart, turnsOf, there?}
 use Rattle.table.specs.laws.Rotation.{live-yes, yes-live, not-live, there-yes, there-word, alone-yes}
-use Rattle.table.specs.laws.Writes.{upd-at, upd-off, edge-edge, leaves-edge, vertex-edge}
+use Rattle.table.specs.laws.Writes.{upd, upd-at, upd-off, upd-same}
 use Rattle.surgery.specs.Without.{bypass, Without, apart}
 use Rattle.surgery.specs.laws.Bypass.{bypass-into, bypass-off}
 use Rattle.surgery.specs.Sits.{Sits, just-before, before-other, at-vertex, Inserted}
 use Rattle.surgery.specs.laws.Without.{apart-own, apart-other}
-use Rattle.edits.specs.laws.Held.{Held, good-held, held-good, nextIn, next-in}
+use Rattle.edits.specs.laws.Held.{Long, Held, good-held, held-good, nextIn, next-in}
 use Rattle.edits.specs.laws.Ready.{InsertReady, link-ready}
 use Rattle.edits.specs.Edge.{link, firstCorner, inserted}
-use Rattle.edits.specs.laws.Edge.{Corner, at-dart, at-lone, link-grown, link-before, link-alone, still-isolated, edge-held, edge-next, next-of}
+use Rattle.edits.specs.laws.Edge.{Corner, at-dart, at-lone, link-grown, link-before, link-alone, still-isolated, own-edge, own-length, own-leaves, own-vertex, own-held, own-next, next-of}
+use Rattle.edits.specs.laws.Lengths.{link-length}
 use Rattle.edits.specs.laws.Grown.{plus, plus-new, plus-old, new, old, plus-case, Grown}
 
-module _ (t : List ℕ) (g : Good t) (e c₁ c₂ w : ℕ) (h : e < edges) (off : edgeWord t e ≡ 0) (some : w ≢ 0) (few : w ≤ edgeWordMost)
+module _ (t : List ℕ) (g : Good t) (e c₁ c₂ w len : ℕ) (h : e < edges) (off : edgeWord t e ≡ 0) (some : w ≢ 0) (few : w ≤ edgeWordMost) (long : Long len)
     (C₁ : Corner t (live? t) c₁) (C₂ : Corner t (live? t) c₂) where
   H : Held t (live? t)
   H = good-held t g
@@ -79,13 +80,13 @@ module _ (t : List ℕ) (g : Good t) (e c₁ c₂ w : ℕ) (h : e < edges) (off 
   }
 
   abbrev result : List ℕ
-  result = inserted t e c₁ c₂ w
+  result = inserted t e c₁ c₂ w len
 
   pub inserted-other : (i : ℕ) → i < edges → i ≢ e → edgeWord result i ≡ edgeWord t i
-  inserted-other i l n = edge-edge full (first .held .size) e w i h ∙ upd-off (edgeWord full) e w i n ∙ first .edge i l ∙ second .edge i l
+  inserted-other i l o = own-edge full e w len h (first .held .size) i l ∙ upd-off (edgeWord full) e w i o ∙ first .edge i l ∙ second .edge i l
 
   pub inserted-own : edgeWord result e ≡ w
-  inserted-own = edge-edge full (first .held .size) e w e h ∙ upd-at (edgeWord full) e w
+  inserted-own = own-edge full e w len h (first .held .size) e h ∙ upd-at (edgeWord full) e w
 
   data More (d : ℕ) : Type 0 where
     ours : edgeOf d ≡ e → d < darts → More d
@@ -137,30 +138,48 @@ module _ (t : List ℕ) (g : Good t) (e c₁ c₂ w : ℕ) (h : e < edges) (off 
     | no n ↦ rw (inserted-other i l n) (g .turns i l)
   ]
 
+  -- every other edge keeps its length
+  pub inserted-length : (i : ℕ) → lengthWord result i ≡ upd (lengthWord t) e len i
+  inserted-length i =
+      own-length full e w len h (first .held .size) i
+      ∙ upd-same (lengthWord full) (lengthWord t) e len i (link-length half i (2 * e) (firstCorner e c₁ c₂) (insert-ready .first) ∙ link-length t i (2 * e + 1) c₂ (insert-ready .second))
+
+  lengths-fit : (i : ℕ) → i < edges → LengthRule result i
+  lengths-fit i l = elim (ℕ-discrete i e) [
+    | yes q ↦
+        let is : lengthWord result i ≡ len = rw q (inserted-length e ∙ upd-at (lengthWord t) e len) in
+        record { some = λ _. rw is (long .some); none = λ z. absurd (some (sym inserted-own ∙ ap (edgeWord result) (sym q) ∙ z)); most = rw is (long .most) }
+    | no o ↦
+        let is : lengthWord result i ≡ lengthWord t i = inserted-length i ∙ upd-off (lengthWord t) e len i o in
+        let f = g .lengths i l in
+        let word = inserted-other i l o in
+        record { some = λ on. rw is (f .some (rw word at on)); none = λ z. is ∙ f .none (sym word ∙ z); most = rw is (f .most) }
+  ]
+
   pub inserted-good : Good result
-  inserted-good = held-good result (subst (λ L. Held result L) same-live (edge-held full more (first .held) e w h)) turns-low
+  inserted-good = held-good result (subst (λ L. Held result L) same-live (own-held full e w len h more (first .held))) turns-low lengths-fit
 
   -- the rotation with e, and e's two darts left out of it
   inserted-next : (d : ℕ) → nextDart t d ≡ bypass (bypass (nextDart result) (2 * e)) (2 * e + 1) d
   inserted-next d =
       next-of t d ∙ second .next d ∙ ap (λ f. bypass f (2 * e + 1) d) (fun-ext (first .next))
-      ∙ ap (λ f. bypass (bypass f (2 * e)) (2 * e + 1) d) (fun-ext (λ k. sym (next-of result k ∙ ap (λ L. nextIn result L k) (sym same-live) ∙ edge-next full more (first .held) e w h k)))
+      ∙ ap (λ f. bypass (bypass f (2 * e)) (2 * e + 1) d) (fun-ext (λ k. sym (next-of result k ∙ ap (λ L. nextIn result L k) (sym same-live) ∙ own-next full e w len h more (first .held) k)))
 
   inserted-from : (d : ℕ) → live? t d ≡ true → edgeOf d ≢ e → leaves t d ≡ leaves result d
   inserted-from d l n =
       let low = live-yes t d l .low in
-      sym (leaves-edge full e w d low ∙ first .from d low (omega arith) ∙ second .from d low (omega arith))
+      sym (own-leaves full e w len h d low ∙ first .from d low (omega arith) ∙ second .from d low (omega arith))
 
   not-own : (d : ℕ) → live? t d ≡ true → edgeOf d ≢ e
   not-own d l q = clash l (free d q)
 
   inserted-there : (v : ℕ) → there? t v ≡ there? result v
   inserted-there v = same-truth (there? t v) (there? result v)
-      (λ y. let m = there-word t v y in there-yes result v (m .0) (λ z. m .1 (second .there v (m .0) .0 (first .there v (m .0) .0 (sym same ∙ z)))))
-      (λ y. let m = there-word result v y in there-yes t v (m .0) (λ z. m .1 (same ∙ first .there v (m .0) .1 (second .there v (m .0) .1 z))))
+      (λ y. let m = there-word t v y in there-yes result v (m .0) (λ z. m .1 (second .there v (m .0) .0 (first .there v (m .0) .0 (sym (same (m .0)) ∙ z)))))
+      (λ y. let m = there-word result v y in there-yes t v (m .0) (λ z. m .1 (same (m .0) ∙ first .there v (m .0) .1 (second .there v (m .0) .1 z))))
     where
-      same : vertexWord result v ≡ vertexWord full v
-      same = vertex-edge full e w v h
+      same : v < vertices → vertexWord result v ≡ vertexWord full v
+      same l = own-vertex full e w len h v l
 
   pub inserted-without : Without (rotation result) e (rotation t)
   unfolding turnsOf
@@ -182,10 +201,10 @@ module _ (t : List ℕ) (g : Good t) (e c₁ c₂ w : ℕ) (h : e < edges) (off 
   -- where e's darts stand
 
   result-next : (d : ℕ) → nextDart result d ≡ nextIn full more d
-  result-next d = next-of result d ∙ ap (λ L. nextIn result L d) (sym same-live) ∙ edge-next full more (first .held) e w h d
+  result-next d = next-of result d ∙ ap (λ L. nextIn result L d) (sym same-live) ∙ own-next full e w len h more (first .held) d
 
   result-from : (d : ℕ) → d < darts → leaves result d ≡ leaves full d
-  result-from d l = leaves-edge full e w d l
+  result-from d l = own-leaves full e w len h d l
 
   second-seat : live? t c₂ ≡ true → (leaves half (2 * e + 1) ≡ leaves t c₂) × (nextWord half (2 * e + 1) ≡ c₂)
   second-seat o = link-before t (live? t) H (2 * e + 1) c₂ (free (2 * e + 1) (omega arith)) (omega arith) o

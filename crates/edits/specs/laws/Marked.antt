@@ -8,10 +8,10 @@ use mathlib.Core.Logic.{_≢_, _⊎_, ⊎-elim}
 use lib.ListN.{length-set}
 use Rattle.orbits.specs.Reach.{Reach}
 use Rattle.orbits.specs.laws.Reach.{reach-agree}
-use Rattle.table.specs.Layout.{vertices, edges, darts, nothing, isolated, nextWord, prevWord, leaves, edgeWord, vertexWord, edgeOf, Live}
+use Rattle.table.specs.Layout.{vertices, edges, darts, nothing, isolated, nextWord, prevWord, leaves, edgeWord, vertexWord, lengthWord, edgeOf, Live}
 use Rattle.table.specs.Good.{Good}
 use Rattle.table.specs.Writes.{setVertex}
-use Rattle.table.specs.laws.Writes.{upd-at, upd-off, next-vertex, prev-vertex, leaves-vertex, edge-vertex, vertex-vertex}
+use Rattle.table.specs.laws.Writes.{upd-at, upd-off, next-vertex, prev-vertex, leaves-vertex, edge-vertex, vertex-vertex, length-vertex}
 use Rattle.edits.specs.laws.Edge as edge
 
 -- the table with one vertex word changed between nothing and isolated: no live dart leaves that vertex
@@ -56,6 +56,10 @@ module _ (t : List ℕ) (g : Good t) (v w : ℕ) (low : v < vertices) (bare : (d
     bare = λ d h z.
         let b = g .bare d h (sym (edge-same (edgeOf d) (omega arith)) ∙ z) in
         record { next-none = next-same d h ∙ b .next-none; prev-none = prev-same d h ∙ b .prev-none; leaves-none = leaves-vertex t v w d h ∙ b .leaves-none };
+    lengths = λ e h.
+        let same : lengthWord marked e ≡ lengthWord t e = length-vertex t v w e low in
+        let f = g .lengths e h in
+        record { some = λ on. rw same (f .some (rw (edge-same e h) at on)); none = λ z. same ∙ f .none (sym (edge-same e h) ∙ z); most = rw same (f .most) };
     leaves-low = λ d l. rw (leaves-same d l) (g .leaves-low d (was-live d l));
     leaves-live = λ d l. rw (leaves-same d l, vertex-apart d (was-live d l)) (g .leaves-live d (was-live d l));
     next-live = λ d l. rw (next-same d (l .low)) (live-still _ (g .next-live d (was-live d l)));

@@ -59,7 +59,7 @@ turn-change (suc n) c = letter-change c
 pub rule-change : (t : List ℕ) (E : Edit) (r : Rule) → ruleOf t E ≡ some r → ruleChange r ≡ change t E
 rule-change t (AddVertex v) r e = absurd (no-rule e)
 rule-change t (RemoveVertex v) r e = absurd (no-rule e)
-rule-change t (InsertEdge e c₁ c₂ k) r q = ap ruleChange (sym (some-same q)) ∙ letter-change _
+rule-change t (InsertEdge e c₁ c₂ k n) r q = ap ruleChange (sym (some-same q)) ∙ letter-change _
 rule-change t (DeleteEdge e) r q = ap ruleChange (sym (some-same q)) ∙ letter-change _
 rule-change t (TurnEdge e a) r q = ap ruleChange (sym (some-same q)) ∙ turn-change (oddness a) _
 
@@ -69,8 +69,8 @@ rule-changes t E r p q = rw (rule-change t E r q) (written-changes t E p)
 
 -- the code reads the parity of turns off the edge's word
 
-pub insert-met : {t : List ℕ} {e c₁ c₂ : ℕ} {k : ℤ} {w : ℕ} {r : Rule} → MayInsert t e c₁ c₂ k → w ≡ turnedWord 100 k
-    → r ≡ ruleFor (insertion (meetingOf (rotation t) c₁ c₂) (w % 2)) → ruleOf t (InsertEdge e c₁ c₂ k) ≡ some r
+pub insert-met : {t : List ℕ} {e c₁ c₂ : ℕ} {k : ℤ} {n w : ℕ} {r : Rule} → MayInsert t e c₁ c₂ k n → w ≡ turnedWord 100 k
+    → r ≡ ruleFor (insertion (meetingOf (rotation t) c₁ c₂) (w % 2)) → ruleOf t (InsertEdge e c₁ c₂ k n) ≡ some r
 insert-met {t} {e} {c₁} {c₂} {k} {w} m q f =
     let odd = odd-turned 100 k (ap overturned (hundred k) ∙ m .few) in
     let same : oddness k ≡ w % 2 = omega arith in

@@ -5,14 +5,14 @@ use mathlib.Core.Path.{_≡_, refl, sym, _∙_, ap}
 use mathlib.Core.Bool.{true, false, not, _&&_}
 use mathlib.Core.List.{List}
 use mathlib.Core.Logic.{_≢_}
-use lib.Dec.{eqb, ltb}
+use lib.Dec.{eqb, ltb, leb}
 use lib.IntN.{ℤ, _+ℤ_}
 use mir.Syntax.{w16}
 use mir.Val.{SFits, toZ, ofZ}
 use mir.Facts.{toZ-ofZ}
-use borrow.Author.Tests.{ltb-true, eqb-true, eqb-false, eq-eqb, ne-eqb, not-true, not-false}
+use borrow.Author.Tests.{ltb-true, leb-true, eqb-true, eqb-false, eq-eqb, ne-eqb, not-true, not-false}
 use Rattle.orbits.specs.laws.Truth.{truth, holds, fails, both-left, both-right}
-use Rattle.table.specs.Layout.{vertices, edges, nothing, isolated, edgeWord, vertexWord}
+use Rattle.table.specs.Layout.{vertices, edges, nothing, isolated, edgeWord, vertexWord, longest}
 use Rattle.table.specs.Good.{Good}
 use Rattle.table.specs.Rotation.{rotation}
 use Rattle.table.specs.Check.{good?}
@@ -26,8 +26,9 @@ use Rattle.table.specs.declared.answer.Refusal.the-variants.{Overturned}
 use Rattle.tracing.specs.Corner.{present, Present, wellFormed}
 use Rattle.tracing.specs.laws.Corner.{present-means}
 use Rattle.edits.specs.Turns.{turnsIn, overturned, turnedWord}
-use Rattle.edits.specs.Verdicts.{vertexThere, edgeThere, newVertex, oldVertex, newEdge, oldEdge, fewTurns, andThen, verdict}
+use Rattle.edits.specs.Verdicts.{vertexThere, edgeThere, newVertex, oldVertex, newEdge, oldEdge, fewTurns, fairLength, andThen, verdict}
 use Rattle.edits.specs.laws.Turns.{word-over, few-word}
+use Rattle.edits.specs.laws.Held.{Long}
 use Rattle.edits.specs.declared.edit.Edit.{Edit}
 use Rattle.edits.specs.declared.edit.Edit.the-variants.{AddVertex, RemoveVertex, InsertEdge, DeleteEdge, TurnEdge}
 use Rattle.edits.specs.declared.edit.Verdict.{Verdict}
@@ -87,13 +88,14 @@ pub record MayRemove (t : List ℕ) (v : ℕ) : Type 0 where
   pub low : v < vertices
   pub alone : vertexWord t v ≡ isolated
 
-pub record MayInsert (t : List ℕ) (e c₁ c₂ : ℕ) (k : ℤ) : Type 0 where
+pub record MayInsert (t : List ℕ) (e c₁ c₂ : ℕ) (k : ℤ) (n : ℕ) : Type 0 where
   pub good : Good t
   pub low : e < edges
   pub free : edgeWord t e ≡ 0
   pub first-there : Present (rotation t) c₁
   pub second-there : Present (rotation t) c₂
   pub few : overturned k ≡ false
+  pub long : Long n
 
 pub record MayDelete (t : List ℕ) (e : ℕ) : Type 0 where
   pub good : Good t
@@ -134,15 +136,17 @@ module _ (t : List ℕ) where
       let there = vertex-there t v (q .0) in
       record { good = there .good; low = there .low; alone = eqb-true (vertexWord t v) isolated (let-through (eqb (vertexWord t v) isolated) never (q .1) .held) }
 
-  pub may-insert : (e c₁ c₂ : ℕ) (k : ℤ) → verdict t (InsertEdge e c₁ c₂ k) ≡ Passes → MayInsert t e c₁ c₂ k
+  pub may-insert : (e c₁ c₂ : ℕ) (k : ℤ) (n : ℕ) → verdict t (InsertEdge e c₁ c₂ k n) ≡ Passes → MayInsert t e c₁ c₂ k n
   unfolding newEdge
-  may-insert e c₁ c₂ k p =
-      let q = then-through (newEdge t e c₁ c₂) (fewTurns k) p in
+  may-insert e c₁ c₂ k n p =
+      let q = then-through (newEdge t e c₁ c₂) (andThen (fewTurns k) (fairLength n)) p in
+      let l = then-through (fewTurns k) (fairLength n) (q .1) in
       let a = let-through (good? t) never (q .0) in
       let b = let-through _ never (a .rest) in
       let c = let-through (not (edgeThere t e)) never (b .rest) in
       let d = let-through (present (rotation t) c₁ && present (rotation t) c₂) never (c .rest) in
-      let f = let-through (not (overturned k)) never (q .1) in
+      let f = let-through (not (overturned k)) never (l .0) in
+      let s = let-through (ltb 0 n && leb n longest) never (l .1) in
       let g = was-good t (a .held) in
       let there = present-means (rotation t) (good-lawful t g) in
       record {
@@ -152,6 +156,7 @@ module _ (t : List ℕ) where
         first-there = there c₁ (both-left (present (rotation t) c₁) _ (d .held));
         second-there = there c₂ (both-right (present (rotation t) c₁) _ (d .held));
         few = not-true _ (f .held);
+        long = record { some = (let z = ltb-true 0 n (both-left (ltb 0 n) _ (s .held)) in omega arith); most = leb-true n longest (both-right (ltb 0 n) _ (s .held)) };
       }
 
   pub may-delete : (e : ℕ) → verdict t (DeleteEdge e) ≡ Passes → MayDelete t e
@@ -172,7 +177,7 @@ module _ (t : List ℕ) where
 pub passed-good : (t : List ℕ) (E : Edit) → verdict t E ≡ Passes → Good t
 passed-good t (AddVertex v) p = may-add t v p .good
 passed-good t (RemoveVertex v) p = may-remove t v p .good
-passed-good t (InsertEdge e c₁ c₂ k) p = may-insert t e c₁ c₂ k p .good
+passed-good t (InsertEdge e c₁ c₂ k n) p = may-insert t e c₁ c₂ k n p .good
 passed-good t (DeleteEdge e) p = may-delete t e p .good
 passed-good t (TurnEdge e a) p = may-turn t e a p .good
 
@@ -185,9 +190,9 @@ room-is w a {x} e q = q ∙ elim (truth (overturned (turnsIn w +ℤ a))) [
 
 -- turns and amounts that are handed on keep their values
 module _ (t : List ℕ) where
-  pub insert-on : (e c₁ c₂ : ℕ) (k : ℤ) {r v : Verdict} → SFits w16 k
-      → r ≡ verdict t (InsertEdge e c₁ c₂ (toZ w16 (ofZ w16 k))) → r ≡ v → verdict t (InsertEdge e c₁ c₂ k) ≡ v
-  insert-on e c₁ c₂ k f p q = ap (λ z. verdict t (InsertEdge e c₁ c₂ z)) (sym (toZ-ofZ {w = w16} f)) ∙ sym p ∙ q
+  pub insert-on : (e c₁ c₂ : ℕ) (k : ℤ) (n : ℕ) {r v : Verdict} → SFits w16 k
+      → r ≡ verdict t (InsertEdge e c₁ c₂ (toZ w16 (ofZ w16 k)) n) → r ≡ v → verdict t (InsertEdge e c₁ c₂ k n) ≡ v
+  insert-on e c₁ c₂ k n f p q = ap (λ z. verdict t (InsertEdge e c₁ c₂ z n)) (sym (toZ-ofZ {w = w16} f)) ∙ sym p ∙ q
 
   pub turn-on : (e : ℕ) (a : ℤ) {r v : Verdict} → SFits w16 a → r ≡ verdict t (TurnEdge e (toZ w16 (ofZ w16 a))) → r ≡ v → verdict t (TurnEdge e a) ≡ v
   turn-on e a f p q = ap (λ z. verdict t (TurnEdge e z)) (sym (toZ-ofZ {w = w16} f)) ∙ sym p ∙ q

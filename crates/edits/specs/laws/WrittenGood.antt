@@ -6,12 +6,12 @@ use mathlib.Core.List.{List}
 use mathlib.Core.Logic.{_≢_, inl, inr}
 use lib.IntN.{ℤ}
 use Rattle.orbits.specs.laws.Truth.{same-truth}
-use Rattle.table.specs.Layout.{edges, nothing, isolated, edgeWord, vertexWord, edgeOf}
+use Rattle.table.specs.Layout.{edges, nothing, isolated, edgeWord, vertexWord, lengthWord, edgeOf}
 use Rattle.table.specs.Good.{Good}
 use Rattle.table.specs.Rotation.{rotation, live?}
 use Rattle.table.specs.laws.Rotation.{live-yes, yes-live, alone-word}
 use Rattle.table.specs.Writes.{setVertex, setEdge}
-use Rattle.table.specs.laws.Writes.{upd-at, upd-off, edge-edge}
+use Rattle.table.specs.laws.Writes.{upd-at, upd-off, edge-edge, length-edge}
 use Rattle.tracing.specs.Corner.{Present, at-dart, at-lone}
 use Rattle.edits.specs.Turns.{turnedWord}
 use Rattle.edits.specs.laws.Held.{Held, good-held, held-good}
@@ -43,10 +43,10 @@ module _ (t : List ℕ) where
   pub remove-good : (v : ℕ) → MayRemove t v → Good (setVertex t v nothing)
   remove-good v m = marked-good t (m .good) v nothing (m .low) (m .good .alone v (m .low) (m .alone)) (inl refl)
 
-  pub insert-good : (e c₁ c₂ : ℕ) (k : ℤ) → MayInsert t e c₁ c₂ k → Good (inserted t e c₁ c₂ (turnedWord 100 k))
-  insert-good e c₁ c₂ k m =
+  pub insert-good : (e c₁ c₂ : ℕ) (k : ℤ) (n : ℕ) → MayInsert t e c₁ c₂ k n → Good (inserted t e c₁ c₂ (turnedWord 100 k) n)
+  insert-good e c₁ c₂ k n m =
       let w = inserted-word k (m .few) in
-      inserted-good t (m .good) e c₁ c₂ (turnedWord 100 k) (m .low) (m .free) (w .0) (w .1) (present-corner t c₁ (m .first-there)) (present-corner t c₂ (m .second-there))
+      inserted-good t (m .good) e c₁ c₂ (turnedWord 100 k) n (m .low) (m .free) (w .0) (w .1) (m .long) (present-corner t c₁ (m .first-there)) (present-corner t c₂ (m .second-there))
 
   pub delete-good : (e : ℕ) → MayDelete t e → Good (deleted t e)
   delete-good e m = deleted-good t (m .good) e (m .low) (m .there)
@@ -90,19 +90,48 @@ module _ (t : List ℕ) where
         | yes q ↦ rw (q, edge-edge t (m .good .size) e w e (m .low), upd-at (edgeWord t) e w) (turned-some (edgeWord t e) a (m .few) .1)
         | no n ↦ rw (edge-edge t (m .good .size) e w i (m .low), upd-off (edgeWord t) e w i n) (m .good .turns i h)
       ])
+      (λ i h.
+      let same : lengthWord (setEdge t e w) i ≡ lengthWord t i = length-edge t e w i (m .low) in
+      let f = m .good .lengths i h in
+      record {
+        some = λ on. rw same (f .some (still i on));
+        none = λ z. same ∙ f .none (off i z);
+        most = rw same (f .most);
+      })
+    where
+      some-word : turnedWord (edgeWord t e) a ≢ 0
+      some-word = turned-some (edgeWord t e) a (m .few) .0
+
+      own : edgeWord (setEdge t e (turnedWord (edgeWord t e) a)) e ≡ turnedWord (edgeWord t e) a
+      own = edge-edge t (m .good .size) e _ e (m .low) ∙ upd-at (edgeWord t) e _
+
+      other : (i : ℕ) → i ≢ e → edgeWord (setEdge t e (turnedWord (edgeWord t e) a)) i ≡ edgeWord t i
+      other i n = edge-edge t (m .good .size) e _ i (m .low) ∙ upd-off (edgeWord t) e _ i n
+
+      still : (i : ℕ) → edgeWord (setEdge t e (turnedWord (edgeWord t e) a)) i ≢ 0 → edgeWord t i ≢ 0
+      still i on = elim (ℕ-discrete i e) [
+        | yes q ↦ rw q (m .there)
+        | no n ↦ rw (other i n) at on
+      ]
+
+      off : (i : ℕ) → edgeWord (setEdge t e (turnedWord (edgeWord t e) a)) i ≡ 0 → edgeWord t i ≡ 0
+      off i z = elim (ℕ-discrete i e) [
+        | yes q ↦ absurd (some-word (sym own ∙ ap (edgeWord (setEdge t e (turnedWord (edgeWord t e) a))) (sym q) ∙ z))
+        | no n ↦ sym (other i n) ∙ z
+      ]
 
   pub written-good : (E : Edit) → verdict t E ≡ Passes → Good (written t E)
   written-good (AddVertex v) p = add-good v (may-add t v p)
   written-good (RemoveVertex v) p = remove-good v (may-remove t v p)
-  written-good (InsertEdge e c₁ c₂ k) p = insert-good e c₁ c₂ k (may-insert t e c₁ c₂ k p)
+  written-good (InsertEdge e c₁ c₂ k n) p = insert-good e c₁ c₂ k n (may-insert t e c₁ c₂ k n p)
   written-good (DeleteEdge e) p = delete-good e (may-delete t e p)
   written-good (TurnEdge e a) p = turn-good e a (may-turn t e a p)
 
   -- the words that the writes follow
-  pub may-insert-ready : (e c₁ c₂ : ℕ) (k : ℤ) → MayInsert t e c₁ c₂ k → InsertReady t e c₁ c₂
-  may-insert-ready e c₁ c₂ k m =
+  pub may-insert-ready : (e c₁ c₂ : ℕ) (k : ℤ) (n : ℕ) → MayInsert t e c₁ c₂ k n → InsertReady t e c₁ c₂
+  may-insert-ready e c₁ c₂ k n m =
       let w = inserted-word k (m .few) in
-      insert-ready t (m .good) e c₁ c₂ (turnedWord 100 k) (m .low) (m .free) (w .0) (w .1) (present-corner t c₁ (m .first-there)) (present-corner t c₂ (m .second-there))
+      insert-ready t (m .good) e c₁ c₂ (turnedWord 100 k) n (m .low) (m .free) (w .0) (w .1) (m .long) (present-corner t c₁ (m .first-there)) (present-corner t c₂ (m .second-there))
 
   pub may-delete-ready : (e : ℕ) → MayDelete t e → DeleteReady t e
   may-delete-ready e m = delete-ready t (m .good) e (m .low) (m .there)

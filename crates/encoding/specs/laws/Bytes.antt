@@ -2,11 +2,14 @@
 use Prim.Native.Nat.{ℕ, zero, suc, _/_, _%_, _<_}
 use native.Mathlib.Omega.{arith}
 use mathlib.Core.List.{List, [], _∷_, _++_, flatMap}
+use lib.Dec.{eqb}
 use lib.IntN.{ℤ, pos, negsuc}
+use Rattle.orbits.specs.laws.Truth.{truth, holds, fails}
+use Rattle.records.specs.Records.{plainLength}
 use lib.ListN.{getD}
 use Rattle.edits.specs.declared.edit.Edit.{Edit}
 use Rattle.edits.specs.declared.edit.Edit.the-variants.{AddVertex, RemoveVertex, InsertEdge, DeleteEdge, TurnEdge}
-use Rattle.encoding.specs.Encoding.{bytesOf, complement, recordOf, jobOf, Word, SignedWord, Sixteen, AllSixteen, none, more, Bytes}
+use Rattle.encoding.specs.Encoding.{bytesOf, complement, insertionWords, recordOf, jobOf, Word, SignedWord, Sixteen, AllSixteen, none, more, Bytes}
 
 bytes-none : Bytes []
 bytes-none = record { each = λ i. omega arith }
@@ -36,13 +39,20 @@ signed-bytes (negsuc n) h = word-bytes (complement (negsuc n)) (omega arith)
 marked : (a b : ℕ) {l : List ℕ} → a < 256 → b < 256 → Bytes l → Bytes (a ∷ b ∷ l)
 marked a b h k m = bytes-more h (bytes-more k m)
 
+insertion-bytes : (e c₁ c₂ : ℕ) (k : ℤ) → Word e → Word c₁ → Word c₂ → SignedWord k → Bytes (insertionWords e c₁ c₂ k)
+insertion-bytes e c₁ c₂ k f g h i =
+    bytes-append (bytesOf e) (word-bytes e f)
+    (bytes-append (bytesOf c₁) (word-bytes c₁ g) (bytes-append (bytesOf c₂) (word-bytes c₂ h) (signed-bytes k i)))
+
 record-bytes : (E : Edit) → Sixteen E → Bytes (recordOf E)
 record-bytes (AddVertex v) h = marked 65 86 (omega arith) (omega arith) (word-bytes v h)
 record-bytes (RemoveVertex v) h = marked 82 86 (omega arith) (omega arith) (word-bytes v h)
-record-bytes (InsertEdge e c₁ c₂ k) h =
-    marked 73 69 (omega arith) (omega arith)
-    (bytes-append (bytesOf e) (word-bytes e (h .0))
-    (bytes-append (bytesOf c₁) (word-bytes c₁ (h .1)) (bytes-append (bytesOf c₂) (word-bytes c₂ (h .2)) (signed-bytes k (h .3)))))
+record-bytes (InsertEdge e c₁ c₂ k n) h =
+    let words = insertion-bytes e c₁ c₂ k (h .0) (h .1) (h .2) (h .3) in
+    elim (truth (eqb n plainLength)) [
+      | holds q ↦ rw q (marked 73 69 (omega arith) (omega arith) words)
+      | fails q ↦ rw q (marked 73 76 (omega arith) (omega arith) (bytes-append (insertionWords e c₁ c₂ k) words (word-bytes n (h .4))))
+    ]
 record-bytes (DeleteEdge e) h = marked 68 69 (omega arith) (omega arith) (word-bytes e h)
 record-bytes (TurnEdge e a) h = marked 84 87 (omega arith) (omega arith) (bytes-append (bytesOf e) (word-bytes e (h .0)) (signed-bytes a (h .1)))
 

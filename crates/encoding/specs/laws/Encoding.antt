@@ -6,19 +6,21 @@ use mathlib.Core.List.{List, [], _∷_, _++_, flatMap}
 use lib.IntN.{ℤ, pos, negsuc}
 use lib.ListN.{length, length-append}
 use lib.Seq.{drop-append-seam}
-use borrow.Author.Tests.{lt-ltb, le-ltb, ne-eqb}
+use lib.Dec.{eqb}
+use borrow.Author.Tests.{lt-ltb, le-ltb, ne-eqb, eqb-true}
+use Rattle.orbits.specs.laws.Truth.{truth, holds, fails}
 use Rattle.edits.specs.declared.edit.Edit.{Edit}
 use Rattle.edits.specs.declared.edit.Edit.the-variants.{AddVertex, RemoveVertex, InsertEdge, DeleteEdge, TurnEdge}
 use Rattle.records.specs.declared.records.Mark.{Mark}
-use Rattle.records.specs.declared.records.Mark.the-variants.{AV, RV, IE, DE, TW}
+use Rattle.records.specs.declared.records.Mark.the-variants.{AV, RV, IE, IL, DE, TW}
 use Rattle.records.specs.declared.records.Marked.the-variants.{Known}
 use Rattle.records.specs.declared.records.Found.the-variants.{Record}
 use Rattle.records.specs.declared.records.Stop.the-variants.{End}
-use Rattle.records.specs.Records.{word, signedWord, markOf, sizeOf, editOf, knownRecord, firstRecord}
+use Rattle.records.specs.Records.{plainLength, word, signedWord, markOf, sizeOf, editOf, knownRecord, firstRecord}
 use Rattle.records.specs.Reading.{Reading, after, reading}
 use Rattle.records.specs.laws.Reading.{reading-stopped, reading-record}
 use Rattle.records.specs.laws.Decoding.{first-nothing}
-use Rattle.encoding.specs.Encoding.{complement, recordOf, jobOf, SignedWord, Sixteen, AllSixteen, none, more}
+use Rattle.encoding.specs.Encoding.{complement, recordBy, editFor, recordOf, jobOf, SignedWord, Sixteen, AllSixteen, none, more}
 
 -- a word's two bytes give it back
 whole : (w : ℕ) → w / 256 * 256 + w % 256 ≡ w
@@ -39,13 +41,24 @@ known m s E h e l f =
     rw (ne-eqb (length s) 0 (omega arith), ne-eqb (length s) 1 (omega arith), e, le-ltb (length s) (sizeOf m) l, f)
 
 -- the edit that the words of a record say
+module _ (name c₁ c₂ : ℕ) (k : ℤ) (n : ℕ) (h : SignedWord k) (rest : List ℕ) where
+  pub mark-read : (m : Mark) → firstRecord (recordBy m name c₁ c₂ k n ++ rest) ≡ Record (editFor m name c₁ c₂ k n) (length (recordBy m name c₁ c₂ k n))
+  mark-read AV = known AV _ _ (omega arith) refl (omega arith) (ap AddVertex (whole name))
+  mark-read RV = known RV _ _ (omega arith) refl (omega arith) (ap RemoveVertex (whole name))
+  mark-read IE = known IE _ _ (omega arith) refl (omega arith) (rw (whole name, whole c₁, whole c₂, whole (complement k), complement-back k h))
+  mark-read IL = known IL _ _ (omega arith) refl (omega arith) (rw (whole name, whole c₁, whole c₂, whole (complement k), complement-back k h, whole n))
+  mark-read DE = known DE _ _ (omega arith) refl (omega arith) (ap DeleteEdge (whole name))
+  mark-read TW = known TW _ _ (omega arith) refl (omega arith) (rw (whole name, whole (complement k), complement-back k h))
+
 pub record-read : (E : Edit) → Sixteen E → (rest : List ℕ) → firstRecord (recordOf E ++ rest) ≡ Record E (length (recordOf E))
-record-read (AddVertex v) h rest = known AV _ _ (omega arith) refl (omega arith) (ap AddVertex (whole v))
-record-read (RemoveVertex v) h rest = known RV _ _ (omega arith) refl (omega arith) (ap RemoveVertex (whole v))
-record-read (InsertEdge e c₁ c₂ k) h rest =
-    known IE _ _ (omega arith) refl (omega arith) (rw (whole e, whole c₁, whole c₂, whole (complement k), complement-back k (h .3)))
-record-read (DeleteEdge e) h rest = known DE _ _ (omega arith) refl (omega arith) (ap DeleteEdge (whole e))
-record-read (TurnEdge e a) h rest = known TW _ _ (omega arith) refl (omega arith) (rw (whole e, whole (complement a), complement-back a (h .1)))
+record-read (AddVertex v) h rest = mark-read v 0 0 (pos 0) 0 (omega arith) rest AV
+record-read (RemoveVertex v) h rest = mark-read v 0 0 (pos 0) 0 (omega arith) rest RV
+record-read (InsertEdge e c₁ c₂ k n) h rest = elim (truth (eqb n plainLength)) [
+  | holds q ↦ let plain : n ≡ 16 = eqb-true n plainLength q in rw q (mark-read e c₁ c₂ k n (h .3) rest IE ∙ rw plain)
+  | fails q ↦ rw q (mark-read e c₁ c₂ k n (h .3) rest IL)
+]
+record-read (DeleteEdge e) h rest = mark-read e 0 0 (pos 0) 0 (omega arith) rest DE
+record-read (TurnEdge e a) h rest = mark-read e 0 0 a 0 (h .1) rest TW
 
 -- what the reading of whole records gives
 abbrev pub readAll : List Edit → Reading

@@ -1,4 +1,4 @@
--- Records as the code writes them: two's complement without a branch, words one after the other, an edit that is by-edit by its parts.
+-- Records as the code writes them: two's complement without a branch, words one after the other, and the two ends of a call.
 use Prim.Native.Nat.{ℕ, suc, _+_, _-_, _/_, _%_, _≤_, _<_, _^_}
 use native.Mathlib.Omega.{arith}
 use native.Mathlib.Numerals.{add-one}
@@ -17,9 +17,7 @@ use Rattle.table.specs.laws.Output.{sets-append, sets-front}
 use Rattle.table.specs.laws.Signed.{below, above, minus-difference}
 use Rattle.table.specs.declared.answer.Answer.the-variants.{Done, Declined}
 use Rattle.table.specs.declared.answer.Refusal.the-variants.{ShortSlice}
-use Rattle.edits.specs.declared.edit.Edit.{Edit}
-use Rattle.edits.specs.declared.edit.Edit.the-variants.{AddVertex, RemoveVertex, InsertEdge, DeleteEdge, TurnEdge}
-use Rattle.encoding.specs.Encoding.{bytesOf, complement, recordOf}
+use Rattle.encoding.specs.Encoding.{bytesOf, complement}
 use Rattle.encoding.specs.Call.{recordAnswer, recordOut}
 
 -- a number of 16 bits, shifted from -65,536 on: it is not negative, and below 65,536 it is two's complement
@@ -64,14 +62,6 @@ module _ {k : ℤ} (f : SFits w16 k) where
   pub handed-complement : {w : ℕ} → w ≡ complement (toZ w16 (ofZ w16 k)) → w ≡ complement k
   handed-complement e = e ∙ ap complement same
 
-  pub handed-insertion : (out : List ℕ) (at e c₁ c₂ : ℕ) {E : Edit} {out′ : List ℕ} → E ≡ InsertEdge e c₁ c₂ k
-      → out′ ≡ sets out at (recordOf (InsertEdge e c₁ c₂ (toZ w16 (ofZ w16 k)))) → out′ ≡ sets out at (recordOf E)
-  handed-insertion out at e c₁ c₂ q w = w ∙ ap (λ E. sets out at (recordOf E)) (ap (InsertEdge e c₁ c₂) same ∙ sym q)
-
-  pub handed-turn : (out : List ℕ) (at e : ℕ) {E : Edit} {out′ : List ℕ} → E ≡ TurnEdge e k
-      → out′ ≡ sets out at (recordOf (TurnEdge e (toZ w16 (ofZ w16 k)))) → out′ ≡ sets out at (recordOf E)
-  handed-turn out at e q w = w ∙ ap (λ E. sets out at (recordOf E)) (ap (TurnEdge e) same ∙ sym q)
-
 -- the second byte of a word
 pub word-done : (out : List ℕ) (at w : ℕ) → set (set out at (w / 256)) (at + 1) (w % 256) ≡ sets out at (bytesOf w)
 word-done out at w = ap (λ i. set (set out at (w / 256)) i (w % 256)) (add-one at)
@@ -81,25 +71,11 @@ pub then-more : (out : List ℕ) (at : ℕ) (a b : List ℕ) {out₁ out₂ : Li
     → out₂ ≡ sets out at (a ++ b)
 then-more out at a b e f = f ∙ ap (λ l. sets l (at + length a) b) e ∙ sym (sets-append out at a b)
 
--- an edit that is by-edit by its parts
-pub by-edit : (out : List ℕ) (at : ℕ) {E F : Edit} {out′ : List ℕ} → E ≡ F → out′ ≡ sets out at (recordOf F) → out′ ≡ sets out at (recordOf E)
-by-edit out at e w = w ∙ ap (λ E. sets out at (recordOf E)) (sym e)
-
-pub room-by : {E F : Edit} (n m : ℕ) → E ≡ F → n + length (recordOf E) ≤ m → n + length (recordOf F) ≤ m
-room-by n m e h = rw e at h
-
 -- the two ends of the call
-module _ (E : Edit) (out : List ℕ) where
-  pub record-short : length out < length (recordOf E) → (Declined ShortSlice ≡ recordAnswer E (length out)) × (out ≡ recordOut E out)
-  record-short h = rw (lt-leb (length (recordOf E)) (length out) h) (refl, refl)
+module _ (bytes out : List ℕ) where
+  pub record-short : length out < length bytes → (Declined ShortSlice ≡ recordAnswer bytes (length out)) × (out ≡ recordOut bytes out)
+  record-short h = rw (lt-leb (length bytes) (length out) h) (refl, refl)
 
-  pub record-done : {n : ℕ} {out′ : List ℕ} → n ≡ length (recordOf E) → length (recordOf E) ≤ length out → out′ ≡ sets out 0 (recordOf E)
-      → (Done n ≡ recordAnswer E (length out)) × (out′ ≡ recordOut E out)
-  record-done e h w = rw (le-leb (length (recordOf E)) (length out) h) (ap Done e, w ∙ sets-front (recordOf E) out h)
-
-pub size-few : (E : Edit) → length (recordOf E) ≤ 10
-size-few (AddVertex v) = omega arith
-size-few (RemoveVertex v) = omega arith
-size-few (InsertEdge e c₁ c₂ k) = omega arith
-size-few (DeleteEdge e) = omega arith
-size-few (TurnEdge e a) = omega arith
+  pub record-done : {n : ℕ} {out′ : List ℕ} → n ≡ length bytes → length bytes ≤ length out → out′ ≡ sets out 0 bytes
+      → (Done n ≡ recordAnswer bytes (length out)) × (out′ ≡ recordOut bytes out)
+  record-done e h w = rw (le-leb (length bytes) (length out) h) (ap Done e, w ∙ sets-front bytes out h)

@@ -174,8 +174,8 @@ module _ (t : List ℕ) (E : Edit) where
 
 -- turns, amounts and forecasts that are handed on keep their values
 module _ (t : List ℕ) {a : Asked} where
-  pub asked-insertion : (e c₁ c₂ : ℕ) (k : ℤ) → SFits w16 k → a ≡ ask t (InsertEdge e c₁ c₂ (toZ w16 (ofZ w16 k))) → a ≡ ask t (InsertEdge e c₁ c₂ k)
-  asked-insertion e c₁ c₂ k f q = q ∙ ap (λ z. ask t (InsertEdge e c₁ c₂ z)) (toZ-ofZ {w = w16} f)
+  pub asked-insertion : (e c₁ c₂ : ℕ) (k : ℤ) (n : ℕ) → SFits w16 k → a ≡ ask t (InsertEdge e c₁ c₂ (toZ w16 (ofZ w16 k)) n) → a ≡ ask t (InsertEdge e c₁ c₂ k n)
+  asked-insertion e c₁ c₂ k n f q = q ∙ ap (λ z. ask t (InsertEdge e c₁ c₂ z n)) (toZ-ofZ {w = w16} f)
 
   pub asked-turn : (e : ℕ) (k : ℤ) → SFits w16 k → a ≡ ask t (TurnEdge e (toZ w16 (ofZ w16 k))) → a ≡ ask t (TurnEdge e k)
   asked-turn e k f q = q ∙ ap (λ z. ask t (TurnEdge e z)) (toZ-ofZ {w = w16} f)

@@ -16,6 +16,7 @@ use Rattle.records.specs.declared.block.Block.{Block}
 use Rattle.records.specs.declared.records.Stop.{Stop}
 use Rattle.records.specs.declared.records.Stop.the-variants.{End}
 use Rattle.runs.specs.Run.{run}
+use Rattle.records.specs.Records.{longestRecord}
 use Rattle.records.specs.Reading.{reading, readUpTo, ended, readsOn}
 use Rattle.records.specs.laws.Reading.{joined, reading-bounds}
 use Rattle.records.specs.Lines.{lines}
@@ -139,7 +140,7 @@ going-none {t} g e = record {
 
 -- what the next turn asks
 pub going-ready : {t₀ t buf : List ℕ} {p : Progress} → Going t₀ t buf p
-    → (length buf ≡ 4096) × (p .left < 10) × (p .next ≤ 2 ^ 61) × (p .read ≤ 2 ^ 61) × (p .printed ≤ 2 ^ 63)
+    → (length buf ≡ 4096) × (p .left < longestRecord) × (p .next ≤ 2 ^ 61) × (p .read ≤ 2 ^ 61) × (p .printed ≤ 2 ^ 63)
 going-ready {t₀} {p = p} k =
     let bounds = reading-bounds (k .input) in
     let within = bounds .within in

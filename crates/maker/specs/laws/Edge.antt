@@ -15,6 +15,7 @@ use Rattle.table.specs.Layout.{isolated, vertexWord, loneAt}
 use Rattle.edits.specs.Edits.{written}
 use Rattle.edits.specs.declared.edit.Edit.{Edit}
 use Rattle.edits.specs.declared.edit.Edit.the-variants.{InsertEdge}
+use Rattle.records.specs.Records.{plainLength}
 use Rattle.trials.specs.Trial.{afterDraw, draw, cornerAt}
 use Rattle.trials.specs.laws.Corners.{lone, first}
 use Rattle.trials.specs.laws.Inserting.{Planned, corner-there, stays, takes-first, takes-second, untouched}
@@ -25,7 +26,7 @@ giveDart l v d = cond (ltb (getD l v 0) loneAt) l (set l v d)
 
 -- the edge that is drawn from state s on, where l has the corners
 unfoldable pub edgeDrawn : List ℕ → ℕ → ℕ → Edit
-edgeDrawn l s e = InsertEdge e (getD l (draw 8 (afterDraw s)) 0) (getD l (draw 8 (afterDraw (afterDraw s))) 0) (pos (draw 3 (afterDraw (afterDraw (afterDraw s)))) -ℤ pos 1)
+edgeDrawn l s e = InsertEdge e (getD l (draw 8 (afterDraw s)) 0) (getD l (draw 8 (afterDraw (afterDraw s))) 0) (pos (draw 3 (afterDraw (afterDraw (afterDraw s)))) -ℤ pos 1) plainLength
 
 -- the corners after it
 unfoldable pub cornersAfter : List ℕ → ℕ → ℕ → List ℕ
@@ -70,7 +71,7 @@ pub record Corners (t l : List ℕ) : Type 0 where
 -- the corners once edge e is in between vertices a and b
 module _ {t : List ℕ} {e a b : ℕ} {k : ℤ} (r : Planned t e a b k) {l : List ℕ} (c : Corners t l) where
   abbrev t′ : List ℕ
-  t′ = written t (InsertEdge e (cornerAt t a) (cornerAt t b) k)
+  t′ = written t (InsertEdge e (cornerAt t a) (cornerAt t b) k plainLength)
 
   abbrev half : List ℕ
   half = giveDart l a (2 * e)
@@ -134,7 +135,7 @@ module _ {s s₁ s₂ s₃ a b : ℕ} (q : Drawn s s₁ s₂ s₃ a b) (l : List
   pub drawn-state : s₃ ≡ afterDraw (afterDraw (afterDraw s))
   drawn-state = rw (q .thrice, q .twice, q .once)
 
-  pub drawn-edge : {n f g : ℕ} {k : ℤ} → n ≡ draw 3 s₃ → f ≡ getD l a 0 → g ≡ getD l b 0 → k ≡ pos n -ℤ pos 1 → InsertEdge e f g k ≡ edgeDrawn l s e
+  pub drawn-edge : {n f g : ℕ} {k : ℤ} → n ≡ draw 3 s₃ → f ≡ getD l a 0 → g ≡ getD l b 0 → k ≡ pos n -ℤ pos 1 → InsertEdge e f g k plainLength ≡ edgeDrawn l s e
   unfolding edgeDrawn
   drawn-edge n f g k = rw (f, g, k, n, q .first, q .second, q .thrice, q .twice, q .once)
 

@@ -17,7 +17,7 @@ asked-code-requires c κs = asked-numbered _ _ _ refl (c .ask-insert-edge .ensur
 returns : tie.Need-returns
 returns c =
     let start = c .before .before .before in
-    let asked = asked-insertion _ _ _ _ (start .args .k) (start .fits .k) (c .before .ask-insert-edge .ensures) in
+    let asked = asked-insertion _ _ _ _ (start .args .k) (start .args .strip) (start .fits .k) (c .before .ask-insert-edge .ensures) in
     handed-on (c .asked-code .ok) (c .asked-code .ensures ∙ ap askedCode asked)
 
 pub planner-ask-insert-edge-spec : {M : Type 1} → statement M

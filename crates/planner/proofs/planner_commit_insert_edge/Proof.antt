@@ -28,7 +28,7 @@ returns c =
     let start = c .before .before .before .before .before .before .before in
     let commit = c .before .before .before .commit-insert-edge in
     let read = c .before .before .before .before .forecast-in .ensures ∙ ap forecastIn (toZ-ofZ {w = w64} (start .fits .forecast)) in
-    let q = same-commit _ _ _ (ap (InsertEdge (start .args .e) (start .args .c1) (start .args .c2)) (toZ-ofZ {w = w16} (start .fits .k))) read (commit .ensures) in
+    let q = same-commit _ _ _ (ap (λ z. InsertEdge (start .args .e) (start .args .c1) (start .args .c2) z (start .args .strip)) (toZ-ofZ {w = w16} (start .fits .k))) read (commit .ensures) in
     (handed-on (c .reply-code .ok) (c .reply-code .ensures ∙ ap replyCode (q .0)), q .1)
 
 pub planner-commit-insert-edge-spec : {M : Type 1} → statement M

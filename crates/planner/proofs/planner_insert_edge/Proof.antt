@@ -20,7 +20,7 @@ returns : tie.Need-returns
 returns c =
     let start = c .before .before .before .before .before .before in
     let insert-edge = c .before .before .before .insert-edge in
-    let q = same-insertion _ _ _ _ (start .args .e) (start .args .c1) (start .args .c2) (start .args .k) (start .fits .k) refl (insert-edge .ensures) in
+    let q = same-insertion _ _ _ _ (start .args .e) (start .args .c1) (start .args .c2) (start .args .k) (start .args .strip) (start .fits .k) refl (insert-edge .ensures) in
     (handed-on (c .reply-code .ok) (c .reply-code .ensures ∙ ap replyCode (q .0)), q .1)
 
 pub planner-insert-edge-spec : {M : Type 1} → statement M

@@ -22,7 +22,7 @@ returns c =
     let start = c .before .before .before .before .before .before in
     let args = start .args in
     let job-record = c .before .before .before .job-record in
-    let q = handed-call (args .name) (args .c1) (args .c2) (args .k) (start .fits .k) (markOf (args .mark)) (args .out .now) (job-record .ensures) in
+    let q = handed-call (args .name) (args .c1) (args .c2) (args .k) (args .strip) (args .out .now) (start .fits .k) (markOf (args .mark)) (job-record .ensures) in
     (handed-on (c .code .ok) (c .code .ensures ∙ ap codeOf (q .0)), q .1)
 
 pub planner-job-record-spec : {M : Type 1} → statement M

@@ -28,12 +28,12 @@ use Rattle.reader.specs.Walked.{stepsFrom}
 use Rattle.reader.specs.laws.Reader.{there-placed, each-step}
 use Rattle.reader.specs.laws.Walked.{begun-placed}
 
-module _ (t : List ℕ) (at first : Step) (lengths : List ℕ) (y : Tally) where
+module _ (t : List ℕ) (at first : Step) (y : Tally) where
   abbrev On : Step → Type 0
   On s = Reach (trace (rotation t)) (wordAt at) (wordAt s)
 
   -- a step leads on along the walk, or nowhere
-  goes-on : (here : Step) (z : Tally) → On here → On (stepOf t here first lengths z .at)
+  goes-on : (here : Step) (z : Tally) → On here → On (stepOf t here first z .at)
   goes-on here z r = by (placed t here first) refl
     where
       tallied : (s : ℕ) → There s ≡ placed t here first → (m : Tallied) → On (steppedBy t here first z s m .at)
@@ -46,22 +46,22 @@ module _ (t : List ℕ) (at first : Step) (lengths : List ℕ) (y : Tally) where
           let one = subst (Reach f s) (trace-step (rotation t) s (stands-low (h .stands))) (reach-one s) in
           subst (Reach f (wordAt at)) word (reach-trans (subst (Reach f (wordAt at)) (sym (h .word)) r) one)
 
-      by : (n : Named) → n ≡ placed t here first → On (stepBy t here first lengths z n .at)
-      by (There s) p = tallied s p (tallyAt t first s lengths z)
+      by : (n : Named) → n ≡ placed t here first → On (stepBy t here first z n .at)
+      by (There s) p = tallied s p (tallyAt t first s z)
       by (Refused q) p = r
 
-  on-walk : (n : ℕ) → On (stepsFrom t at first lengths y n .at)
+  on-walk : (n : ℕ) → On (stepsFrom t at first y n .at)
   unfolding stepsFrom
   on-walk zero = reach-here
-  on-walk (suc n) = goes-on (stepsFrom t at first lengths y n .at) (stepsFrom t at first lengths y n .tally) (on-walk n)
+  on-walk (suc n) = goes-on (stepsFrom t at first y n .at) (stepsFrom t at first y n .tally) (on-walk n)
 
   pub never-ends : beginOf t (at .dart) (at .kind) ≡ Done 0 → has (wordAt first) (walk (rotation t) (wordAt at)) ≡ false
-      → (n : ℕ) → stepsFrom t at first lengths y n .answer ≢ Done 1
+      → (n : ℕ) → stepsFrom t at first y n .answer ≢ Done 1
   unfolding stepsFrom
   never-ends b off zero e = let z : _≡_ {A = ℕ} 0 1 = cc in omega arith
   never-ends b off (suc n) e =
-      let here = stepsFrom t at first lengths y n in
+      let here = stepsFrom t at first y n in
       let start = begun-placed t at b .stands in
-      let back = each-step t lengths (here .tally) .back (here .at) first e in
+      let back = each-step t (here .tally) .back (here .at) first e in
       let r = subst On back (on-walk (suc n)) in
       clash (walk-has (rotation t) (good-lawful t (start .good)) (wordAt at) (wordAt first) (stands-low start) r) off

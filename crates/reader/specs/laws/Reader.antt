@@ -41,8 +41,8 @@ placed-begun t s = rw (and-self (isStep (s .dart) (s .kind)), and-self (live? t 
     and-self false = refl
 
 -- and so a reader that could not be made hands out no step
-begun-declined : (t : List ℕ) (s : Step) (lengths : List ℕ) (y : Tally) {r : Refusal} → beginOf t (s .dart) (s .kind) ≡ Declined r → stepOf t s s lengths y ≡ stays s y r
-begun-declined t s lengths y {r} e = ap (stepBy t s s lengths y) (placed-begun t s ∙ refused (namedStep t (s .dart) (s .kind)) e)
+begun-declined : (t : List ℕ) (s : Step) (y : Tally) {r : Refusal} → beginOf t (s .dart) (s .kind) ≡ Declined r → stepOf t s s y ≡ stays s y r
+begun-declined t s y {r} e = ap (stepBy t s s y) (placed-begun t s ∙ refused (namedStep t (s .dart) (s .kind)) e)
   where
     refused : (n : Named) → beginBy n ≡ Declined r → n ≡ Refused r
     refused (There x) f = absurd (done-declined (sym f))
@@ -139,20 +139,20 @@ there-placed {t} {at} {first} {s} e = elim (truth (good? t)) [
 pub moved-on : (next : ℕ) (first : Step) (z : Tally) {end : Bool} → end ≡ endsAt next first → record { answer = Done (bit end); at = stepAt next; tally = z } ≡ goesOn next first z
 moved-on next first z e = ap (λ b. record { answer = Done (bit b); at = stepAt next; tally = z }) e
 
-module _ (t : List ℕ) (at first : Step) (lengths : List ℕ) (y : Tally) {n : Named} (e : n ≡ placed t at first) where
-  pub step-refused : {r : Refusal} {q : Stepped} → n ≡ Refused r → q ≡ stays at y r → q ≡ stepOf t at first lengths y
-  step-refused f h = h ∙ sym (ap (stepBy t at first lengths y) (sym e ∙ f))
+module _ (t : List ℕ) (at first : Step) (y : Tally) {n : Named} (e : n ≡ placed t at first) where
+  pub step-refused : {r : Refusal} {q : Stepped} → n ≡ Refused r → q ≡ stays at y r → q ≡ stepOf t at first y
+  step-refused f h = h ∙ sym (ap (stepBy t at first y) (sym e ∙ f))
 
-  module _ {s next : ℕ} {last : Bool} {m : Tallied} (f : n ≡ There s) (h : next ≡ step (rotation t) s) (l : last ≡ endsAt next first) (g : m ≡ tallyOf t s last lengths y) where
-    stepped : steppedBy t at first y s m ≡ stepOf t at first lengths y
+  module _ {s next : ℕ} {last : Bool} {m : Tallied} (f : n ≡ There s) (h : next ≡ step (rotation t) s) (l : last ≡ endsAt next first) (g : m ≡ tallyOf t s last y) where
+    stepped : steppedBy t at first y s m ≡ stepOf t at first y
     stepped =
         let own : last ≡ endsAt (step (rotation t) s) first = l ∙ ap (λ x. endsAt x first) h in
-        ap (steppedBy t at first y s) (g ∙ ap (λ b. tallyOf t s b lengths y) own) ∙ sym (ap (stepBy t at first lengths y) (sym e ∙ f))
+        ap (steppedBy t at first y s) (g ∙ ap (λ b. tallyOf t s b y) own) ∙ sym (ap (stepBy t at first y) (sym e ∙ f))
 
-    pub step-kept : {r : Refusal} {q : Stepped} → m ≡ Kept r → q ≡ stays at y r → q ≡ stepOf t at first lengths y
+    pub step-kept : {r : Refusal} {q : Stepped} → m ≡ Kept r → q ≡ stays at y r → q ≡ stepOf t at first y
     step-kept k i = i ∙ sym (ap (steppedBy t at first y s) k) ∙ stepped
 
-    pub step-moved : {z : Tally} {q : Stepped} → m ≡ Brought z → q ≡ goesOn next first z → q ≡ stepOf t at first lengths y
+    pub step-moved : {z : Tally} {q : Stepped} → m ≡ Brought z → q ≡ goesOn next first z → q ≡ stepOf t at first y
     step-moved {z} k i = i ∙ ap (λ x. goesOn x first z) h ∙ sym (ap (steppedBy t at first y s) k) ∙ stepped
 
 -- a step goes on, or it leaves the reader and the tally as they were
@@ -160,27 +160,27 @@ data Settled (at : Step) (y : Tally) (q : Stepped) : Type 0 where
   goes : (n : ℕ) → q .answer ≡ Done n → Settled at y q
   rests : (r : Refusal) → q ≡ stays at y r → Settled at y q
 
-settled : (t : List ℕ) (at first : Step) (lengths : List ℕ) (y : Tally) → Settled at y (stepOf t at first lengths y)
-settled t at first lengths y = by (placed t at first)
+settled : (t : List ℕ) (at first : Step) (y : Tally) → Settled at y (stepOf t at first y)
+settled t at first y = by (placed t at first)
   where
     tallied : (s : ℕ) (m : Tallied) → Settled at y (steppedBy t at first y s m)
     tallied s (Brought z) = goes _ refl
     tallied s (Kept r) = rests r refl
 
-    by : (n : Named) → Settled at y (stepBy t at first lengths y n)
-    by (There s) = tallied s (tallyAt t first s lengths y)
+    by : (n : Named) → Settled at y (stepBy t at first y n)
+    by (There s) = tallied s (tallyAt t first s y)
     by (Refused r) = rests r refl
 
-module _ (t lengths : List ℕ) (y : Tally) where
-  declined-rests : (at first : Step) {r : Refusal} → stepOf t at first lengths y .answer ≡ Declined r → stepOf t at first lengths y ≡ stays at y r
-  declined-rests at first {r} e = elim (settled t at first lengths y) [
+module _ (t : List ℕ) (y : Tally) where
+  declined-rests : (at first : Step) {r : Refusal} → stepOf t at first y .answer ≡ Declined r → stepOf t at first y ≡ stays at y r
+  declined-rests at first {r} e = elim (settled t at first y) [
     | goes n f ↦ absurd (done-declined (sym e ∙ f))
     | rests q f ↦
         let told : Declined q ≡ Declined r = sym (ap (λ s. s .answer) f) ∙ e in
         let same : q ≡ r = cc in f ∙ ap (stays at y) same
   ]
 
-  ends-back : (at first : Step) → stepOf t at first lengths y .answer ≡ Done 1 → stepOf t at first lengths y .at ≡ first
+  ends-back : (at first : Step) → stepOf t at first y .answer ≡ Done 1 → stepOf t at first y .at ≡ first
   ends-back at first = by (placed t at first) refl
     where
       moved : (next : ℕ) → first .kind < 2 → Done (bit (eqb next (wordAt first))) ≡ Done 1 → stepAt next ≡ first
@@ -196,35 +196,35 @@ module _ (t lengths : List ℕ) (y : Tally) where
       tallied s low (Brought z) e = moved (step (rotation t) s) low e
       tallied s low (Kept r) e = absurd (done-declined e)
 
-      by : (n : Named) → n ≡ placed t at first → stepBy t at first lengths y n .answer ≡ Done 1 → stepBy t at first lengths y n .at ≡ first
-      by (There s) p e = tallied s (there-placed p .first-type) (tallyAt t first s lengths y) e
+      by : (n : Named) → n ≡ placed t at first → stepBy t at first y n .answer ≡ Done 1 → stepBy t at first y n .at ≡ first
+      by (There s) p e = tallied s (there-placed p .first-type) (tallyAt t first s y) e
       by (Refused r) p e = absurd (done-declined e)
 
 -- an accepted step's answer says whether the lap is in the tally
-pub step-tallied : (t : List ℕ) (at first : Step) (lengths : List ℕ) (y : Tally) (n : ℕ) → stepOf t at first lengths y .answer ≡ Done n
-    → stepOf t at first lengths y .tally ≡ stepTally t (wordAt at) (eqb n 1) lengths y
-step-tallied t at first lengths y n = by (placed t at first) refl
+pub step-tallied : (t : List ℕ) (at first : Step) (y : Tally) (n : ℕ) → stepOf t at first y .answer ≡ Done n
+    → stepOf t at first y .tally ≡ stepTally t (wordAt at) (eqb n 1) y
+step-tallied t at first y n = by (placed t at first) refl
   where
     told : (b : Bool) → Done (bit b) ≡ Done n → b ≡ eqb n 1
     told true e = sym (eq-eqb n 1 (done-same e))
     told false e = let none = done-same e in sym (ne-eqb n 1 (λ f. omega arith))
 
-    tallied : (s : ℕ) (m : Tallied) → m ≡ tallyAt t first s lengths y → steppedBy t at first y s m .answer ≡ Done n
-        → steppedBy t at first y s m .tally ≡ stepTally t s (eqb n 1) lengths y
+    tallied : (s : ℕ) (m : Tallied) → m ≡ tallyAt t first s y → steppedBy t at first y s m .answer ≡ Done n
+        → steppedBy t at first y s m .tally ≡ stepTally t s (eqb n 1) y
     tallied s (Brought z) g e =
         let last = endsAt (step (rotation t) s) first in
-        brought-is t s last lengths y g ∙ ap (λ b. stepTally t s b lengths y) (told last e)
+        brought-is t s last y g ∙ ap (λ b. stepTally t s b y) (told last e)
     tallied s (Kept r) g e = absurd (done-declined e)
 
-    by : (m : Named) → m ≡ placed t at first → stepBy t at first lengths y m .answer ≡ Done n
-        → stepBy t at first lengths y m .tally ≡ stepTally t (wordAt at) (eqb n 1) lengths y
+    by : (m : Named) → m ≡ placed t at first → stepBy t at first y m .answer ≡ Done n
+        → stepBy t at first y m .tally ≡ stepTally t (wordAt at) (eqb n 1) y
     by (There s) p e =
-        tallied s (tallyAt t first s lengths y) refl e ∙ ap (λ x. stepTally t x (eqb n 1) lengths y) (there-placed p .word)
+        tallied s (tallyAt t first s y) refl e ∙ ap (λ x. stepTally t x (eqb n 1) y) (there-placed p .word)
     by (Refused r) p e = absurd (done-declined e)
 
-pub each-step : (t lengths : List ℕ) (y : Tally) → EachStep t lengths y
-each-step t lengths y = record {
-  as-made = λ s. begun-declined t s lengths y;
-  not-moved = declined-rests t lengths y;
-  back = ends-back t lengths y;
+pub each-step : (t : List ℕ) (y : Tally) → EachStep t y
+each-step t y = record {
+  as-made = λ s. begun-declined t s y;
+  not-moved = declined-rests t y;
+  back = ends-back t y;
 }

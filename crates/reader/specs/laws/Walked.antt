@@ -4,14 +4,13 @@ use Prim.Native.Nat.{ℕ, zero, suc, _+_, _*_, _/_, _%_, _<_, _≤_}
 use native.Mathlib.Omega.{arith}
 use native.Mathlib.Decide.{ℕ-discrete}
 use mathlib.Core.Path.{_≡_, refl, sym, _∙_, ap, ap₂}
-use mathlib.Core.Bool.{true, false}
+use mathlib.Core.Bool.{true}
 use mathlib.Core.List.{List, [], _∷_, _++_}
 use lib.Dec.{eqb}
 use lib.ListN.{length}
-use borrow.Author.Tests.{lt-ltb, le-leb, eq-eqb, ne-eqb}
+use borrow.Author.Tests.{lt-ltb, eq-eqb, ne-eqb}
 use Rattle.orbits.specs.Iterate.{iter}
 use Rattle.orbits.specs.laws.Iterate.{iter-suc, iter-keeps, Period}
-use Rattle.table.specs.Layout.{edges}
 use Rattle.table.specs.Rotation.{rotation, live?}
 use Rattle.table.specs.laws.Rotation.{live-yes}
 use Rattle.table.specs.laws.Lawful.{good-lawful}
@@ -22,7 +21,6 @@ use Rattle.tracing.specs.Step.{step, steps}
 use Rattle.tracing.specs.Walk.{walk}
 use Rattle.tracing.specs.laws.Walk.{iterates, run-suc, run-length, walk-run, walk-period, walk-period-le}
 use Rattle.tracing.specs.Listing.{gather, bit}
-use Rattle.tracing.specs.laws.Meets.{run-has}
 use Rattle.tracing.specs.laws.Totals.{total-last}
 use Rattle.walks.specs.laws.Stands.{Stands, stands-low, stands-step}
 use Rattle.weave.specs.declared.named.Named.{Named}
@@ -31,11 +29,10 @@ use Rattle.weave.specs.Letters.{over, under, stepLetters, letters}
 use Rattle.letters.specs.laws.Counts.{letters-few}
 use Rattle.letters.specs.laws.Passing.{lettersBefore, before-suc}
 use Rattle.weave.specs.Ribbon.{some}
-use Rattle.weave.specs.laws.Ribbon.{none-passes}
 use Rattle.weave.specs.Calls.{namedStep}
 use Rattle.weave.specs.laws.Calls.{there-steps}
-use Rattle.lengths.specs.CutLength.{farLength, takenBy, lap, lengthAlong, cutLengthBy, cutLengthOf}
-use Rattle.lengths.specs.laws.Summing.{saw-total, takenBefore, takenMost, taken-most, length-most}
+use Rattle.lengths.specs.CutLength.{takenBy, lap, cutLengthBy, cutLengthOf}
+use Rattle.lengths.specs.laws.Summing.{saw-total, takenBefore, takenMost, taken-most}
 use Rattle.reader.specs.declared.place.Step.{Step}
 use Rattle.tally.specs.declared.tally.Tally.{Tally}
 use Rattle.tracing.specs.Met.{times, countIn, total}
@@ -46,8 +43,8 @@ use Rattle.reader.specs.Reader.{beginBy, beginOf, wordAt, stepAt, endsAt
 use Rattle.reader.specs.laws.Reader.{in-range, placed-begun, placed-there, Placed, there-placed}
 use Rattle.reader.specs.Walked.{stepsFrom, afterSteps, handed, Walked}
 
-module _ (t : List ℕ) (first : Step) (lengths : List ℕ) (start : Stands t (wordAt first)) (type : first .kind < 2) (size : edges ≤ length lengths)
-    (near : some (farLength lengths) (walk (rotation t) (wordAt first)) ≡ false) (p : Period (step (rotation t)) (wordAt first)) (few : p .steps ≤ steps)
+module _ (t : List ℕ) (first : Step) (start : Stands t (wordAt first)) (type : first .kind < 2)
+    (p : Period (step (rotation t)) (wordAt first)) (few : p .steps ≤ steps)
     (all : walk (rotation t) (wordAt first) ≡ iterates (step (rotation t)) (wordAt first) (p .steps)) where
   abbrev s : ℕ
   s = wordAt first
@@ -56,16 +53,16 @@ module _ (t : List ℕ) (first : Step) (lengths : List ℕ) (start : Stands t (w
   f = step (rotation t)
 
   -- one step that is not declined
-  one-step : (x : ℕ) (y : Tally) → Stands t x → farLength lengths x ≡ false → fits32 (stepTally t x (endsAt (f x) first) lengths y) ≡ true
-      → stepOf t (stepAt x) first lengths y ≡ goesOn (f x) first (stepTally t x (endsAt (f x) first) lengths y)
+  one-step : (x : ℕ) (y : Tally) → Stands t x → fits32 (stepTally t x (endsAt (f x) first) y) ≡ true
+      → stepOf t (stepAt x) first y ≡ goesOn (f x) first (stepTally t x (endsAt (f x) first) y)
   unfolding tallyOf forwardOf
-  one-step x y h near fits =
+  one-step x y h fits =
       let half : s / 2 ≡ first .dart = omega arith in
       let begun : live? t (first .dart) ≡ true = rw half at (start .live) in
       let here = in-range (x / 2) (x % 2) (live-yes t (x / 2) (h .live) .low) (omega arith) in
       let there = placed-there t (stepAt x) first (sym (good-yes t (h .good))) here (in-range (first .dart) (first .kind) (live-yes t (first .dart) begun .low) (omega arith)) (h .live) begun in
       let word : 2 * (x / 2) + x % 2 ≡ x = omega arith in
-      ap (stepBy t (stepAt x) first lengths y) (sym there ∙ ap There word) ∙ rw (le-leb edges (length lengths) size, near, fits)
+      ap (stepBy t (stepAt x) first y) (sym there ∙ ap There word) ∙ rw fits
 
   -- the lap, once n steps have been all of the walk's
   abbrev lapped : ℕ → ℕ
@@ -77,17 +74,17 @@ module _ (t : List ℕ) (first : Step) (lengths : List ℕ) (start : Stands t (w
     steps = n;
     overs = times over (lettersBefore t s n);
     unders = times under (lettersBefore t s n);
-    length = takenBefore t lengths s n + lapped n;
+    length = takenBefore t s n + lapped n;
   }
 
   -- what n steps have come to, none of them past the walk's last
   record Reads (n : ℕ) : Type 0 where
-    at : afterSteps t first lengths n .at ≡ stepAt (iter f n s)
-    tally : afterSteps t first lengths n .tally ≡ tallied n
-    steps : handed t first lengths n ≡ iterates f s n
+    at : afterSteps t first n .at ≡ stepAt (iter f n s)
+    tally : afterSteps t first n .tally ≡ tallied n
+    steps : handed t first n ≡ iterates f s n
     overs : times over (lettersBefore t s n) ≤ 99 * n
     unders : times under (lettersBefore t s n) ≤ 99 * n
-    length : takenBefore t lengths s n ≤ takenMost * n
+    length : takenBefore t s n ≤ takenMost * n
 
   first-at : first ≡ stepAt s
   first-at = ap₂ pair (omega arith) (omega arith)
@@ -109,11 +106,6 @@ module _ (t : List ℕ) (first : Step) (lengths : List ℕ) (start : Stands t (w
     length = omega arith;
   }
 
-  near-at : (n : ℕ) → n < p .steps → farLength lengths (iter f n s) ≡ false
-  near-at n h =
-      none-passes (farLength lengths) (walk (rotation t) s) (iter f n s) near
-      (rw all (run-has f s (iter f n s) (p .steps) (record { steps = n; few = h; lands = refl })))
-
   -- the step after leads back exactly at the walk's end
   end-at : (n : ℕ) → n < p .steps → endsAt (f (iter f n s)) first ≡ eqb (suc n) (p .steps)
   end-at n h = elim (ℕ-discrete (suc n) (p .steps)) [
@@ -131,20 +123,20 @@ module _ (t : List ℕ) (first : Step) (lengths : List ℕ) (start : Stands t (w
     times-suc : (l : ℕ) → times l (lettersBefore t s (suc n)) ≡ times l (lettersBefore t s n) + times l (stepLetters t x)
     times-suc l = ap (times l) (before-suc t s n) ∙ countIn-append (λ y. eqb l y) (lettersBefore t s n) (stepLetters t x)
 
-    length-suc : takenBefore t lengths s n + lapped n + (takenBy t lengths x + lapped (suc n)) ≡ takenBefore t lengths s (suc n) + lapped (suc n)
-    length-suc = let taken = total-last f s (takenBy t lengths) n in let none = not-yet n low in omega arith
+    length-suc : takenBefore t s n + lapped n + (takenBy t x + lapped (suc n)) ≡ takenBefore t s (suc n) + lapped (suc n)
+    length-suc = let taken = total-last f s (takenBy t) n in let none = not-yet n low in omega arith
 
-    tally-suc : stepTally t x (eqb (suc n) (p .steps)) lengths (tallied n) ≡ tallied (suc n)
+    tally-suc : stepTally t x (eqb (suc n) (p .steps)) (tallied n) ≡ tallied (suc n)
     tally-suc =
         let one : n + 1 ≡ suc n = omega arith in
         (λ i. record { steps = one i; overs = sym (times-suc over) i; unders = sym (times-suc under) i; length = length-suc i })
 
-    tally-fits : fits32 (stepTally t x (eqb (suc n) (p .steps)) lengths (tallied n)) ≡ true
+    tally-fits : fits32 (stepTally t x (eqb (suc n) (p .steps)) (tallied n)) ≡ true
     tally-fits =
         let letters = letters-few there in
         let o = letters .0 in
         let u = letters .1 in
-        let l = taken-most lengths there (length-most lengths x (near-at n low)) in
+        let l = taken-most there in
         let overs = k .overs in
         let unders = k .unders in
         let length = k .length in
@@ -154,17 +146,17 @@ module _ (t : List ℕ) (first : Step) (lengths : List ℕ) (start : Stands t (w
           lt-ltb (n + 1) past32 (omega arith),
           lt-ltb (times over (lettersBefore t s n) + times over (stepLetters t x)) past32 (omega arith),
           lt-ltb (times under (lettersBefore t s n) + times under (stepLetters t x)) past32 (omega arith),
-          lt-ltb (takenBefore t lengths s n + lapped n + (takenBy t lengths x + lapped (suc n))) past32 (omega arith),
+          lt-ltb (takenBefore t s n + lapped n + (takenBy t x + lapped (suc n))) past32 (omega arith),
         )
 
     -- one step more is not declined
-    reads-step : afterSteps t first lengths (suc n) ≡ goesOn (f x) first (tallied (suc n))
+    reads-step : afterSteps t first (suc n) ≡ goesOn (f x) first (tallied (suc n))
     unfolding stepsFrom
     reads-step =
         let last = end-at n low in
-        ap₂ (λ a y. stepOf t a first lengths y) (k .at) (k .tally)
-        ∙ one-step x (tallied n) there (near-at n low) (ap (λ b. fits32 (stepTally t x b lengths (tallied n))) last ∙ tally-fits)
-        ∙ ap (λ b. goesOn (f x) first (stepTally t x b lengths (tallied n))) last
+        ap₂ (λ a y. stepOf t a first y) (k .at) (k .tally)
+        ∙ one-step x (tallied n) there (ap (λ b. fits32 (stepTally t x b (tallied n))) last ∙ tally-fits)
+        ∙ ap (λ b. goesOn (f x) first (stepTally t x b (tallied n))) last
         ∙ ap (goesOn (f x) first) tally-suc
 
     reads-more : Reads (suc n)
@@ -173,13 +165,13 @@ module _ (t : List ℕ) (first : Step) (lengths : List ℕ) (start : Stands t (w
         let letters = letters-few there in
         let o = letters .0 in
         let u = letters .1 in
-        let l = taken-most lengths there (length-most lengths x (near-at n low)) in
+        let l = taken-most there in
         let overs = k .overs in
         let unders = k .unders in
         let length = k .length in
         let overs-suc = times-suc over in
         let unders-suc = times-suc under in
-        let taken = total-last f s (takenBy t lengths) n in
+        let taken = total-last f s (takenBy t) n in
         let word : wordAt (stepAt x) ≡ x = omega arith in
         record {
           at = ap (λ r. r .at) reads-step ∙ ap stepAt (sym (iter-suc f n s));
@@ -194,7 +186,7 @@ module _ (t : List ℕ) (first : Step) (lengths : List ℕ) (start : Stands t (w
   reads zero h = reads-none
   reads (suc n) h = reads-more n (reads n (omega arith)) (omega arith)
 
-  walked : Walked t first lengths
+  walked : Walked t first
   unfolding letters
   walked =
       let size-is : length (walk (rotation t) s) ≡ p .steps = ap length all ∙ run-length f s (p .steps) in
@@ -207,7 +199,7 @@ module _ (t : List ℕ) (first : Step) (lengths : List ℕ) (start : Stands t (w
             rw size-is
             (ap (λ r. r .answer) (reads-step n (reads n (omega arith)) l) ∙ ap (λ b. Done (bit b)) (end-at n l));
         again = rw size-is (last .at ∙ ap stepAt (p .back) ∙ sym first-at);
-        tally = rw (size-is, saw-total t lengths s, all) (rw lap-is at (last .tally));
+        tally = rw (size-is, saw-total t s, all) (rw lap-is at (last .tally));
       }
 
 -- a step that a reader can be made at
@@ -225,10 +217,9 @@ begun-there t s b =
     let n = begun-named (namedStep t (s .dart) (s .kind)) b in
     sym (n .1) ∙ ap There (there-steps t (s .dart) (s .kind) (n .1) .word)
 
--- a reader that can be made, lengths that are there, and none of the walk's edges out of range
-pub reader-walks : (t : List ℕ) (first : Step) (lengths : List ℕ) → beginOf t (first .dart) (first .kind) ≡ Done 0 → edges ≤ length lengths
-    → some (farLength lengths) (walk (rotation t) (wordAt first)) ≡ false → Walked t first lengths
-reader-walks t first lengths b size near =
+-- a reader that can be made
+pub reader-walks : (t : List ℕ) (first : Step) → beginOf t (first .dart) (first .kind) ≡ Done 0 → Walked t first
+reader-walks t first b =
     let h = begun-placed t first b in
     let start = h .stands in
     let R = rotation t in
@@ -236,14 +227,12 @@ reader-walks t first lengths b size near =
     let low = stands-low start in
     let p = walk-period R L (wordAt first) low in
     let few = walk-period-le R L (wordAt first) low p in
-    walked t first lengths start (h .first-type) size near p few (walk-run R (wordAt first) p few)
+    walked t first start (h .first-type) p few (walk-run R (wordAt first) p few)
 
 -- and the call for the cut length answers what the tally then has
-pub tally-cut : (t : List ℕ) (first : Step) (lengths : List ℕ) → beginOf t (first .dart) (first .kind) ≡ Done 0 → edges ≤ length lengths
-    → some (farLength lengths) (walk (rotation t) (wordAt first)) ≡ false
-    → cutLengthOf t (first .dart) (first .kind) lengths ≡ Done (afterSteps t first lengths (length (walk (rotation t) (wordAt first))) .tally .length)
-unfolding lengthAlong
-tally-cut t first lengths b size near =
+pub tally-cut : (t : List ℕ) (first : Step) → beginOf t (first .dart) (first .kind) ≡ Done 0
+    → cutLengthOf t (first .dart) (first .kind) ≡ Done (afterSteps t first (length (walk (rotation t) (wordAt first))) .tally .length)
+tally-cut t first b =
     let there = begun-there t first b in
-    let tally = reader-walks t first lengths b size near .tally in
-    ap (cutLengthBy t lengths) there ∙ rw (le-leb edges (length lengths) size, near) (ap (λ y. Done (y .length)) (sym tally))
+    let tally = reader-walks t first b .tally in
+    ap (cutLengthBy t) there ∙ ap (λ y. Done (y .length)) (sym tally)

@@ -1,4 +1,4 @@
--- How many words one check reads at most: 13,824, which are 320 for each block of edges, 96 for each block of vertices, and one for each dart on a cycle.
+-- How many words one check reads at most: 15,872, which are two for each edge, 320 for each block of edges, 96 for each block of vertices, and one for each dart on a cycle.
 use Prim.Native.Nat.{ℕ, zero, suc, _+_, _-_, _*_, _≤_, _<_}
 use native.Mathlib.Omega.{arith}
 use native.Mathlib.Decide.{ℕ-discrete, decLt}
@@ -16,7 +16,7 @@ use Rattle.orbits.specs.Iterate.{iter}
 use Rattle.orbits.specs.laws.Iterate.{period}
 use Rattle.orbits.specs.Reach.{reaches}
 use Rattle.orbits.specs.laws.Reach.{says-reach}
-use Rattle.table.specs.Layout.{words, darts, vertices, nextWord, leaves, edgeWord, edgeOf, vertexWord, Live}
+use Rattle.table.specs.Layout.{words, darts, edges, vertices, nextWord, leaves, edgeWord, edgeOf, vertexWord, Live}
 use Rattle.table.specs.Rotation.{live?, nextDart}
 use Rattle.table.specs.laws.Rotation.{yes-live, case-yes, case-says}
 use Rattle.table.specs.laws.Darts.{Ruled}
@@ -24,7 +24,7 @@ use Rattle.table.specs.laws.Cycle.{next-inj, iter-live, iter-leaves, iter-word,
 use Rattle.table.specs.laws.Vertices.{leaving-live, one-more, spread}
 use Rattle.table.specs.laws.Blocks.{dead-dart}
 use Rattle.reads.specs.Reads.{reading, readsOf, passAll, allBelow, readsBelow, bareTests, dartTests, edgeTests, edgeIn, deadBlock, idleTests, edgeBlock}
-use Rattle.reads.specs.Reads.{cycleTest, leadsNone, leadTests, vertexTests, vertexIn, vertexBlock, checkReads}
+use Rattle.reads.specs.Reads.{lengthFits, cycleTest, leadsNone, leadTests, vertexTests, vertexIn, vertexBlock, checkReads}
 use Rattle.reads.specs.laws.Tests.{total, reads-total, below-most, below-passed, below-any, below-until}
 use Rattle.reads.specs.laws.Darts.{tests-dead, tests-live, dead-case, idle-case, block-case, by-darts, blocks-case}
 use Rattle.reads.specs.laws.Vertices.{tests-none, tests-leads}
@@ -202,16 +202,19 @@ module _ (t : List ℕ) where
         ]
 
 -- "read at most 100,000 words of the table in one check": the exact bound
-pub reads-most : (t : List ℕ) → checkReads t ≤ 13824
+pub reads-most : (t : List ℕ) → checkReads t ≤ 15872
 unfolding checkReads readsOf
 reads-most t = elim (truth (eqb (length t) words)) [
   | yes-false e ↦ rw e (omega arith)
-  | yes-true e ↦ elim (truth (allBelow (λ b. edgeBlock t b .passes) 32)) [
-    | yes-false f ↦ let k = below-any (edgeBlock t) 320 128 (passing-most t) (block-most t) 32 in rw (e, f) (omega (arith, k))
-    | yes-true f ↦
-        let k = below-passed (edgeBlock t) 320 128 (passing-most t) (block-most t) 32 f in
-        let v = blocks-most t (case-yes (blocks-case t) f) 16 (omega arith) in
-        let all = count-le (λ d. live? t d && ltb (leaves t d) 512) darts in
-        rw (e, f) (omega (arith, k, v, all))
+  | yes-true e ↦ elim (truth (allBelow (lengthFits t) edges)) [
+    | yes-false d ↦ rw (e, d) (omega arith)
+    | yes-true d ↦ elim (truth (allBelow (λ b. edgeBlock t b .passes) 32)) [
+      | yes-false f ↦ let k = below-any (edgeBlock t) 320 128 (passing-most t) (block-most t) 32 in rw (e, d, f) (omega (arith, k))
+      | yes-true f ↦
+          let k = below-passed (edgeBlock t) 320 128 (passing-most t) (block-most t) 32 f in
+          let v = blocks-most t (case-yes (blocks-case t) f) 16 (omega arith) in
+          let all = count-le (λ d. live? t d && ltb (leaves t d) 512) darts in
+          rw (e, d, f) (omega (arith, k, v, all))
+    ]
   ]
 ]

@@ -1,4 +1,4 @@
--- A good table whose names are all in use: its check reads 13,824 words, as many as any.
+-- A good table whose names are all in use: its check reads 15,872 words, as many as any.
 use Prim.Native.Nat.{ℕ, zero, suc, _+_, _*_, _≤_, _<_}
 use native.Mathlib.Omega.{arith}
 use native.Mathlib.Nat.{add-zero}
@@ -22,6 +22,7 @@ use Rattle.table.specs.laws.Vertices.{VertexRule, Summed, ledAt, ledBelow, led-
 use Rattle.table.specs.laws.Blocks.{vertexBlocks}
 use Rattle.reads.specs.Reads.{readsOf, passAll, readsBelow, dartTests, edgeTests, edgeIn, edgeBlock, cycleTest, vertexTests, vertexIn, vertexBlock, checkReads}
 use Rattle.reads.specs.laws.Tests.{total, passed-total, below-exact, all-case, truth-case}
+use Rattle.reads.specs.laws.Lengths.{lengths-case}
 use Rattle.reads.specs.laws.Darts.{tests-live, dart-case, edge-case, dead-case, block-case, by-edges, blocks-case}
 use Rattle.reads.specs.laws.Vertices.{cycle-reads, word-leads, tests-leads, vertex-case, loose-case, block-case as vertices-case}
 
@@ -115,11 +116,11 @@ module _ (t : List ℕ) (g : Good t) (all-live : (e : ℕ) → e < edges → edg
       ∙ good-counted t (g .size) ruled g .1
       ∙ count-all (live? t) darts (λ d h. yes-live t d (record { low = h; on = on d h }))
 
-  pub reads-full : checkReads t ≡ 13824
+  pub reads-full : checkReads t ≡ 15872
   unfolding checkReads readsOf
   reads-full =
       let e = below-exact (edgeBlock t) 320 32 block-passes block-exact in
       let v = blocks-exact 16 (omega arith) in
       let none = summed-none t .counted in
       let all = led-all in
-      rw (eq-eqb (length t) words (g .size), case-says (blocks-case t) ruled) (omega (arith, e, v, none, all))
+      rw (eq-eqb (length t) words (g .size), case-says (lengths-case t) (g .lengths), case-says (blocks-case t) ruled) (omega (arith, e, v, none, all))

@@ -9,6 +9,7 @@ use lib.ListN.{length, drop, length-drop}
 use lib.Seq.{drop-drop, drop-append-le}
 use Rattle.runs.specs.Run.{run}
 use Rattle.runs.specs.laws.Run.{run-append}
+use Rattle.records.specs.Records.{longestRecord}
 use Rattle.records.specs.Reading.{reading, readsOn}
 use Rattle.records.specs.laws.Reading.{joined, reading-blocks, reading-bad, reading-bounds}
 use Rattle.records.specs.Lines.{lines}
@@ -24,7 +25,7 @@ unfolding left
 left-some s e = rw e
 
 -- fewer bytes than the longest record has
-pub left-few : (s : List ℕ) → length (left s) < 10
+pub left-few : (s : List ℕ) → length (left s) < longestRecord
 left-few s = elim (truth (readsOn (reading s .stop))) [
   | holds e ↦ let rest = reading-bounds s .rest e in rw (left-some s e, length-drop (reading s .taken) s) rest
   | fails e ↦ rw (left-none s e) (omega arith)

@@ -15,12 +15,12 @@ use borrow.Author.Tests.{lt-ltb, le-ltb, eq-eqb, ne-eqb}
 use Rattle.edits.specs.declared.edit.Edit.{Edit}
 use Rattle.edits.specs.declared.edit.Edit.the-variants.{AddVertex, RemoveVertex, InsertEdge, DeleteEdge, TurnEdge}
 use Rattle.records.specs.declared.records.Mark.{Mark}
-use Rattle.records.specs.declared.records.Mark.the-variants.{AV, RV, IE, DE, TW}
+use Rattle.records.specs.declared.records.Mark.the-variants.{AV, RV, IE, IL, DE, TW}
 use Rattle.records.specs.declared.records.Marked.{Marked}
 use Rattle.records.specs.declared.records.Found.{Found}
 use Rattle.records.specs.declared.records.Found.the-variants.{Record, Stopped}
 use Rattle.records.specs.declared.records.Stop.the-variants.{End, CutRecord}
-use Rattle.records.specs.Records.{word, signedWord, markOf, sizeOf, editOf, knownRecord, markedRecord, firstRecord}
+use Rattle.records.specs.Records.{word, signedWord, markOf, sizeOf, insertionOf, plainLength, editOf, knownRecord, markedRecord, firstRecord}
 
 -- the two halves of the words, as the code makes them
 pub signed-low : {w : ℕ} → w < 32768 → toZ w16 w ≡ signedWord w
@@ -43,6 +43,11 @@ size-known e h = rw e at h
 stored : {k : ℤ} {w w′ : ℕ} → mag k < 2 ^ 15 → k ≡ signedWord w → w ≡ w′ → toZ w16 (ofZ w16 k) ≡ signedWord w′
 stored h e f = toZ-ofZ {w = w16} (record { sfits = h }) ∙ e ∙ ap signedWord f
 
+-- an insertion, made of the words that were read
+pub insert-made : (s : List ℕ) (n : ℕ) {v c₁ c₂ w : ℕ} {k : ℤ} → v ≡ word s 2 → c₁ ≡ word s 4 → c₂ ≡ word s 6 → mag k < 2 ^ 15 → k ≡ signedWord w → w ≡ word s 8
+    → InsertEdge v c₁ c₂ (toZ w16 (ofZ w16 k)) n ≡ insertionOf s n
+insert-made s n f g i h j k = rw (f, g, i, stored h j k)
+
 -- the edit of a record, made of the words that were read
 module _ (m : Mark) (s : List ℕ) where
   pub add-made : {v : ℕ} → m ≡ AV → v ≡ word s 2 → AddVertex v ≡ editOf m s
@@ -57,9 +62,11 @@ module _ (m : Mark) (s : List ℕ) where
   pub turn-made : {v w : ℕ} {k : ℤ} → m ≡ TW → v ≡ word s 2 → mag k < 2 ^ 15 → k ≡ signedWord w → w ≡ word s 4 → TurnEdge v (toZ w16 (ofZ w16 k)) ≡ editOf m s
   turn-made e f h g i = rw e (ap₂ TurnEdge f (stored h g i))
 
-  pub insert-made : {v c₁ c₂ w : ℕ} {k : ℤ} → m ≡ IE → v ≡ word s 2 → c₁ ≡ word s 4 → c₂ ≡ word s 6 → mag k < 2 ^ 15 → k ≡ signedWord w → w ≡ word s 8
-      → InsertEdge v c₁ c₂ (toZ w16 (ofZ w16 k)) ≡ editOf m s
-  insert-made e f g i h j k = rw (e, f, g, i, stored h j k)
+  pub plain-made : {E : Edit} → m ≡ IE → E ≡ insertionOf s plainLength → E ≡ editOf m s
+  plain-made e f = rw e f
+
+  pub long-made : {E : Edit} {n : ℕ} → m ≡ IL → n ≡ word s 10 → E ≡ insertionOf s n → E ≡ editOf m s
+  long-made e g f = rw e (f ∙ ap (insertionOf s) g)
 
   pub known-cut : {n : ℕ} → n ≡ sizeOf m → length s < n → Stopped CutRecord ≡ knownRecord m s
   unfolding knownRecord

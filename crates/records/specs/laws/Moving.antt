@@ -11,6 +11,7 @@ use lib.Seq.{sets, getD-drop, take-suc, take-nil, length-take-le}
 use Rattle.text.specs.laws.Paste.{sets-ahead}
 use Rattle.records.specs.declared.run.Ran.{Ran}
 use Rattle.records.specs.declared.block.Block.{Block}
+use Rattle.records.specs.Records.{longestRecord}
 use Rattle.records.specs.Reading.{reading, readsOn}
 use Rattle.records.specs.laws.Reading.{reading-bounds}
 use Rattle.records.specs.Lines.{lines}
@@ -31,7 +32,7 @@ blockOf t number s = record {
 
 -- what a caller can count on: few bytes are left, so there is room for more; the records are not more than the bytes; the lines have room
 pub record BlockFits (number : ℕ) (s out : List ℕ) (b : Block) : Type 0 where
-  pub few : b .left < 10
+  pub few : b .left < longestRecord
   pub next : b .next ≤ number + length s
   pub written : b .written ≤ length out
 

@@ -16,14 +16,14 @@ use Rattle.orbits.specs.laws.Truth.{truth, holds, fails, clash}
 use Rattle.edits.specs.declared.edit.Edit.{Edit}
 use Rattle.edits.specs.declared.edit.Edit.the-variants.{AddVertex, RemoveVertex, DeleteEdge, TurnEdge}
 use Rattle.records.specs.declared.records.Mark.{Mark}
-use Rattle.records.specs.declared.records.Mark.the-variants.{AV, RV, IE, DE, TW}
+use Rattle.records.specs.declared.records.Mark.the-variants.{AV, RV, IE, IL, DE, TW}
 use Rattle.records.specs.declared.records.Marked.{Marked}
 use Rattle.records.specs.declared.records.Marked.the-variants.{Known, Unknown}
 use Rattle.records.specs.declared.records.Found.{Found}
 use Rattle.records.specs.declared.records.Found.the-variants.{Record, Stopped}
 use Rattle.records.specs.declared.records.Stop.{Stop}
 use Rattle.records.specs.declared.records.Stop.the-variants.{End, BadMark, CutRecord}
-use Rattle.records.specs.Records.{word, signedWord, markOf, sizeOf, editOf, knownRecord, markedRecord, firstRecord}
+use Rattle.records.specs.Records.{word, signedWord, markOf, sizeOf, longestRecord, editOf, knownRecord, markedRecord, firstRecord}
 use Rattle.records.specs.Reading.{Reading, ended, after, readUpTo, reading, readsOn}
 
 -- a reading that goes on where another left off
@@ -32,16 +32,17 @@ joined r q = record { edits = r .edits ++ q .edits; taken = r .taken + q .taken;
 
 -- what can stand first
 
-mark-size : (m : Mark) → (4 ≤ sizeOf m) × (sizeOf m ≤ 10)
+mark-size : (m : Mark) → (4 ≤ sizeOf m) × (sizeOf m ≤ longestRecord)
 mark-size AV = (omega arith, omega arith)
 mark-size RV = (omega arith, omega arith)
 mark-size IE = (omega arith, omega arith)
+mark-size IL = (omega arith, omega arith)
 mark-size DE = (omega arith, omega arith)
 mark-size TW = (omega arith, omega arith)
 
 pub data First (s : List ℕ) (f : Found) : Type 0 where
   nothing : length s ≡ 0 → f ≡ Stopped End → First s f
-  cut : 1 ≤ length s → length s < 10 → f ≡ Stopped CutRecord → First s f
+  cut : 1 ≤ length s → length s < longestRecord → f ≡ Stopped CutRecord → First s f
   unknown : 2 ≤ length s → markOf (word s 0) ≡ Unknown → f ≡ Stopped BadMark → First s f
   whole : (m : Mark) → markOf (word s 0) ≡ Known m → sizeOf m ≤ length s → f ≡ Record (editOf m s) (sizeOf m) → First s f
 
@@ -166,6 +167,7 @@ edit-append : (m : Mark) (s b : List ℕ) → sizeOf m ≤ length s → editOf m
 edit-append AV s b h = ap AddVertex (word-append s b 2 (omega arith))
 edit-append RV s b h = ap RemoveVertex (word-append s b 2 (omega arith))
 edit-append IE s b h = rw (word-append s b 2 (omega arith), word-append s b 4 (omega arith), word-append s b 6 (omega arith), word-append s b 8 (omega arith))
+edit-append IL s b h = rw (word-append s b 2 (omega arith), word-append s b 4 (omega arith), word-append s b 6 (omega arith), word-append s b 8 (omega arith), word-append s b 10 (omega arith))
 edit-append DE s b h = ap DeleteEdge (word-append s b 2 (omega arith))
 edit-append TW s b h = ap₂ (λ x y. TurnEdge x (signedWord y)) (word-append s b 2 (omega arith)) (word-append s b 4 (omega arith))
 
@@ -234,7 +236,7 @@ reading-bad a b h = bad (length a) a b h
 pub record Bounds (s : List ℕ) (r : Reading) : Type 0 where
   pub within : r .taken ≤ length s
   pub some : 4 * length (r .edits) ≤ r .taken
-  pub rest : readsOn (r .stop) ≡ true → length s - r .taken < 10
+  pub rest : readsOn (r .stop) ≡ true → length s - r .taken < longestRecord
 
 bounds : (n : ℕ) (s : List ℕ) → length s ≤ n → Bounds s (readUpTo n s)
 unfolding readUpTo

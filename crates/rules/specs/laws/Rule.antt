@@ -31,7 +31,7 @@ use Rattle.meeting.specs.laws.Read.{Corners, LiveEdge}
 
 -- what the reading of the rule asks, of an edit that goes through
 
-pub insert-corners : {t : List ℕ} {e c₁ c₂ : ℕ} {k : ℤ} → MayInsert t e c₁ c₂ k → Corners t c₁ c₂
+pub insert-corners : {t : List ℕ} {e c₁ c₂ : ℕ} {k : ℤ} {n : ℕ} → MayInsert t e c₁ c₂ k n → Corners t c₁ c₂
 insert-corners m = record { good = m .good; first = m .first-there; second = m .second-there }
 
 pub delete-edge : {t : List ℕ} {e : ℕ} → MayDelete t e → LiveEdge t e

@@ -4,8 +4,12 @@ use Prim.Native.Nat.{ℕ}
 use native.Mathlib.Omega.{arith}
 use mathlib.Core.Path.{_≡_, refl, sym, _∙_, ap, ap₂}
 use mathlib.Core.List.{List, [], _∷_, _++_}
+use mathlib.Core.Logic.{_≢_}
 use mathlib.Core.Option.{some}
+use lib.Dec.{eqb}
 use lib.IntN.{pos, _+ℤ_, +ℤ-idr, +ℤ-assoc}
+use Rattle.orbits.specs.laws.Truth.{truth, holds, fails}
+use Rattle.table.specs.Layout.{lengthWord}
 use Rattle.table.specs.Good.{Good}
 use Rattle.table.specs.Rotation.{Rotation, Lawful, rotation}
 use Rattle.table.specs.laws.Check.{good-yes}
@@ -21,9 +25,10 @@ use Rattle.tracing.specs.laws.Met.{present-once, absent-never}
 use Rattle.tracing.specs.laws.Edges.{edge-twice}
 use Rattle.walks.specs.laws.Stands.{stands-low}
 use Rattle.surgery.specs.Change.{Change, less, as-many, more, Changes}
-use Rattle.edits.specs.Edits.{edited, answer}
+use Rattle.edits.specs.Edits.{edited, answer, lengthAfter}
 use Rattle.edits.specs.laws.Edits.{edited-passes, edited-declines, answer-passes, answer-declines}
 use Rattle.edits.specs.laws.WrittenGood.{written-good}
+use Rattle.edits.specs.laws.Accepted.{written-length}
 use Rattle.edits.specs.Changes.{change}
 use Rattle.edits.specs.laws.Changes.{written-changes}
 use Rattle.edits.specs.Rules.{ruleOf, ruleChange, withRule, reply}
@@ -37,7 +42,7 @@ use Rattle.surface.specs.laws.Tables.{table-parts, table-sum}
 use Rattle.surface.specs.Calls.{countsOf, partRows}
 use Rattle.weave.specs.laws.Calls.{letters-accepted, alternates-accepted, plain-accepted}
 use Rattle.weave.specs.laws.Ribbon.{alternates-iff}
-use Rattle.runs.specs.Run.{run, number, calls, called, tells, told, faceNumber}
+use Rattle.runs.specs.Run.{run, number, calls, called, tells, told, faceNumber, lengthIn, lengthBy, lengthGiven}
 use Rattle.runs.specs.laws.Run.{run-append, run-one}
 use Rattle.runs.specs.RunLaws.{RunLaws}
 use Rattle.edits.specs.Verdicts.{verdict}
@@ -81,7 +86,7 @@ tells-calls t E = elim (judged (verdict t E)) [
     by : (E : Edit) (n : ℕ) → tells E (withRule (Done n) (ruleOf t E)) ≡ number (change t E)
     by (AddVertex v) n = refl
     by (RemoveVertex v) n = refl
-    by (InsertEdge e c₁ c₂ k) n = ap number (rule-change t (InsertEdge e c₁ c₂ k) _ refl)
+    by (InsertEdge e c₁ c₂ k l) n = ap number (rule-change t (InsertEdge e c₁ c₂ k l) _ refl)
     by (DeleteEdge e) n = ap number (rule-change t (DeleteEdge e) _ refl)
     by (TurnEdge e a) n = ap number (rule-change t (TurnEdge e a) _ refl)
 
@@ -124,6 +129,33 @@ unfolding told called
 told-called t [] = refl
 told-called t (E ∷ Es) = ap₂ _+ℤ_ (tells-calls t E) (told-called (edited t E) Es)
 
+-- a length is 0 once its edge is deleted, and is else what was given
+after-given : (E : Edit) (e x l : ℕ) → (x ≢ 0 → x ≡ l) → lengthAfter E e x ≢ 0 → lengthAfter E e x ≡ lengthIn E e l
+after-given (AddVertex v) e x l k n = k n
+after-given (RemoveVertex v) e x l k n = k n
+after-given (InsertEdge e′ c₁ c₂ t m) e x l k n = elim (truth (eqb e e′)) [
+  | holds q ↦ rw q
+  | fails q ↦ rw q (k (rw q at n))
+]
+after-given (DeleteEdge e′) e x l k n = elim (truth (eqb e e′)) [
+  | holds q ↦ absurd (n (rw q))
+  | fails q ↦ rw q (k (rw q at n))
+]
+after-given (TurnEdge e′ a) e x l k n = k n
+
+edited-length : (t : List ℕ) (E : Edit) (e l : ℕ) → (lengthWord t e ≢ 0 → lengthWord t e ≡ l)
+    → lengthWord (edited t E) e ≢ 0 → lengthWord (edited t E) e ≡ lengthBy (verdict t E) E e l
+edited-length t E e l k = elim (judged (verdict t E)) [
+  | passed p ↦ rw (edited-passes t E p, p, written-length t E p e) (after-given E e (lengthWord t e) l k)
+  | declined r p ↦ rw (edited-declines t E r p, p) k
+]
+
+run-length : (t : List ℕ) (Es : List Edit) (e l : ℕ) → (lengthWord t e ≢ 0 → lengthWord t e ≡ l)
+    → lengthWord (run t Es) e ≢ 0 → lengthWord (run t Es) e ≡ lengthGiven t Es e l
+unfolding run lengthGiven
+run-length t [] e l k = k
+run-length t (E ∷ Es) e l k = run-length (edited t E) Es e (lengthBy (verdict t E) E e l) (edited-length t E e l k)
+
 pub run-laws : (t : List ℕ) → Good t → (Es : List Edit) → RunLaws t Es
 run-laws t g Es = record {
   good = after;
@@ -147,6 +179,7 @@ run-laws t g Es = record {
       ∙ run-count t (front ++ (E ∷ [])) g;
   ruled = λ front E back e n a. answered-rule (run t front) E n a;
   told-count = run-count t Es g ∙ ap (λ z. faceNumber t +ℤ z) (sym (told-called t Es));
+  lengths = λ e h on. run-length t Es e (lengthWord t e) (λ _. refl) (after .lengths e h .some on);
   alternation = λ s h. alternates-iff (run t Es) after s (stands-low (record { good = after; live = h }));
   listing-call = λ out. output-accepted (run t Es) (listing R) out;
   counts-call = λ out. output-accepted (run t Es) (countsOf R) out;

@@ -19,7 +19,7 @@ use Rattle.table.specs.declared.answer.Refusal.the-variants.{NoSuchName, Taken,
 use Rattle.tracing.specs.Listing.{faceCount}
 use Rattle.tracing.specs.Corner.{wellFormed, present}
 use Rattle.edits.specs.Turns.{turnsIn}
-use Rattle.edits.specs.Verdicts.{verdict, andThen, isolation, fewTurns, newVertex, oldVertex, newEdge, oldEdge}
+use Rattle.edits.specs.Verdicts.{verdict, andThen, isolation, fewTurns, fairLength, newVertex, oldVertex, newEdge, oldEdge}
 use Rattle.edits.specs.Edits.{edited, answer}
 use Rattle.edits.specs.laws.Edits.{edited-passes, edited-declines, answer-passes, answer-declines}
 use Rattle.surgery.specs.Change.{insertion, deletion, turning}
@@ -50,13 +50,13 @@ module _ (g : ℕ → ℕ) where
   abbrev verdictBy : Edit → Verdict
   verdictBy (AddVertex v) = andThen (vertexBy v (not (not (eqb (g (vertexAt + v)) nothing))) Taken) Passes
   verdictBy (RemoveVertex v) = andThen (vertexBy v (not (eqb (g (vertexAt + v)) nothing)) Absent) (isolation (g (vertexAt + v)))
-  verdictBy (InsertEdge e c₁ c₂ k) =
+  verdictBy (InsertEdge e c₁ c₂ k n) =
       andThen
       (unless (ltb e edges && (wellFormed c₁ && wellFormed c₂)) (Declines NoSuchName)
       (unless (not (not (eqb (g (edgeAt + e)) 0))) (Declines Taken)
       (unless (present (rotationBy g) c₁ && present (rotationBy g) c₂) (Declines Absent)
       Passes)))
-      (fewTurns k)
+      (andThen (fewTurns k) (fairLength n))
   verdictBy (DeleteEdge e) = andThen (edgeBy e) Passes
   verdictBy (TurnEdge e a) = andThen (edgeBy e) (fewTurns (turnsIn (g (edgeAt + e)) +ℤ a))
 
@@ -64,7 +64,7 @@ verdict-by : (t : List ℕ) (E : Edit) → Good t → verdict t E ≡ verdictBy 
 unfolding newVertex oldVertex newEdge oldEdge
 verdict-by t (AddVertex v) g = rw (← good-yes t g)
 verdict-by t (RemoveVertex v) g = rw (← good-yes t g)
-verdict-by t (InsertEdge e c₁ c₂ k) g = rw (← good-yes t g, rotation-by t)
+verdict-by t (InsertEdge e c₁ c₂ k n) g = rw (← good-yes t g, rotation-by t)
 verdict-by t (DeleteEdge e) g = rw (← good-yes t g)
 verdict-by t (TurnEdge e a) g = rw (← good-yes t g)
 
@@ -89,7 +89,7 @@ answerOn ws E = answeredBy (verdictOn ws E) (facesOn (writtenOn ws E))
 unfoldable pub ruleOn : Writes → Edit → Option Rule
 ruleOn ws (AddVertex v) = none
 ruleOn ws (RemoveVertex v) = none
-ruleOn ws (InsertEdge e c₁ c₂ k) = some (ruleFor (insertion (meetingOn ws c₁ c₂) (oddness k)))
+ruleOn ws (InsertEdge e c₁ c₂ k n) = some (ruleFor (insertion (meetingOn ws c₁ c₂) (oddness k)))
 ruleOn ws (DeleteEdge e) = some (ruleFor (deletion (sidesOn ws e)))
 ruleOn ws (TurnEdge e a) = some (turnRule (oddness a) (turning (sidesOn ws e)))
 
@@ -100,7 +100,7 @@ rule-on : (ws : Writes) (E : Edit) → ruleOf (tableOf ws) E ≡ ruleOn ws E
 unfolding ruleOn
 rule-on ws (AddVertex v) = refl
 rule-on ws (RemoveVertex v) = refl
-rule-on ws (InsertEdge e c₁ c₂ k) = ap (λ m. some (ruleFor (insertion m (oddness k)))) (meeting-read ws c₁ c₂)
+rule-on ws (InsertEdge e c₁ c₂ k n) = ap (λ m. some (ruleFor (insertion m (oddness k)))) (meeting-read ws c₁ c₂)
 rule-on ws (DeleteEdge e) = ap (λ s. some (ruleFor (deletion s))) (sides-read ws e)
 rule-on ws (TurnEdge e a) = ap (λ s. some (turnRule (oddness a) (turning s))) (sides-read ws e)
 

@@ -13,7 +13,7 @@ use lib.Dec.{eqb, ltb}
 use lib.ListN.{getD}
 use lib.IntN.{ℤ}
 use borrow.Author.Tests.{lt-ltb, le-ltb}
-use Rattle.table.specs.Layout.{words, vertices, darts, nothing, isolated, prevAt, leavesAt, edgeAt, vertexAt, edgeOf}
+use Rattle.table.specs.Layout.{vertices, darts, nothing, isolated, prevAt, leavesAt, edgeAt, vertexAt, lengthAt, edgeOf}
 use Rattle.table.specs.Rotation.{Rotation, rotation, live?, nextDart, prevDart, turnsOf, there?, alone?}
 use Rattle.tracing.specs.Walk.{walk}
 use Rattle.tracing.specs.Listing.{gather, starts, faceCount}
@@ -61,7 +61,7 @@ abbrev edgeSpan : Writes → ℕ
 edgeSpan ws = span edgeAt vertexAt ws
 
 abbrev vertexSpan : Writes → ℕ
-vertexSpan ws = span vertexAt words ws
+vertexSpan ws = span vertexAt lengthAt ws
 
 abbrev rotationOn : Writes → Rotation
 rotationOn ws = rotationBy (read ws)
@@ -105,12 +105,12 @@ module _ (ws : Writes) where
 
   no-vertex-word : (v : ℕ) → vertexSpan ws ≤ v → v < vertices → read ws (vertexAt + v) ≡ nothing
   no-vertex-word v h l =
-      rw (span-past vertexAt words ws v (omega arith) (omega arith) h, le-ltb (vertexAt + v) edgeAt (omega arith), le-ltb (vertexAt + v) vertexAt (omega arith))
+      rw (span-past vertexAt lengthAt ws v (omega arith) (omega arith) h, le-ltb (vertexAt + v) edgeAt (omega arith), le-ltb (vertexAt + v) vertexAt (omega arith), lt-ltb (vertexAt + v) lengthAt (omega arith))
 
   few-read : Few (rotationOn ws) (edgeSpan ws) (vertexSpan ws)
   few-read = record {
     edges-room = let r = span-room edgeAt vertexAt ws in omega arith;
-    vertices-room = let r = span-room vertexAt words ws in omega arith;
+    vertices-room = let r = span-room vertexAt lengthAt ws in omega arith;
     no-dart = no-dart;
     no-vertex = λ v h. elim (decLt v vertices) [
       | yes l ↦ rw (lt-ltb v vertices l, no-vertex-word v h l)

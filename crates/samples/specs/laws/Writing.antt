@@ -9,7 +9,7 @@ use mathlib.Core.List.{List, _∷_}
 use lib.Dec.{eqb, ltb}
 use lib.ListN.{getD, set}
 use borrow.Author.Tests.{eq-eqb, ne-eqb, lt-ltb, le-ltb}
-use Rattle.table.specs.Layout.{darts, nothing, isolated, leaves, prevAt, leavesAt, edgeAt, vertexAt, loneAt}
+use Rattle.table.specs.Layout.{darts, nothing, isolated, leaves, prevAt, leavesAt, edgeAt, vertexAt, lengthAt, loneAt}
 use Rattle.edits.specs.Turns.{turnedWord}
 use Rattle.edits.specs.Edge.{splice, cut, lesser, seek, successor, unlink, link, firstCorner}
 use Rattle.edits.specs.laws.Edge.{dart-link, link-past}
@@ -86,14 +86,14 @@ unlink-on ws x =
 unfoldable pub writtenOn : Writes → Edit → Writes
 writtenOn ws (AddVertex v) = (vertexAt + v, isolated) ∷ ws
 writtenOn ws (RemoveVertex v) = (vertexAt + v, nothing) ∷ ws
-writtenOn ws (InsertEdge e c₁ c₂ k) = (edgeAt + e, turnedWord 100 k) ∷ linkOn (linkOn ws (2 * e + 1) c₂) (2 * e) (firstCorner e c₁ c₂)
-writtenOn ws (DeleteEdge e) = (edgeAt + e, 0) ∷ unlinkOn (unlinkOn ws (2 * e)) (2 * e + 1)
+writtenOn ws (InsertEdge e c₁ c₂ k n) = (lengthAt + e, n) ∷ (edgeAt + e, turnedWord 100 k) ∷ linkOn (linkOn ws (2 * e + 1) c₂) (2 * e) (firstCorner e c₁ c₂)
+writtenOn ws (DeleteEdge e) = (lengthAt + e, 0) ∷ (edgeAt + e, 0) ∷ unlinkOn (unlinkOn ws (2 * e)) (2 * e + 1)
 writtenOn ws (TurnEdge e a) = (edgeAt + e, turnedWord (read ws (edgeAt + e)) a) ∷ ws
 
 pub written-on : (ws : Writes) (E : Edit) → written (tableOf ws) E ≡ tableOf (writtenOn ws E)
 unfolding tableOf writtenOn
 written-on ws (AddVertex v) = refl
 written-on ws (RemoveVertex v) = refl
-written-on ws (InsertEdge e c₁ c₂ k) = rw (link-on ws (2 * e + 1) c₂, link-on (linkOn ws (2 * e + 1) c₂) (2 * e) (firstCorner e c₁ c₂))
+written-on ws (InsertEdge e c₁ c₂ k n) = rw (link-on ws (2 * e + 1) c₂, link-on (linkOn ws (2 * e + 1) c₂) (2 * e) (firstCorner e c₁ c₂))
 written-on ws (DeleteEdge e) = rw (unlink-on ws (2 * e), unlink-on (unlinkOn ws (2 * e)) (2 * e + 1))
 written-on ws (TurnEdge e a) = ap (λ g. set (tableOf ws) (edgeAt + e) (turnedWord (g (edgeAt + e)) a)) (put-read ws)

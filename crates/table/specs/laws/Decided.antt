@@ -12,8 +12,9 @@ use Rattle.orbits.specs.Count.{count}
 use Rattle.orbits.specs.Iterate.{iter}
 use Rattle.orbits.specs.laws.Iterate.{period, period-le}
 use Rattle.orbits.specs.laws.Reach.{reach-within}
-use Rattle.table.specs.Layout.{darts, vertices, words, nothing, isolated, nextWord, prevWord, leaves, edgeWord, vertexWord, edgeOf, edgeWordMost}
-use Rattle.table.specs.Good.{Good, Bare}
+use Rattle.table.specs.Layout.{darts, vertices, edges, words, nothing, isolated, nextWord, prevWord, leaves, edgeWord, vertexWord, lengthWord, edgeOf, edgeWordMost, longest}
+use Rattle.table.specs.Good.{Good, Bare, LengthRule}
+use Rattle.table.specs.laws.Lengths.{length-dead, length-live}
 use Rattle.table.specs.Rotation.{live?, nextDart}
 use Rattle.table.specs.laws.Darts.{Linked, DartRule, Ruled, rule-dead, rule-live, good-ruled}
 use Rattle.table.specs.laws.Cycle.{next-inj}
@@ -50,6 +51,13 @@ module _ (t : List ℕ) where
     | no on ↦ map-dec (λ p. rule-live t d on (p .0) (p .1)) (λ r. (r .turns, r .linked on)) (Dec·and (decLe (edgeWord t (edgeOf d)) edgeWordMost) (linked-dec d))
   ]
 
+  length-dec : (e : ℕ) → Dec (LengthRule t e)
+  length-dec e = elim (ℕ-discrete (edgeWord t e) 0) [
+    | yes off ↦ map-dec (length-dead t e off) (λ l. l .none off) (ℕ-discrete (lengthWord t e) 0)
+    | no on ↦ map-dec (λ p. length-live t e on (p .0) (p .1)) (λ l. (l .some on, l .most))
+        (Dec·and (Dec·not (ℕ-discrete (lengthWord t e) 0)) (decLe (lengthWord t e) longest))
+  ]
+
   module _ (r : Ruled t darts) where
     -- no dart of the cycle is smaller, if none of the first ones is
     pub least-all : (w : ℕ) → w < darts → ((k : ℕ) → k < darts → w ≤ iter (nextDart t) k w) → (k : ℕ) → w ≤ iter (nextDart t) k w
@@ -79,12 +87,15 @@ module _ (t : List ℕ) where
   pub good-dec : Dec (Good t)
   good-dec = elim (ℕ-discrete (length t) words) [
     | no n ↦ no (λ g. n (g .size))
-    | yes size ↦ elim (all-dec (DartRule t) rule-dec darts) [
-      | no n ↦ no (λ g. n (good-ruled t g))
-      | yes r ↦ elim (all-dec (VertexRule t) (vertex-dec r) vertices) [
-        | no n ↦ no (λ g. n (good-counted t size r g .0))
-        | yes rules ↦ map-dec (counted-good t size r rules) (λ g. good-counted t size r g .1)
-            (ℕ-discrete (count (λ d. live? t d && led? t d) darts) (count (live? t) darts))
+    | yes size ↦ elim (all-dec (LengthRule t) length-dec edges) [
+      | no n ↦ no (λ g. n (g .lengths))
+      | yes lengths ↦ elim (all-dec (DartRule t) rule-dec darts) [
+        | no n ↦ no (λ g. n (good-ruled t g))
+        | yes r ↦ elim (all-dec (VertexRule t) (vertex-dec r) vertices) [
+          | no n ↦ no (λ g. n (good-counted t size r g .0))
+          | yes rules ↦ map-dec (counted-good t size r lengths rules) (λ g. good-counted t size r g .1)
+              (ℕ-discrete (count (λ d. live? t d && led? t d) darts) (count (live? t) darts))
+        ]
       ]
     ]
   ]

@@ -16,8 +16,8 @@ use Rattle.orbits.specs.Iterate.{iter}
 use Rattle.orbits.specs.laws.Iterate.{Period}
 use Rattle.orbits.specs.Reach.{Reach, reaches}
 use Rattle.orbits.specs.laws.Reach.{says-reach, reach-says, reach-sym, reach-trans}
-use Rattle.table.specs.Layout.{darts, vertices, words, nothing, isolated, leaves, vertexWord, Live}
-use Rattle.table.specs.Good.{Good}
+use Rattle.table.specs.Layout.{darts, vertices, edges, words, nothing, isolated, leaves, vertexWord, Live}
+use Rattle.table.specs.Good.{Good, LengthRule}
 use Rattle.table.specs.Rotation.{live?, nextDart}
 use Rattle.table.specs.laws.Rotation.{yes-live, live-yes, not-live, nextDart-dead}
 use Rattle.table.specs.laws.Darts.{Ruled}
@@ -183,12 +183,13 @@ module _ (t : List ℕ) where
 
 -- The whole: the rules and the count are those of a good table.
 module _ (t : List ℕ) (size : length t ≡ words) (r : Ruled t darts) where
-  pub counted-good : ((v : ℕ) → v < vertices → VertexRule t v) → count (λ d. live? t d && led? t d) darts ≡ count (live? t) darts → Good t
+  pub counted-good : ((e : ℕ) → e < edges → LengthRule t e) → ((v : ℕ) → v < vertices → VertexRule t v) → count (λ d. live? t d && led? t d) darts ≡ count (live? t) darts → Good t
   unfolding led?
-  counted-good rules e = record {
+  counted-good long rules e = record {
     size = size;
     turns = λ i h. let e : (2 * i) / 2 ≡ i = omega arith in rw e at (r (2 * i) (omega arith) .turns);
     bare = λ d h. r d h .bare;
+    lengths = long;
     leaves-low = λ d l. r d (l .low) .linked (l .on) .at;
     leaves-live = λ d l p. past-leads-none t r _ d (omega (arith, p)) (l .low) (led d l);
     next-live = next-live t r;

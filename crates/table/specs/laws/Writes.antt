@@ -10,8 +10,8 @@ use lib.ListN.{length, getD, set}
 use lib.Seq.{getD-set-same, getD-set-other, ext-getD}
 use borrow.Author.Tests.{eq-eqb, ne-eqb}
 use mathlib.Core.Bool.{cond}
-use Rattle.table.specs.Layout.{words, darts, edges, vertices, prevAt, leavesAt, edgeAt, vertexAt, nextWord, prevWord, leaves, edgeWord, vertexWord}
-use Rattle.table.specs.Writes.{setNext, setPrev, setLeaves, setEdge, setVertex}
+use Rattle.table.specs.Layout.{words, darts, edges, vertices, prevAt, leavesAt, edgeAt, vertexAt, lengthAt, nextWord, prevWord, leaves, edgeWord, vertexWord, lengthWord}
+use Rattle.table.specs.Writes.{setNext, setPrev, setLeaves, setEdge, setVertex, setLength}
 
 -- a function with one value changed
 unfoldable pub upd : (ℕ → ℕ) → ℕ → ℕ → ℕ → ℕ
@@ -59,6 +59,9 @@ module _ (t : List ℕ) (size : length t ≡ words) (i w j : ℕ) where
 
   pub vertex-vertex : i < vertices → vertexWord (setVertex t i w) j ≡ upd (vertexWord t) i w j
   vertex-vertex h = read-kind t vertexAt i w j (omega arith)
+
+  pub length-length : i < edges → lengthWord (setLength t i w) j ≡ upd (lengthWord t) i w j
+  length-length h = read-kind t lengthAt i w j (omega arith)
 
 -- The words of the other kinds stay.
 module _ (t : List ℕ) (i w j : ℕ) where
@@ -122,13 +125,44 @@ module _ (t : List ℕ) (i w j : ℕ) where
   pub vertex-edge : i < edges → vertexWord (setEdge t i w) j ≡ vertexWord t j
   vertex-edge h = getD-set-other t (edgeAt + i) (vertexAt + j) w 0 (omega arith)
 
+  pub next-length : j < darts → nextWord (setLength t i w) j ≡ nextWord t j
+  next-length h = getD-set-other t (lengthAt + i) j w 0 (omega arith)
+
+  pub prev-length : j < darts → prevWord (setLength t i w) j ≡ prevWord t j
+  prev-length h = getD-set-other t (lengthAt + i) (prevAt + j) w 0 (omega arith)
+
+  pub leaves-length : j < darts → leaves (setLength t i w) j ≡ leaves t j
+  leaves-length h = getD-set-other t (lengthAt + i) (leavesAt + j) w 0 (omega arith)
+
+  pub edge-length : j < edges → edgeWord (setLength t i w) j ≡ edgeWord t j
+  edge-length h = getD-set-other t (lengthAt + i) (edgeAt + j) w 0 (omega arith)
+
+  pub vertex-length : j < vertices → vertexWord (setLength t i w) j ≡ vertexWord t j
+  vertex-length h = getD-set-other t (lengthAt + i) (vertexAt + j) w 0 (omega arith)
+
+  pub length-next : i < darts → lengthWord (setNext t i w) j ≡ lengthWord t j
+  length-next h = getD-set-other t i (lengthAt + j) w 0 (omega arith)
+
+  pub length-prev : i < darts → lengthWord (setPrev t i w) j ≡ lengthWord t j
+  length-prev h = getD-set-other t (prevAt + i) (lengthAt + j) w 0 (omega arith)
+
+  pub length-leaves : i < darts → lengthWord (setLeaves t i w) j ≡ lengthWord t j
+  length-leaves h = getD-set-other t (leavesAt + i) (lengthAt + j) w 0 (omega arith)
+
+  pub length-edge : i < edges → lengthWord (setEdge t i w) j ≡ lengthWord t j
+  length-edge h = getD-set-other t (edgeAt + i) (lengthAt + j) w 0 (omega arith)
+
+  pub length-vertex : i < vertices → lengthWord (setVertex t i w) j ≡ lengthWord t j
+  length-vertex h = getD-set-other t (vertexAt + i) (lengthAt + j) w 0 (omega arith)
+
 -- Tables of the same words are equal.
 pub same-words : (t u : List ℕ) → length t ≡ words → length u ≡ words
     → ((d : ℕ) → d < darts → (nextWord t d ≡ nextWord u d) × (prevWord t d ≡ prevWord u d) × (leaves t d ≡ leaves u d))
     → ((e : ℕ) → e < edges → edgeWord t e ≡ edgeWord u e)
     → ((v : ℕ) → v < vertices → vertexWord t v ≡ vertexWord u v)
+    → ((e : ℕ) → e < edges → lengthWord t e ≡ lengthWord u e)
     → t ≡ u
-same-words t u size size′ dart edge vertex = ext-getD 0 t u (size ∙ sym size′) (λ i h. by-place i (rw size at h))
+same-words t u size size′ dart edge vertex long = ext-getD 0 t u (size ∙ sym size′) (λ i h. by-place i (rw size at h))
   where
     shift : (a i : ℕ) → a ≤ i → getD t (a + (i - a)) 0 ≡ getD u (a + (i - a)) 0 → getD t i 0 ≡ getD u i 0
     shift a i l e = let s : a + (i - a) ≡ i = omega arith in rw s at e
@@ -142,7 +176,10 @@ same-words t u size size′ dart edge vertex = ext-getD 0 t u (size ∙ sym size
           | yes c ↦ shift leavesAt i (omega arith) (dart (i - leavesAt) (omega arith) .2)
           | no c ↦ elim (decLt i vertexAt) [
             | yes d ↦ shift edgeAt i (omega arith) (edge (i - edgeAt) (omega arith))
-            | no d ↦ shift vertexAt i (omega arith) (vertex (i - vertexAt) (omega arith))
+            | no d ↦ elim (decLt i lengthAt) [
+              | yes f ↦ shift vertexAt i (omega arith) (vertex (i - vertexAt) (omega arith))
+              | no f ↦ shift lengthAt i (omega arith) (long (i - lengthAt) (omega arith))
+            ]
           ]
         ]
       ]

@@ -12,7 +12,7 @@ use lib.Dec.{ltb}
 use lib.IntN.{ℤ}
 use borrow.Author.Tests.{eq-eqb, lt-ltb, ltb-true}
 use Rattle.orbits.specs.laws.Truth.{same-truth}
-use Rattle.table.specs.Layout.{vertices, edges, darts, isolated, leaves, edgeWord, vertexWord, edgeOf, rev, loneAt, Live}
+use Rattle.table.specs.Layout.{vertices, edges, isolated, leaves, edgeWord, vertexWord, edgeOf, rev, loneAt, Live}
 use Rattle.table.specs.Good.{Good}
 use Rattle.table.specs.Rotation.{Lawful, rotation, live?}
 use Rattle.table.specs.laws.Check.{good-yes}
@@ -31,6 +31,7 @@ use Rattle.edits.specs.laws.Accepted.{insert-without, insert-sits}
 use Rattle.edits.specs.declared.edit.Edit.{Edit}
 use Rattle.edits.specs.declared.edit.Edit.the-variants.{InsertEdge}
 use Rattle.edits.specs.declared.edit.Verdict.the-variants.{Passes}
+use Rattle.records.specs.Records.{plainLength}
 use Rattle.trials.specs.Trial.{cornerAt}
 use Rattle.trials.specs.laws.Corners.{At, lone, first, corner-lone, corner-dart, corner-at, at-present, present-yes, present-formed}
 use Rattle.trials.specs.laws.Numbered.{Numbered, numbered-vertex, numbered-dart, free}
@@ -53,7 +54,7 @@ pub record Planned (t : List ℕ) (e a b : ℕ) (k : ℤ) : Type 0 where
 
 module _ {t : List ℕ} {e a b : ℕ} {k : ℤ} (r : Planned t e a b k) where
   abbrev E : Edit
-  E = InsertEdge e (cornerAt t a) (cornerAt t b) k
+  E = InsertEdge e (cornerAt t a) (cornerAt t b) k plainLength
 
   s : Numbered t 8 e
   s = r .mesh
@@ -84,10 +85,10 @@ module _ {t : List ℕ} {e a b : ℕ} {k : ℤ} (r : Planned t e a b k) where
   g′ = written-good t E insertion-passes
 
   W : Without (rotation t′) e (rotation t)
-  W = insert-without t e (cornerAt t a) (cornerAt t b) k insertion-passes
+  W = insert-without t e (cornerAt t a) (cornerAt t b) k plainLength insertion-passes
 
   sits : Inserted (rotation t′) e (rotation t) (cornerAt t a) (cornerAt t b)
-  sits = insert-sits t e (cornerAt t a) (cornerAt t b) k insertion-passes
+  sits = insert-sits t e (cornerAt t a) (cornerAt t b) k plainLength insertion-passes
 
   L′ : Lawful (rotation t′)
   L′ = good-lawful t′ g′

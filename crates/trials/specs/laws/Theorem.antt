@@ -93,7 +93,7 @@ module _ (start : ℕ) where
         mesh = rw (run-last emptyTable (trialJob start e) E) (insertion-numbered r);
         pass = passing-last emptyTable (trialJob start e) E (m .pass) (insertion-passes r);
         sixteen = sixteen-last (trialJob start e) E (m .sixteen)
-            (omega arith, corner-word (m .mesh) (firstVertex start e) (omega arith), corner-word (m .mesh) (secondVertex start e) (omega arith), turns e .word);
+            (omega arith, corner-word (m .mesh) (firstVertex start e) (omega arith), corner-word (m .mesh) (secondVertex start e) (omega arith), turns e .word, omega arith);
       }
 
   module _ (n : ℕ) (h : n ≤ edges) where

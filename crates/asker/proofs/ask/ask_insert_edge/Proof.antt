@@ -27,7 +27,7 @@ insert-rule-requires c κs =
     let start = c .before .before .before .before .before in
     let t = now (start .args .t) in
     let k = start .args .k in
-    insert-corners (may-insert t _ _ _ k (insert-on t _ _ _ k (start .fits .k) (c .before .before .before .insert-verdict .ensures) (c .before .enum-told .given .1)))
+    insert-corners (may-insert t _ _ _ k (start .args .length) (insert-on t _ _ _ k (start .args .length) (start .fits .k) (c .before .before .before .insert-verdict .ensures) (c .before .enum-told .given .1)))
 
 by-rule-requires : tie.Need-by-rule-requires
 by-rule-requires c κs =
@@ -35,9 +35,9 @@ by-rule-requires c κs =
     let turned-word = c .before .turned-word in
     let t = now (start .args .t) in
     let k = start .args .k in
-    let passes = insert-on t _ _ _ k (start .fits .k) (c .before .before .before .before .insert-verdict .ensures) (c .before .before .enum-told .given .1) in
-    let m = may-insert t _ _ _ k passes in
-    rule-allows t (InsertEdge (start .args .e) (start .args .c1) (start .args .c2) k) passes
+    let passes = insert-on t _ _ _ k (start .args .length) (start .fits .k) (c .before .before .before .before .insert-verdict .ensures) (c .before .before .enum-told .given .1) in
+    let m = may-insert t _ _ _ k (start .args .length) passes in
+    rule-allows t (InsertEdge (start .args .e) (start .args .c1) (start .args .c2) k (start .args .length)) passes
     (insert-met m (amount-on 100 k (start .fits .k) (turned-word .ensures)) (c .insert-rule .ensures .1)) (c .insert-rule .ensures .0) (m .good)
 
 foretell-requires : tie.Need-foretell-requires
@@ -48,8 +48,8 @@ returns c =
     let start = c .before .before .before .before .before in
     let t = now (start .args .t) in
     let k = start .args .k in
-    was-refused t (InsertEdge (start .args .e) (start .args .c1) (start .args .c2) k) _
-    (insert-on t _ _ _ k (start .fits .k) (c .before .before .before .insert-verdict .ensures) (c .before .r .given .1))
+    was-refused t (InsertEdge (start .args .e) (start .args .c1) (start .args .c2) k (start .args .length)) _
+    (insert-on t _ _ _ k (start .args .length) (start .fits .k) (c .before .before .before .insert-verdict .ensures) (c .before .r .given .1))
 
 returns-2 : tie.Need-returns-2
 returns-2 c =
@@ -60,9 +60,9 @@ returns-2 c =
     let t = now (start .args .t) in
     let k = start .args .k in
     let w = amount-on 100 k (start .fits .k) (turned-word .ensures) in
-    let passes = insert-on t _ _ _ k (start .fits .k) (c .before .before .before .before .before .before .insert-verdict .ensures) (enum-told .given .1) in
-    was-foretold t (InsertEdge (start .args .e) (start .args .c1) (start .args .c2) k) passes
-    (insert-met (may-insert t _ _ _ k passes) w (insert-rule .ensures .1)) (insert-rule .ensures .0) (c .before .by-rule .ensures) (c .foretell .ensures)
+    let passes = insert-on t _ _ _ k (start .args .length) (start .fits .k) (c .before .before .before .before .before .before .insert-verdict .ensures) (enum-told .given .1) in
+    was-foretold t (InsertEdge (start .args .e) (start .args .c1) (start .args .c2) k (start .args .length)) passes
+    (insert-met (may-insert t _ _ _ k (start .args .length) passes) w (insert-rule .ensures .1)) (insert-rule .ensures .0) (c .before .by-rule .ensures) (c .foretell .ensures)
 
 pub ask-insert-edge-spec : {M : Type 1} → statement M
 ask-insert-edge-spec =

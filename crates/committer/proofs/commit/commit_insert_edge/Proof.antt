@@ -32,12 +32,12 @@ insert-requires c κs =
     let start = c .before .before .before .before .before .before .before .before in
     let t = now (start .args .t) in
     let k = start .args .k in
-    let edit = InsertEdge (start .args .e) (start .args .c1) (start .args .c2) k in
+    let edit = InsertEdge (start .args .e) (start .args .c1) (start .args .c2) k (start .args .length) in
     let forecast = start .args .forecast in
     let ask-insert-edge = c .before .before .before .before .before .ask-insert-edge in
     let commit-verdict = c .before .before .before .before .commit-verdict in
-    let judged = judges t edit forecast (asked-insertion t _ _ _ k (start .fits .k) (ask-insert-edge .ensures)) (commit-verdict .ensures) in
-    may-insert-ready t _ _ _ k (may-insert t _ _ _ k (may-edit t edit forecast (sym judged ∙ c .before .before .enum-told .given .1)))
+    let judged = judges t edit forecast (asked-insertion t _ _ _ k (start .args .length) (start .fits .k) (ask-insert-edge .ensures)) (commit-verdict .ensures) in
+    may-insert-ready t _ _ _ k (start .args .length) (may-insert t _ _ _ k (start .args .length) (may-edit t edit forecast (sym judged ∙ c .before .before .enum-told .given .1)))
 
 told-requires : tie.Need-told-requires
 told-requires c κs = search needs
@@ -50,11 +50,11 @@ returns c =
     let start = c .before .before .before .before .before .before .before in
     let t = now (start .args .t) in
     let k = start .args .k in
-    let edit = InsertEdge (start .args .e) (start .args .c1) (start .args .c2) k in
+    let edit = InsertEdge (start .args .e) (start .args .c1) (start .args .c2) k (start .args .length) in
     let forecast = start .args .forecast in
     let ask-insert-edge = c .before .before .before .before .ask-insert-edge in
     let commit-verdict = c .before .before .before .commit-verdict in
-    let judged = judges t edit forecast (asked-insertion t _ _ _ k (start .fits .k) (ask-insert-edge .ensures)) (commit-verdict .ensures) in
+    let judged = judges t edit forecast (asked-insertion t _ _ _ k (start .args .length) (start .fits .k) (ask-insert-edge .ensures)) (commit-verdict .ensures) in
     was-refused t edit forecast _ (sym judged ∙ c .before .r .given .1)
 
 same-length-2 : tie.Need-same-length-2
@@ -65,14 +65,14 @@ returns-2 c =
     let start = c .before .before .before .before .before .before .before .before .before .before .before .before in
     let t = now (start .args .t) in
     let k = start .args .k in
-    let edit = InsertEdge (start .args .e) (start .args .c1) (start .args .c2) k in
+    let edit = InsertEdge (start .args .e) (start .args .c1) (start .args .c2) k (start .args .length) in
     let forecast = start .args .forecast in
     let ask-insert-edge = c .before .before .before .before .before .before .before .before .before .ask-insert-edge in
     let commit-verdict = c .before .before .before .before .before .before .before .before .commit-verdict in
-    let judged = judges t edit forecast (asked-insertion t _ _ _ k (start .fits .k) (ask-insert-edge .ensures)) (commit-verdict .ensures) in
+    let judged = judges t edit forecast (asked-insertion t _ _ _ k (start .args .length) (start .fits .k) (ask-insert-edge .ensures)) (commit-verdict .ensures) in
     let w = amount-on 100 k (start .fits .k) (c .before .before .before .before .before .turned-word .ensures) in
     was-done t edit forecast refl (sym judged ∙ c .before .before .before .before .before .before .enum-told .given .1) (c .told .ensures)
-    (c .before .before .before .insert .ensures ∙ ap (inserted t (start .args .e) (start .args .c1) (start .args .c2)) w)
+    (c .before .before .before .insert .ensures ∙ ap (λ x. inserted t (start .args .e) (start .args .c1) (start .args .c2) x (start .args .length)) w)
 
 pub commit-insert-edge-spec : {M : Type 1} → statement M
 commit-insert-edge-spec =

@@ -68,7 +68,7 @@ returns-3 c =
     let edit3 = c .before .before .before .before .before .edit3 in
     let known-told3 = c .before .before .before .before .known-told3 in
     let insert-edge = c .before .before .insert-edge in
-    same-insertion _ _ _ _ (edit3 .given .0 .0) (edit3 .given .0 .1 .0) (edit3 .given .0 .1 .1 .0) (edit3 .given .0 .1 .1 .1 .0)
+    same-insertion _ _ _ _ (edit3 .given .0 .0) (edit3 .given .0 .1 .0) (edit3 .given .0 .1 .1 .0) (edit3 .given .0 .1 .1 .1 .0) (edit3 .given .0 .1 .1 .1 .1 .0)
     (record { sfits = known-told3 .given .1 .1 .1 .0 .1 }) (edit3 .given .1) (insert-edge .ensures)
 
 same-length-4 : tie.Need-same-length-4

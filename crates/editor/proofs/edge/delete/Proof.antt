@@ -4,6 +4,7 @@ use Rattle.edits.specs.laws.Edge.{delete-last}
 use denote.Ref.{now}
 use lib.ListN.{length-set}
 use mathlib.Core.Path.{_∙_}
+use native.Mathlib.Omega.{arith}
 use borrow.Author.Needs.{needs}
 use Rattle.editor.proofs.edge.delete.Statement.{statement}
 use Rattle.editor.proofs.edge.delete.Tie as tie
@@ -32,6 +33,21 @@ mul-t c = search needs
 slice-write-t : tie.Need-slice-write-t
 slice-write-t c = search needs
 
+add-t-2 : tie.Need-add-t-2
+add-t-2 c = search needs
+
+mul-t-2 : tie.Need-mul-t-2
+mul-t-2 c = search needs
+
+slice-write-t-2 : tie.Need-slice-write-t-2
+slice-write-t-2 c =
+    let pre = c .before .before .before .before .before .before .before .before .before .pre in
+    let low = pre .low in
+    let size = pre .first .size in
+    let once = c .before .before .before .before .before .before .unlink .kept .0 in
+    let twice = c .before .before .unlink2 .kept .0 in
+    simp length-set (omega arith)
+
 same-length : tie.Need-same-length
 same-length c = simp length-set (c .before .before .unlink2 .kept .0 ∙ c .before .before .before .before .before .before .unlink .kept .0)
 
@@ -54,5 +70,8 @@ delete-spec =
     add-t
     mul-t
     slice-write-t
+    add-t-2
+    mul-t-2
+    slice-write-t-2
     same-length
     returns)

@@ -4,6 +4,7 @@ use Rattle.edits.specs.laws.Edge.{insert-last}
 use denote.Ref.{now}
 use lib.ListN.{length-set}
 use mathlib.Core.Path.{_∙_}
+use native.Mathlib.Omega.{arith}
 use borrow.Author.Needs.{needs}
 use Rattle.editor.proofs.edge.insert.Statement.{statement}
 use Rattle.editor.proofs.edge.insert.Tie as tie
@@ -39,6 +40,21 @@ mul-t c = search needs
 slice-write-t : tie.Need-slice-write-t
 slice-write-t c = search needs
 
+add-t-2 : tie.Need-add-t-2
+add-t-2 c = search needs
+
+mul-t-2 : tie.Need-mul-t-2
+mul-t-2 c = search needs
+
+slice-write-t-2 : tie.Need-slice-write-t-2
+slice-write-t-2 c =
+    let pre = c .before .before .before .before .before .before .before .before .before .before .pre in
+    let low = pre .low in
+    let size = pre .second .size in
+    let once = c .before .before .before .before .before .before .before .link .kept .0 in
+    let twice = c .before .before .link2 .kept .0 in
+    simp length-set (omega arith)
+
 same-length : tie.Need-same-length
 same-length c = simp length-set (c .before .before .link2 .kept .0 ∙ c .before .before .before .before .before .before .before .link .kept .0)
 
@@ -49,7 +65,7 @@ returns c =
     let first-corner = c .before .before .before .before .first-corner in
     let link2 = c .before .before .link2 in
     insert-last (now (start .args .t)) (link .last .0) (link2 .last .0) (start .args .e) (start .args .c1) (start .args .c2) (first-corner .result)
-    (start .args .w) (link .ensures) (first-corner .ensures) (link2 .ensures)
+    (start .args .w) (start .args .length) (link .ensures) (first-corner .ensures) (link2 .ensures)
 
 pub insert-spec : {M : Type 1} → statement M
 insert-spec =
@@ -64,5 +80,8 @@ insert-spec =
     add-t
     mul-t
     slice-write-t
+    add-t-2
+    mul-t-2
+    slice-write-t-2
     same-length
     returns)

@@ -31,7 +31,7 @@ insert-rule-requires c κs =
     let enum-told = c .before .before .enum-told in
     let t = now (start .args .t) in
     let k = start .args .k in
-    insert-corners (may-insert t _ _ _ k (insert-on t _ _ _ k (start .fits .k) (insert-verdict .ensures) (enum-told .given .1)))
+    insert-corners (may-insert t _ _ _ k (start .args .length) (insert-on t _ _ _ k (start .args .length) (start .fits .k) (insert-verdict .ensures) (enum-told .given .1)))
 
 insert-requires : tie.Need-insert-requires
 insert-requires c κs =
@@ -39,8 +39,8 @@ insert-requires c κs =
     let insert-verdict = c .before .before .before .before .before .before .insert-verdict in
     let enum-told = c .before .before .before .before .enum-told in
     let t = now (start .args .t) in
-    may-insert-ready t _ _ _ (start .args .k)
-    (may-insert t _ _ _ (start .args .k) (insert-on t _ _ _ (start .args .k) (start .fits .k) (insert-verdict .ensures) (enum-told .given .1)))
+    may-insert-ready t _ _ _ (start .args .k) (start .args .length)
+    (may-insert t _ _ _ (start .args .k) (start .args .length) (insert-on t _ _ _ (start .args .k) (start .args .length) (start .fits .k) (insert-verdict .ensures) (enum-told .given .1)))
 
 by-rule-requires : tie.Need-by-rule-requires
 by-rule-requires c κs =
@@ -51,9 +51,9 @@ by-rule-requires c κs =
     let insert-rule = c .before .before .before .before .insert-rule in
     let t = now (start .args .t) in
     let k = start .args .k in
-    let passes = insert-on t _ _ _ k (start .fits .k) (insert-verdict .ensures) (enum-told .given .1) in
-    let m = may-insert t _ _ _ k passes in
-    rule-allows t (InsertEdge (start .args .e) (start .args .c1) (start .args .c2) k) passes
+    let passes = insert-on t _ _ _ k (start .args .length) (start .fits .k) (insert-verdict .ensures) (enum-told .given .1) in
+    let m = may-insert t _ _ _ k (start .args .length) passes in
+    rule-allows t (InsertEdge (start .args .e) (start .args .c1) (start .args .c2) k (start .args .length)) passes
     (insert-met m (amount-on 100 k (start .fits .k) (turned-word .ensures)) (insert-rule .ensures .1)) (insert-rule .ensures .0) (m .good)
 
 same-length : tie.Need-same-length
@@ -66,8 +66,8 @@ returns c =
     let r = c .before .r in
     let t = now (start .args .t) in
     let k = start .args .k in
-    was-refused t (InsertEdge (start .args .e) (start .args .c1) (start .args .c2) k) _
-    (insert-on t _ _ _ k (start .fits .k) (insert-verdict .ensures) (r .given .1))
+    was-refused t (InsertEdge (start .args .e) (start .args .c1) (start .args .c2) k (start .args .length)) _
+    (insert-on t _ _ _ k (start .args .length) (start .fits .k) (insert-verdict .ensures) (r .given .1))
 
 same-length-2 : tie.Need-same-length-2
 same-length-2 c = search needs
@@ -83,10 +83,10 @@ returns-2 c =
     let t = now (start .args .t) in
     let k = start .args .k in
     let w = amount-on 100 k (start .fits .k) (turned-word .ensures) in
-    let e = insert .ensures ∙ ap (inserted t (start .args .e) (start .args .c1) (start .args .c2)) w in
-    let passes = insert-on t _ _ _ k (start .fits .k) (insert-verdict .ensures) (enum-told .given .1) in
-    ruled-reply t (InsertEdge (start .args .e) (start .args .c1) (start .args .c2) k) passes
-    (insert-met (may-insert t _ _ _ k passes) w (insert-rule .ensures .1)) (insert-rule .ensures .0) e (c .by-rule .ensures)
+    let e = insert .ensures ∙ ap (λ x. inserted t (start .args .e) (start .args .c1) (start .args .c2) x (start .args .length)) w in
+    let passes = insert-on t _ _ _ k (start .args .length) (start .fits .k) (insert-verdict .ensures) (enum-told .given .1) in
+    ruled-reply t (InsertEdge (start .args .e) (start .args .c1) (start .args .c2) k (start .args .length)) passes
+    (insert-met (may-insert t _ _ _ k (start .args .length) passes) w (insert-rule .ensures .1)) (insert-rule .ensures .0) e (c .by-rule .ensures)
 
 pub insert-edge-spec : {M : Type 1} → statement M
 insert-edge-spec =

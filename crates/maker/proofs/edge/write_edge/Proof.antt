@@ -53,14 +53,14 @@ mul-second c = search needs
 element-copy-out-second : tie.Need-element-copy-out-second
 element-copy-out-second c = search needs
 
-mul-write-record : tie.Need-mul-write-record
-mul-write-record c = search needs
+mul-write-ends : tie.Need-mul-write-ends
+mul-write-ends c = search needs
 
-add-write-record : tie.Need-add-write-record
-add-write-record c = search needs
+add-write-ends : tie.Need-add-write-ends
+add-write-ends c = search needs
 
-write-record-requires : tie.Need-write-record-requires
-write-record-requires c κs = search needs
+write-ends-requires : tie.Need-write-ends-requires
+write-ends-requires c κs = search needs
 
 mul-give-dart : tie.Need-mul-give-dart
 mul-give-dart c = search needs
@@ -92,7 +92,7 @@ returns c =
     let draw = c .before .before .before .before .before .before .before .before .before .before .before .before .draw in
     let draw2 = c .before .before .before .before .before .before .before .before .before .before .before .draw2 in
     let draw3 = c .before .before .before .before .before .before .before .before .before .before .draw3 in
-    let record-written = c .before .before .before .before .before .before .write-record .ensures in
+    let record-written = c .before .before .before .before .before .before .write-ends .ensures in
     let s = start .args .s in
     let e = start .args .e in
     let l = start .args .corners .now in
@@ -123,9 +123,9 @@ write-edge-spec =
     element-copy-out-first
     mul-second
     element-copy-out-second
-    mul-write-record
-    add-write-record
-    write-record-requires
+    mul-write-ends
+    add-write-ends
+    write-ends-requires
     mul-give-dart
     give-dart-requires
     mul-give-dart-2

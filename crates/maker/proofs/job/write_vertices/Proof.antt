@@ -15,14 +15,14 @@ abbrev μ-loop : tie.MeasureT-loop
 loop-holds : tie.Need-loop-holds Inv-loop μ-loop
 loop-holds c = vertices-none _ _ (c .before .pre .1)
 
-cast-write-record : tie.Need-cast-write-record Inv-loop μ-loop
-cast-write-record c = let few = c .before .before .loop .inv .few in omega arith
+cast-write-words : tie.Need-cast-write-words Inv-loop μ-loop
+cast-write-words c = let few = c .before .before .loop .inv .few in omega arith
 
-mul-write-record : tie.Need-mul-write-record Inv-loop μ-loop
-mul-write-record c = let few = c .before .before .loop .inv .few in omega arith
+mul-write-words : tie.Need-mul-write-words Inv-loop μ-loop
+mul-write-words c = let few = c .before .before .loop .inv .few in omega arith
 
-write-record-requires : tie.Need-write-record-requires Inv-loop μ-loop
-write-record-requires c κs =
+write-words-requires : tie.Need-write-words-requires Inv-loop μ-loop
+write-words-requires c κs =
     let start = c .before .before .before .before in
     let few = c .before .loop-test .taken in let size = c .before .before .loop .inv .text .size in let room = start .pre .0 in omega arith
 
@@ -48,7 +48,7 @@ loop-again : tie.Need-loop-again Inv-loop μ-loop
 loop-again c =
     let loop = c .before .before .before .before .before .loop in
     let loop-test = c .before .before .before .before .loop-test in
-    vertices-more (loop .inv) (loop-test .taken) (c .before .before .write-record .ensures)
+    vertices-more (loop .inv) (loop-test .taken) (c .before .before .write-words .ensures)
 
 same-length : tie.Need-same-length Inv-loop μ-loop
 same-length c = c .before .loop .inv .text .size
@@ -63,9 +63,9 @@ write-vertices-spec =
     Inv-loop
     μ-loop
     loop-holds
-    cast-write-record
-    mul-write-record
-    write-record-requires
+    cast-write-words
+    mul-write-words
+    write-words-requires
     add-corners
     cast-corners
     mul-corners

@@ -11,7 +11,7 @@ code-requires : tie.Need-code-requires
 code-requires c κs = search needs
 
 returns : tie.Need-returns
-returns c = called-on _ _ _ _ (c .code .ok) (c .code .ensures) (c .before .before .before .step-from .ensures)
+returns c = called-on _ _ _ (c .code .ok) (c .code .ensures) (c .before .before .before .step-from .ensures)
 
 pub step-call-spec : {M : Type 1} → statement M
 step-call-spec = tie.close (tie.spec step-from-requires code-requires returns)

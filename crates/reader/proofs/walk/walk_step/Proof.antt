@@ -48,7 +48,7 @@ moved-requires c κs =
     let p = there-placed (sym (n2 .given .1) ∙ placed .ensures) in (p .first-low, p .first-type)
 
 returns : tie.Need-returns
-returns c = step-refused _ _ _ _ _ (c .before .before .before .before .placed .ensures) (c .before .before .n .given .1) (c .stays .ensures)
+returns c = step-refused _ _ _ _ (c .before .before .before .before .placed .ensures) (c .before .before .n .given .1) (c .stays .ensures)
 
 returns-2 : tie.Need-returns-2
 returns-2 c =
@@ -58,7 +58,7 @@ returns-2 c =
     let ends = c .before .before .before .before .before .ends in
     let tally-step = c .before .before .before .before .tally-step in
     let m = c .before .before .m in
-    step-kept _ _ _ _ _ (placed .ensures) (n2 .given .1) (step .ensures) (ends .ensures) (tally-step .ensures) (m .given .1) (c .stays2 .ensures)
+    step-kept _ _ _ _ (placed .ensures) (n2 .given .1) (step .ensures) (ends .ensures) (tally-step .ensures) (m .given .1) (c .stays2 .ensures)
 
 returns-3 : tie.Need-returns-3
 returns-3 c =
@@ -68,7 +68,7 @@ returns-3 c =
     let ends = c .before .before .before .before .before .ends in
     let tally-step = c .before .before .before .before .tally-step in
     let m2 = c .before .before .m2 in
-    step-moved _ _ _ _ _ (placed .ensures) (n2 .given .1) (step .ensures) (ends .ensures) (tally-step .ensures) (m2 .given .1) (c .moved .ensures)
+    step-moved _ _ _ _ (placed .ensures) (n2 .given .1) (step .ensures) (ends .ensures) (tally-step .ensures) (m2 .given .1) (c .moved .ensures)
 
 pub walk-step-spec : {M : Type 1} → statement M
 walk-step-spec =

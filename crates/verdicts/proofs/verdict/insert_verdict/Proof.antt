@@ -1,8 +1,8 @@
 -- `verdict::insert_verdict` meets its contract: what it names, then whether its turns pass 99.
 use Rattle.edits.specs.laws.Verdicts.{room-is, then-declines, then-passes}
-use Rattle.edits.specs.Verdicts.{fewTurns}
+use Rattle.edits.specs.Verdicts.{fewTurns, fairLength, andThen}
 use Rattle.edits.specs.laws.Turns.{amount-on, hundred}
-use mathlib.Core.Path.{sym, _∙_, ap}
+use mathlib.Core.Path.{refl, sym, _∙_, ap}
 use borrow.Author.Needs.{needs}
 use Rattle.verdicts.proofs.verdict.insert_verdict.Statement.{statement}
 use Rattle.verdicts.proofs.verdict.insert_verdict.Tie as tie
@@ -19,8 +19,8 @@ enum-told c = search needs
 turned-word-requires : tie.Need-turned-word-requires
 turned-word-requires c κs = search needs
 
-room-for-requires : tie.Need-room-for-requires
-room-for-requires c κs = search needs
+strip-for-requires : tie.Need-strip-for-requires
+strip-for-requires c κs = search needs
 
 returns : tie.Need-returns
 returns c =
@@ -35,7 +35,9 @@ returns-2 c =
     let turned-word = c .before .turned-word in
     let start = c .before .before .before .before .before .before in
     then-passes (sym (new-edge .ensures) ∙ enum-told .given .1)
-    (room-is 100 (start .args .k) (amount-on 100 (start .args .k) (start .fits .k) (turned-word .ensures)) (c .room-for .ensures) ∙ ap fewTurns (hundred (start .args .k)))
+    (c .strip-for .ensures
+    ∙ ap (λ v. andThen v (fairLength (start .args .length)))
+    (room-is 100 (start .args .k) (amount-on 100 (start .args .k) (start .fits .k) (turned-word .ensures)) refl ∙ ap fewTurns (hundred (start .args .k))))
 
 pub insert-verdict-spec : {M : Type 1} → statement M
 insert-verdict-spec =
@@ -45,6 +47,6 @@ insert-verdict-spec =
     enum-known-r
     enum-told
     turned-word-requires
-    room-for-requires
+    strip-for-requires
     returns
     returns-2)

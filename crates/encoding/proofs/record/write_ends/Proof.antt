@@ -1,4 +1,4 @@
--- `record::write_insertion` meets its contract: mark and edge, two corners, then the turns in two's complement.
+-- `record::write_ends` meets its contract: mark and edge, two corners, then the turns in two's complement.
 use Prim.Native.Nat.{_+_}
 use lib.Seq.{sets}
 use mathlib.Core.Path.{ap, _∙_}
@@ -6,8 +6,8 @@ use mathlib.Core.List.{_++_}
 use Rattle.encoding.specs.Encoding.{bytesOf, complement}
 use Rattle.encoding.specs.laws.Writing.{then-more, handed-complement}
 use borrow.Author.Needs.{needs}
-use Rattle.encoding.proofs.record.write_insertion.Statement.{statement}
-use Rattle.encoding.proofs.record.write_insertion.Tie as tie
+use Rattle.encoding.proofs.record.write_ends.Statement.{statement}
+use Rattle.encoding.proofs.record.write_ends.Tie as tie
 
 write-words-requires : tie.Need-write-words-requires
 write-words-requires c κs = search needs
@@ -38,13 +38,13 @@ returns c =
     let write-words2 = c .before .before .before .before .before .before .before .write-words2 in
     let out = start .args .out .now in
     let at = start .args .at in
-    let front = bytesOf 0x4945 ++ bytesOf (start .args .edge) in
+    let front = bytesOf (start .args .mark) ++ bytesOf (start .args .edge) in
     let corners = bytesOf (start .args .first) ++ bytesOf (start .args .second) in
     then-more out at (front ++ corners) (bytesOf (complement .result)) (then-more out at front corners (write-words .ensures) (write-words2 .ensures)) (c .before .before .write-word .ensures)
     ∙ ap (λ w. sets out at ((front ++ corners) ++ bytesOf w)) (handed-complement (start .fits .turns) (complement .ensures))
 
-pub write-insertion-spec : {M : Type 1} → statement M
-write-insertion-spec =
+pub write-ends-spec : {M : Type 1} → statement M
+write-ends-spec =
     tie.close
     (tie.spec
     write-words-requires

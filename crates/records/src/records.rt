@@ -7,7 +7,7 @@ ghost use Rattle.records.specs.Records.{word, signedWord, markOf, sizeOf
 ghost use Rattle.records.specs.Reading.{readsOn};
 
 // The length of an edge whose record says none.
-pub const PLAIN_LENGTH: u16 = 16;
+const PLAIN_LENGTH: u16 = 16;
 
 // The marks, by document 01's names, and document 02's.
 pub enum Mark {

@@ -105,7 +105,12 @@ module _ (ws : Writes) where
 
   no-vertex-word : (v : ℕ) → vertexSpan ws ≤ v → v < vertices → read ws (vertexAt + v) ≡ nothing
   no-vertex-word v h l =
-      rw (span-past vertexAt lengthAt ws v (omega arith) (omega arith) h, le-ltb (vertexAt + v) edgeAt (omega arith), le-ltb (vertexAt + v) vertexAt (omega arith), lt-ltb (vertexAt + v) lengthAt (omega arith))
+      rw (
+        span-past vertexAt lengthAt ws v (omega arith) (omega arith) h,
+        le-ltb (vertexAt + v) edgeAt (omega arith),
+        le-ltb (vertexAt + v) vertexAt (omega arith),
+        lt-ltb (vertexAt + v) lengthAt (omega arith),
+      )
 
   few-read : Few (rotationOn ws) (edgeSpan ws) (vertexSpan ws)
   few-read = record {

@@ -27,7 +27,8 @@ insert-rule-requires c κs =
     let start = c .before .before .before .before .before in
     let t = now (start .args .t) in
     let k = start .args .k in
-    insert-corners (may-insert t _ _ _ k (start .args .length) (insert-on t _ _ _ k (start .args .length) (start .fits .k) (c .before .before .before .insert-verdict .ensures) (c .before .enum-told .given .1)))
+    let length = start .args .length in
+    insert-corners (may-insert t _ _ _ k length (insert-on t _ _ _ k length (start .fits .k) (c .before .before .before .insert-verdict .ensures) (c .before .enum-told .given .1)))
 
 by-rule-requires : tie.Need-by-rule-requires
 by-rule-requires c κs =

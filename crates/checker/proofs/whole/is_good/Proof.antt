@@ -73,7 +73,9 @@ returns-6 c =
     let led′ = c .before .before .led in
     let live = counts-of _ (live-darts .ensures) (live′ .given .1) in
     let led = counts-of _ (all-led-darts .ensures) (led′ .given .1) in
-    let fits = case-yes (c .before .before .before .before .before .before .before .before .before .before .lengths-fit .ensures) (not-false _ (c .before .before .before .before .before .before .before .before .before .if2 .left)) in
+    let lengths-fit = c .before .before .before .before .before .before .before .before .before .before .lengths-fit in
+    let if2 = c .before .before .before .before .before .before .before .before .before .if2 in
+    let fits = case-yes (lengths-fit .ensures) (not-false _ (if2 .left)) in
     good-yes _ (counted-good _ (if1 .left) (live .1) fits (led .1) (sym (led .0) ∙ c .if3 .left ∙ live .0))
 
 pub is-good-spec : {M : Type 1} → statement M

@@ -127,7 +127,8 @@ int64_t planner_remove_vertex(uint16_t *table, size_t words, uint16_t v);
  * Rule: A if the corners are on different faces. On one face B1 if their types and k add to an even number, else B2; a
  * corner's type is the one with which the listed walk meets it, 0 for an isolated vertex.
  * Declines: PLANNER_TORN; PLANNER_NO_SUCH_NAME (e, c1 or c2); PLANNER_TAKEN; PLANNER_ABSENT (c1 or c2);
- * PLANNER_OVERTURNED (k past 99 either way); PLANNER_FAR (the length is 0).
+ * PLANNER_OVERTURNED (k past 99 either way); PLANNER_FAR (the length is 0). A length past 65535 is cut to 16 bits by C before
+ * the call sees it: test it first.
  */
 int64_t planner_insert_edge(uint16_t *table, size_t words, uint16_t e, uint16_t c1, uint16_t c2, int16_t k, uint16_t length);
 

@@ -212,6 +212,7 @@ static void try_the_lengths(void) {
     check(planner_insert_edge(table, WORDS, 1023, 32768, 32768, 1, 65535) == 1 + B2 && only_length(1023, 65535),
           "the largest length, in the last word");
     check(planner_turn_edge(table, WORDS, 1023, -100) == 1 + E && only_length(1023, 65535), "a turn leaves it");
+    check(planner_turn_edge(table, WORDS, 1023, 0) == 1 + E && only_length(1023, 65535), "a turn by 0 too");
     check(planner_add_vertex(table, WORDS, 7) == 2 && planner_remove_vertex(table, WORDS, 7) == 1 && only_length(1023, 65535),
           "a vertex that comes and goes leaves it");
     check(planner_delete_edge(table, WORDS, 1023) == 1 + B2 && kept(), "deleted, the table is as it was before, word for word");

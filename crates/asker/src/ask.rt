@@ -37,7 +37,7 @@ fn foretell(before: u32, reply: Reply) -> Asked
     }
 }
 
-// What inserting edge e with turns k, dart 2e into corner c1 and 2e+1 into c2, would do.
+// What inserting edge e with turns k and a length, dart 2e into corner c1 and 2e+1 into c2, would do.
 pub fn ask_insert_edge(t: &[u16], e: u16, c1: u16, c2: u16, k: i16, length: u16) -> Asked
     ensures { λ a. ⌜ a ≡ ask (now (t .entry)) (InsertEdge e c1 c2 k length) ⌝ }
 {

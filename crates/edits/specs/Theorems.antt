@@ -1,4 +1,4 @@
--- The theorems of this crate, document 01, "Edits", and document 02, request a. Each is proved by the law of its name.
+-- The theorems of this crate, document 01, "Edits", and document 02, requests a and g. Each is proved by the law of its name.
 use Prim.Native.Nat.{ℕ, _+_, _*_}
 use mathlib.Core.Path.{_≡_}
 use mathlib.Core.List.{List}

@@ -1,5 +1,5 @@
--- Which edits are declined, and with which number: document 01, "When a call declines". "Where several hold: 1, 2, 3, 4, 5, 6".
--- First what the edit names is tested, 1 to 4, then what it may not pass, 5 and 6; nothing is written before.
+-- Which edits are declined, and with which number: document 01, "When a call declines". "Where several hold: 1, 2, 3, 4, 5, 6",
+-- and of an insertion 9 after them. First what the edit names is tested, 1 to 4, then what it may not pass, 5, 6 and 9; nothing is written before.
 --     onNames, onLimits     the two lists of tests;     verdict     one after the other
 use Prim.Native.Nat.{ℕ}
 use mathlib.Core.Bool.{Bool, not, _&&_}

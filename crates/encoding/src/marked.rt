@@ -3,6 +3,10 @@ use crate::record::write_ends;
 use crate::record::write_long;
 use crate::record::write_turn;
 use crate::record::write_words;
+use records::records::MARK_AV;
+use records::records::MARK_DE;
+use records::records::MARK_IE;
+use records::records::MARK_RV;
 use records::records::Mark;
 use records::records::Marked;
 use records::records::mark_of;
@@ -48,7 +52,7 @@ fn encode_plain(edge: u16, first: u16, second: u16, turns: i16, out: &mut [u8]) 
     if out.len() < 10 {
         return Answer::Declined(Refusal::ShortSlice);
     }
-    write_ends(out, 0, 0x4945, edge, first, second, turns);
+    write_ends(out, 0, MARK_IE, edge, first, second, turns);
     Answer::Done(10)
 }
 
@@ -78,11 +82,11 @@ fn encode(
         × (now (out .exit) ≡ recordOut (recordBy m name first second turns strip) (now (out .entry))) ⌝ }
 {
     match m {
-        Mark::AV => encode_name(0x4156, name, out),
-        Mark::RV => encode_name(0x5256, name, out),
+        Mark::AV => encode_name(MARK_AV, name, out),
+        Mark::RV => encode_name(MARK_RV, name, out),
         Mark::IE => encode_plain(name, first, second, turns, out),
         Mark::IL => encode_long(name, first, second, turns, strip, out),
-        Mark::DE => encode_name(0x4445, name, out),
+        Mark::DE => encode_name(MARK_DE, name, out),
         Mark::TW => encode_turn(name, turns, out),
     }
 }

@@ -1,12 +1,13 @@
 // A job record, document 01, "The job program": a two-byte mark and 16-bit words, high byte first.
+use records::records::MARK_IL;
+use records::records::MARK_TW;
 ghost use Prim.Native.Nat.{_+_, _≤_};
 ghost use mathlib.Core.Path.{_≡_};
 ghost use mathlib.Core.List.{_++_};
 ghost use lib.ListN.{length};
 ghost use lib.Seq.{sets};
-ghost use Rattle.edits.specs.declared.edit.Edit.the-variants.{TurnEdge};
-ghost use Rattle.records.specs.declared.records.Mark.the-variants.{IL};
-ghost use Rattle.encoding.specs.Encoding.{bytesOf, complement, insertionWords, recordBy, recordOf};
+ghost use Rattle.records.specs.declared.records.Mark.the-variants.{IL, TW};
+ghost use Rattle.encoding.specs.Encoding.{bytesOf, complement, insertionWords, recordBy};
 
 // A number in two's complement.
 fn complement(k: i16) -> u16
@@ -36,9 +37,9 @@ pub fn write_words(out: &mut [u8], at: usize, first: u16, second: u16)
 // Writes the record of a turn.
 pub fn write_turn(out: &mut [u8], at: usize, edge: u16, amount: i16)
     requires { ⌜ at + 6 ≤ length (now out) ⌝ }
-    ensures { λ _. ⌜ now (out .exit) ≡ sets (now (out .entry)) at (recordOf (TurnEdge edge amount)) ⌝ }
+    ensures { λ _. ⌜ now (out .exit) ≡ sets (now (out .entry)) at (recordBy TW edge 0 0 amount 0) ⌝ }
 {
-    write_words(out, at, 0x5457, edge);
+    write_words(out, at, MARK_TW, edge);
     write_word(out, at + 4, complement(amount));
 }
 
@@ -73,6 +74,6 @@ pub fn write_long(
     requires { ⌜ at + 12 ≤ length (now out) ⌝ }
     ensures { λ _. ⌜ now (out .exit) ≡ sets (now (out .entry)) at (recordBy IL edge first second turns strip) ⌝ }
 {
-    write_ends(out, at, 0x494C, edge, first, second, turns);
+    write_ends(out, at, MARK_IL, edge, first, second, turns);
     write_word(out, at + 10, strip);
 }

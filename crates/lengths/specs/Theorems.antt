@@ -24,7 +24,7 @@ saw-named = sense.saw-named
 pub saw-mirror : (t : List ℕ) (g : Good t) (s : ℕ) → s < steps → sawLength t s ≡ sawLength t (mirror (rotation t) s)
 saw-mirror = sense.saw-mirror
 
--- nor does the call's answer, refusals too: of two names of one ribbon, and of two names of its face, one in each sense
+-- nor does the call's answer: of two names of one ribbon, and of two names of its face, one in each sense
 pub cut-named : (t : List ℕ) (d k d′ k′ : ℕ) {s x : ℕ} → namedStep t d k ≡ There s → namedStep t d′ k′ ≡ There x
     → has x (walk (rotation t) s) ≡ true → cutLengthOf t d k ≡ cutLengthOf t d′ k′
 cut-named = sense.cut-named

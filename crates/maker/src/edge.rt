@@ -2,6 +2,7 @@
 use crate::draws::after_draw;
 use crate::draws::draw;
 use encoding::record::write_ends;
+use records::records::MARK_IE;
 use table::layout::LONE;
 ghost use Prim.Native.Nat.{_+_, _≤_, _<_};
 ghost use mathlib.Core.Path.{_≡_};
@@ -40,7 +41,7 @@ pub fn write_edge(out: &mut [u8], corners: &mut [u16; 8], s: u32, e: u16) -> u32
     let turns = draw(3, thrice) as i16 - 1;
     let first = corners[a];
     let second = corners[b];
-    write_ends(out, 32 + 10 * e as usize, 0x4945, e, first, second, turns);
+    write_ends(out, 32 + 10 * e as usize, MARK_IE, e, first, second, turns);
     give_dart(corners, a, 2 * e);
     give_dart(corners, b, 2 * e + 1);
     thrice

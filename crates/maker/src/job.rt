@@ -1,6 +1,7 @@
 // A whole trial job, written to the front of a slice that is long enough.
 use crate::edge::write_edge;
 use encoding::record::write_words;
+use records::records::MARK_AV;
 use table::layout::LONE;
 ghost use Prim.Native.Nat.{_≤_};
 ghost use mathlib.Core.Path.{_≡_};
@@ -17,7 +18,7 @@ fn write_vertices(out: &mut [u8], corners: &mut [u16; 8])
 {
     let mut v: u16 = 0;
     while v < 8 {
-        write_words(out, 4 * v as usize, 0x4156, v);
+        write_words(out, 4 * v as usize, MARK_AV, v);
         corners[v as usize] = LONE + v;
         v += 1;
     }

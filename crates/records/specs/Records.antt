@@ -44,9 +44,8 @@ sizeOf IL = 12
 sizeOf DE = 4
 sizeOf TW = 6
 
--- an IL
 abbrev pub longestRecord : ℕ
-longestRecord = 12
+longestRecord = sizeOf IL
 
 -- the insertion that the words of an IE say, with a length
 abbrev pub insertionOf : List ℕ → ℕ → Edit

@@ -9,6 +9,19 @@ ghost use Rattle.records.specs.Reading.{readsOn};
 // The length of an edge whose record says none.
 const PLAIN_LENGTH: u16 = 16;
 
+// The words of the marks: the codes of their two letters.
+pub const MARK_AV: u16 = 0x4156;
+
+pub const MARK_RV: u16 = 0x5256;
+
+pub const MARK_IE: u16 = 0x4945;
+
+pub const MARK_IL: u16 = 0x494C;
+
+pub const MARK_DE: u16 = 0x4445;
+
+pub const MARK_TW: u16 = 0x5457;
+
 // The marks, by document 01's names, and document 02's.
 pub enum Mark {
     AV,
@@ -65,22 +78,22 @@ fn signed(w: u16) -> i16
 pub fn mark_of(w: u16) -> Marked
     ensures { λ r. ⌜ r ≡ markOf w ⌝ }
 {
-    if w == 0x4156 {
+    if w == MARK_AV {
         return Marked::Known(Mark::AV);
     }
-    if w == 0x5256 {
+    if w == MARK_RV {
         return Marked::Known(Mark::RV);
     }
-    if w == 0x4945 {
+    if w == MARK_IE {
         return Marked::Known(Mark::IE);
     }
-    if w == 0x494C {
+    if w == MARK_IL {
         return Marked::Known(Mark::IL);
     }
-    if w == 0x4445 {
+    if w == MARK_DE {
         return Marked::Known(Mark::DE);
     }
-    if w == 0x5457 {
+    if w == MARK_TW {
         return Marked::Known(Mark::TW);
     }
     Marked::Unknown

@@ -26,7 +26,7 @@ pub record LengthRule (t : List ℕ) (e : ℕ) : Type 0 where
   pub most : lengthWord t e ≤ longest
 
 pub record Good (t : List ℕ) : Type 0 where
-  -- "a lent slice of 8,704 unsigned 16-bit words"
+  -- "a lent slice" of so many words
   pub size : length t ≡ words
   -- "0 if not live, else its turns plus 100; turns run from -99 to 99"
   pub turns : (e : ℕ) → e < edges → edgeWord t e ≤ edgeWordMost

@@ -14,7 +14,7 @@ edges = 1024
 abbrev pub darts : ℕ
 darts = 2048
 
--- "a lent slice of 8,704 unsigned 16-bit words"
+-- "a lent slice of 7,680 unsigned 16-bit words"; document 02, request g: "to 8,704"
 abbrev pub words : ℕ
 words = 8704
 

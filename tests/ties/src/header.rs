@@ -34,11 +34,19 @@ pub fn without_comments(text: &str) -> String {
     kept
 }
 
+/// A number as C and the sources write it, in decimal or from 0x on in hexadecimal.
+pub fn value(text: &str) -> Option<u64> {
+    match text.strip_prefix("0x") {
+        Some(digits) => u64::from_str_radix(digits, 16).ok(),
+        None => text.parse().ok(),
+    }
+}
+
 /// What `#define name number` gives a name.
 pub fn number(text: &str, name: &str) -> Option<u64> {
     let text = without_comments(text);
     let defined = text.lines().find_map(|line| line.strip_prefix("#define ")?.strip_prefix(name)?.strip_prefix(' '));
-    defined?.trim().parse().ok()
+    value(defined?.trim())
 }
 
 /// The text without comments and without the preprocessor's lines; `extern "C" {` and its brace stand for C++ alone.

@@ -17,11 +17,17 @@ const HEADER: &str = "include/planner.h";
 const EXPORTS: &str = "crates/planner/src/lib.rt";
 
 /// Numbers of the header, each with the source and the constant that it is.
-const NUMBERS: [(&str, &str, &str); 4] = [
+const NUMBERS: [(&str, &str, &str); 10] = [
     ("PLANNER_TABLE_WORDS", "crates/table/src/layout.rt", "WORDS"),
     ("PLANNER_LENGTH_AT", "crates/table/src/layout.rt", "LENGTH"),
     ("PLANNER_OVER_ALLOWANCE", "crates/lengths/src/length.rt", "OVER_ALLOWANCE"),
     ("PLANNER_LAP", "crates/lengths/src/length.rt", "LAP"),
+    ("PLANNER_MARK_AV", "crates/records/src/records.rt", "MARK_AV"),
+    ("PLANNER_MARK_RV", "crates/records/src/records.rt", "MARK_RV"),
+    ("PLANNER_MARK_IE", "crates/records/src/records.rt", "MARK_IE"),
+    ("PLANNER_MARK_IL", "crates/records/src/records.rt", "MARK_IL"),
+    ("PLANNER_MARK_DE", "crates/records/src/records.rt", "MARK_DE"),
+    ("PLANNER_MARK_TW", "crates/records/src/records.rt", "MARK_TW"),
 ];
 
 /// One line for each difference.

@@ -1,7 +1,7 @@
 //! What a Rattle source declares: its functions with their contracts, its structs and its constants. It relies on the layout that
 //! `rt fmt` keeps: a body's opening brace ends its line, and after a contract stands alone on it.
 
-use crate::header::without_comments;
+use crate::header::{value, without_comments};
 
 pub struct Function {
     pub name: String,
@@ -134,7 +134,7 @@ pub fn structs(text: &str) -> Vec<Struct> {
 pub fn constant(text: &str, name: &str) -> Option<u64> {
     let declared =
         code(text).into_iter().find_map(|line| line.strip_prefix("pub const ")?.strip_prefix(name)?.strip_prefix(": "));
-    declared?.split_once(" = ")?.1.strip_suffix(';')?.parse().ok()
+    value(declared?.split_once(" = ")?.1.strip_suffix(';')?)
 }
 
 /// `a: T, b: U`, as arguments and fields are written.

@@ -10,12 +10,16 @@ const LENGTH: &str = "crates/lengths/src/length.rt";
 
 const LAYOUT: &str = "crates/table/src/layout.rt";
 
-const FILES: [(&str, &str); 5] = [
+const RECORDS: &str = "crates/records/src/records.rt";
+
+const FILES: [(&str, &str); 6] = [
     (
         HEADER,
         "/* int64_t planner_no(int x); */\n#include <stdint.h>\n#ifdef __cplusplus\nextern \"C\" {\n#endif\n#define A 1\n#define B(x) \\\n    (x)\n\
          /* #define PLANNER_LAP 5 */\n#define PLANNER_OVER_ALLOWANCE 8 /* each */\n#define PLANNER_LAP 320\n\
          #define PLANNER_TABLE_WORDS 8704\n#define PLANNER_LENGTH_AT 7680 /* for each edge */\n\
+         #define PLANNER_MARK_AV 0x4156\n#define PLANNER_MARK_RV 0x5256\n#define PLANNER_MARK_IE 0x4945\n\
+         #define PLANNER_MARK_IL 0x494C\n#define PLANNER_MARK_DE 0x4445\n#define PLANNER_MARK_TW 0x5457\n\
          int64_t planner_insert(uint16_t *table, size_t words, uint16_t e, uint16_t c1, uint16_t c2, int16_t k, uint16_t length);\n\
          int64_t planner_path(const uint16_t *table, size_t words, uint16_t dart, uint16_t type, const int32_t *points,\n\
          \x20                    size_t n_points, float *out, size_t out_words);\n\
@@ -37,6 +41,11 @@ const FILES: [(&str, &str); 5] = [
     (
         LENGTH,
         "// pub const LAP: u32 = 5;\npub const OVER_ALLOWANCE: u32 = 8;\n\n// once\npub const LAP: u32 = 320; // sixteenths\n",
+    ),
+    (
+        RECORDS,
+        "pub const MARK_AV: u16 = 0x4156;\npub const MARK_RV: u16 = 0x5256;\npub const MARK_IE: u16 = 0x4945;\n\
+         pub const MARK_IL: u16 = 0x494C;\npub const MARK_DE: u16 = 17477;\npub const MARK_TW: u16 = 0x5457;\n",
     ),
     (LAYOUT, "pub const WORDS: usize = 8704;\n\n// Where lengths begin.\npub const LENGTH: usize = 7680;\n"),
 ];
@@ -244,6 +253,13 @@ fn numbers() {
         "LENGTH: usize = 7680",
         "LENGTH: usize = 7168",
         &["PLANNER_LENGTH_AT is 7680, LENGTH of crates/table/src/layout.rt is 7168"],
+    );
+    TRIAL.after(
+        "mark",
+        HEADER,
+        "PLANNER_MARK_IL 0x494C",
+        "PLANNER_MARK_IL 0x4949",
+        &["PLANNER_MARK_IL is 18761, MARK_IL of crates/records/src/records.rt is 18764"],
     );
     let undefined = ["include/planner.h: the number PLANNER_LAP is missing"];
     TRIAL.after("undefined", HEADER, "#define PLANNER_LAP 320\n", "", &undefined);

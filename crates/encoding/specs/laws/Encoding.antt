@@ -54,7 +54,7 @@ pub record-read : (E : Edit) → Sixteen E → (rest : List ℕ) → firstRecord
 record-read (AddVertex v) h rest = mark-read v 0 0 (pos 0) 0 (omega arith) rest AV
 record-read (RemoveVertex v) h rest = mark-read v 0 0 (pos 0) 0 (omega arith) rest RV
 record-read (InsertEdge e c₁ c₂ k n) h rest = elim (truth (eqb n plainLength)) [
-  | holds q ↦ let plain : n ≡ 16 = eqb-true n plainLength q in rw q (mark-read e c₁ c₂ k n (h .3) rest IE ∙ rw plain)
+  | holds q ↦ let plain : n ≡ plainLength = eqb-true n plainLength q in rw q (mark-read e c₁ c₂ k n (h .3) rest IE ∙ rw plain)
   | fails q ↦ rw q (mark-read e c₁ c₂ k n (h .3) rest IL)
 ]
 record-read (DeleteEdge e) h rest = mark-read e 0 0 (pos 0) 0 (omega arith) rest DE

@@ -6,7 +6,6 @@ use lib.IntN.{ℤ}
 use lib.ListN.{length}
 use mir.Syntax.{w16}
 use mir.Val.{SFits, toZ, ofZ}
-use mir.Facts.{toZ-ofZ}
 use Rattle.table.specs.declared.answer.Answer.{Answer}
 use Rattle.table.specs.declared.answer.Answer.the-variants.{Declined}
 use Rattle.table.specs.declared.answer.Refusal.the-variants.{BadMark}
@@ -14,11 +13,8 @@ use Rattle.records.specs.declared.records.Mark.{Mark}
 use Rattle.records.specs.declared.records.Marked.{Marked}
 use Rattle.records.specs.declared.records.Marked.the-variants.{Known, Unknown}
 use Rattle.encoding.specs.Encoding.{recordBy}
+use Rattle.encoding.specs.laws.Writing.{same}
 use Rattle.encoding.specs.Call.{recordAnswer, recordOut, markedAnswer, markedOut}
-
--- turns that are handed on keep their value
-same : {k : ℤ} → SFits w16 k → toZ w16 (ofZ w16 k) ≡ k
-same f = toZ-ofZ {w = w16} f
 
 module _ (name c₁ c₂ : ℕ) (k : ℤ) (n : ℕ) (out : List ℕ) {a : Answer} {out′ : List ℕ} (f : SFits w16 k) where
   pub by-mark : {m m′ : Mark} → m ≡ m′

@@ -36,7 +36,8 @@ shifted (negsuc n) h = elim (minus-difference 65536 (suc n)) [
 ]
 
 module _ {k : ℤ} (f : SFits w16 k) where
-  same : toZ w16 (ofZ w16 k) ≡ k
+  -- what is handed on keeps its value
+  pub same : toZ w16 (ofZ w16 k) ≡ k
   same = toZ-ofZ {w = w16} f
 
   pub widened : SFits w32 (toZ w16 (ofZ w16 k))

@@ -1,4 +1,4 @@
--- `planner::planner_insert_edge` meets its contract. Inserts edge e with turns k: dart 2e into corner c1, then 2e+1 into c2.
+-- `planner::planner_insert_edge` meets its contract. Inserts edge e with turns k and the length of its strip: dart 2e into corner c1, then 2e+1 into c2.
 use mathlib.Core.Path.{_∙_, ap, refl}
 use Rattle.edits.specs.Rules.{replyCode}
 use Rattle.table.specs.laws.Answers.{handed-on}

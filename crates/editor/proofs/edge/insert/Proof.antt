@@ -1,4 +1,4 @@
--- `edge::insert` meets its contract. Puts edge e, of word w, between corners c1 and c2. The second dart goes first, so that with one corner for both the first stands before it.
+-- `edge::insert` meets its contract. Puts edge e, of word w and a length, between corners c1 and c2. The second dart goes first, so that with one corner for both the first stands before it.
 use Rattle.edits.specs.laws.Ready.{ready-first}
 use Rattle.edits.specs.laws.Edge.{insert-last}
 use denote.Ref.{now}

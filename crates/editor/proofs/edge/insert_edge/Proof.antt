@@ -1,4 +1,4 @@
--- `edge::insert_edge` meets its contract. Inserts edge e with turns k: dart 2e into corner c1, 2e+1 into c2. Answers the new face count and the rule met.
+-- `edge::insert_edge` meets its contract. Inserts edge e with turns k and a length: dart 2e into corner c1, 2e+1 into c2. Answers the new face count and the rule met.
 use Rattle.edits.specs.laws.WrittenGood.{may-insert-ready}
 use Rattle.edits.specs.declared.edit.Edit.the-variants.{InsertEdge}
 use Rattle.edits.specs.laws.Rules.{insert-met, was-refused}

@@ -1,4 +1,4 @@
--- `verdict::insert_verdict` meets its contract: what it names, then whether its turns pass 99.
+-- `verdict::insert_verdict` meets its contract: what it names, then whether its turns pass 99, then its length.
 use Rattle.edits.specs.laws.Verdicts.{room-is, then-declines, then-passes}
 use Rattle.edits.specs.Verdicts.{fewTurns, fairLength, andThen}
 use Rattle.edits.specs.laws.Turns.{amount-on, hundred}

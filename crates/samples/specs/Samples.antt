@@ -77,21 +77,25 @@ pub record Holds (s : Sample) : Type 0 where
   pub answered : answers emptyTable (s .edits) ≡ s .answered
   pub facts : All (Has (run emptyTable (s .edits))) (s .facts)
 
+-- document 01 gives no lengths, and its samples do not depend on them
+abbrev pub anyLength : ℕ
+anyLength = 16
+
 -- "two vertices, one edge" with turns k
 abbrev pub oneEdge : ℤ → List Edit
-oneEdge k = AddVertex 0 ∷ AddVertex 1 ∷ InsertEdge 0 (loneCorner 0) (loneCorner 1) k 16 ∷ []
+oneEdge k = AddVertex 0 ∷ AddVertex 1 ∷ InsertEdge 0 (loneCorner 0) (loneCorner 1) k anyLength ∷ []
 
 -- "one loop" with turns k
 abbrev pub oneLoop : ℤ → List Edit
-oneLoop k = AddVertex 0 ∷ InsertEdge 0 (loneCorner 0) (loneCorner 0) k 16 ∷ []
+oneLoop k = AddVertex 0 ∷ InsertEdge 0 (loneCorner 0) (loneCorner 0) k anyLength ∷ []
 
 -- a "loop of turns" k, "then turns" l "between corners 0 and 1"
 abbrev pub twoLoops : ℤ → ℤ → List Edit
-twoLoops k l = AddVertex 0 ∷ InsertEdge 0 (loneCorner 0) (loneCorner 0) k 16 ∷ InsertEdge 1 0 1 l 16 ∷ []
+twoLoops k l = AddVertex 0 ∷ InsertEdge 0 (loneCorner 0) (loneCorner 0) k anyLength ∷ InsertEdge 1 0 1 l anyLength ∷ []
 
 -- one loop with turns 99, turned by a
 abbrev pub turnedLoop : ℤ → List Edit
-turnedLoop a = AddVertex 0 ∷ InsertEdge 0 (loneCorner 0) (loneCorner 0) (pos 99) 16 ∷ TurnEdge 0 a ∷ []
+turnedLoop a = AddVertex 0 ∷ InsertEdge 0 (loneCorner 0) (loneCorner 0) (pos 99) anyLength ∷ TurnEdge 0 a ∷ []
 
 -- a line of the list
 abbrev pub sample : List Edit → List ℤ → List Fact → Sample

@@ -31,6 +31,7 @@ pub record Good (t : List ℕ) : Type 0 where
   -- "0 if not live, else its turns plus 100; turns run from -99 to 99"
   pub turns : (e : ℕ) → e < edges → edgeWord t e ≤ edgeWordMost
   pub bare : (d : ℕ) → d < darts → edgeWord t (edgeOf d) ≡ 0 → Bare t d
+  -- document 02, request g: "and a good table keeps that too"
   pub lengths : (e : ℕ) → e < edges → LengthRule t e
   -- "every live dart leaves a live vertex"
   pub leaves-low : (d : ℕ) → Live t d → leaves t d < vertices

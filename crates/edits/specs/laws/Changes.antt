@@ -173,7 +173,9 @@ module _ (t : List ℕ) where
   inserted-parity e c₁ c₂ k n m =
       let w = inserted-word k (m .few) in
       let half : edgeOf (2 * e) ≡ e = omega arith in
-      let own = inserted-own t (m .good) e c₁ c₂ (turnedWord 100 k) n (m .low) (m .free) (w .0) (w .1) (m .long) (present-corner t c₁ (m .first-there)) (present-corner t c₂ (m .second-there)) in
+      let first = present-corner t c₁ (m .first-there) in
+      let second = present-corner t c₂ (m .second-there) in
+      let own = inserted-own t (m .good) e c₁ c₂ (turnedWord 100 k) n (m .low) (m .free) (w .0) (w .1) (m .long) first second in
       let odd = odd-turned 100 k (ap overturned (hundred k) ∙ m .few) in
       ap (λ i. edgeWord (inserted t e c₁ c₂ (turnedWord 100 k) n) i % 2) half ∙ ap (λ x. x % 2) own ∙ odd ∙ omega arith
 

@@ -1,3 +1,3 @@
-// What an edit of an edge would do, asked before it is done; and the edit done only if that still holds. No code: crates `asker` and `committer`
+// What an edit of an edge would do, asked before it is done; and the edit done only if that still holds. No code: the crates `forecasts_..`
 // have it.
 pub mod forecast;

@@ -8,7 +8,7 @@ use mathlib.Core.Path.{_≡_}
 use mathlib.Core.Bool.{Bool, true, false}
 use mathlib.Core.List.{List, _++_}
 use lib.ListN.{length, take}
-use Rattle.lines.specs.Lines.{report}
+use Rattle.report_lines.specs.Lines.{report}
 use Rattle.records.specs.declared.records.Stop.{Stop}
 use Rattle.runs.specs.Run.{run}
 use Rattle.records.specs.Reading.{reading, readsOn}

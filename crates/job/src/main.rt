@@ -18,7 +18,7 @@ ghost use lib.ListN.{length, take};
 ghost use Rattle.table.specs.Good.{Good};
 ghost use Rattle.table.specs.Layout.{words};
 ghost use Rattle.table.specs.Empty.{emptyTable};
-ghost use Rattle.lines.specs.Lines.{report};
+ghost use Rattle.report_lines.specs.Lines.{report};
 ghost use Rattle.runs.specs.Run.{run};
 ghost use Rattle.records.specs.Records.{longestRecord};
 ghost use Rattle.records.specs.Reading.{reading};

@@ -1,13 +1,13 @@
 // The cut length of a ribbon, as the saw takes it: the lengths of the edges that its steps are on, an allowance for each O, and the lap.
-use letters::call::named_step;
-use letters::letter::edge_word;
-use letters::letter::overs;
 use table::answer::Answer;
 use table::layout::LENGTH;
-use walks::step::step;
+use tracing_walks::step::step;
 use weave::named::Named;
+use weave_letters::call::named_step;
+use weave_letters::letter::edge_word;
+use weave_letters::letter::overs;
 ghost use mathlib.Core.Path.{_≡_};
-ghost use Rattle.walks.specs.laws.Stands.{Stands};
+ghost use Rattle.tracing_walks.specs.laws.Stands.{Stands};
 ghost use Rattle.lengths.specs.CutLength.{lengthOf, sawLength, cutLengthOf};
 
 // What a strand that rides over takes up, and the lap that closes a ribbon, in sixteenths of a millimetre.

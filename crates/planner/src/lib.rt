@@ -1,12 +1,12 @@
 // The C interface: each function takes numbers and slices, and answers 0 or more, or minus the refusal's number.
 // A slice is a pointer and then its number of elements. `include/planner.h` declares the functions.
-use foretelling::number::asked_code;
-use foretelling::number::forecast_in;
+use edits_rule::reply::reply_code;
+use forecasts_number::number::asked_code;
+use forecasts_number::number::forecast_in;
 use reader::standing::Standing;
 use reader::standing::step_call;
-use rules::reply::reply_code;
+use reader_tally::tally::Tally;
 use table::answer::code;
-use tally::tally::Tally;
 ghost use mathlib.Core.Path.{_≡_};
 ghost use lib.ListN.{length};
 ghost use Rattle.table.specs.Answers.{codeOf};
@@ -21,11 +21,11 @@ ghost use Rattle.surface.specs.Calls.{countsAnswer, countsOut, partsAnswer, par
 ghost use Rattle.weave.specs.Calls.{alternatesOf, plainOf, lettersOf, lettersOut};
 ghost use Rattle.lengths.specs.CutLength.{cutLengthOf};
 ghost use Rattle.reader.specs.Standing.{calledOf};
-ghost use Rattle.paths.specs.PathCall.{pathAnswer, kindsOut, coordsOut};
-ghost use Rattle.wholepaths.specs.WholePath.{wholeAnswer, wholeKindsOut, wholeCoordsOut, wholeRemaindersOut};
+ghost use Rattle.floatpath.specs.PathCall.{pathAnswer, kindsOut, coordsOut};
+ghost use Rattle.wholepath.specs.WholePath.{wholeAnswer, wholeKindsOut, wholeCoordsOut, wholeRemaindersOut};
 ghost use Rattle.records.specs.Records.{markOf};
-ghost use Rattle.encoding.specs.Call.{markedAnswer, markedOut};
-ghost use Rattle.trials.specs.Trial.{trialAnswer, trialOut};
+ghost use Rattle.records_write.specs.Call.{markedAnswer, markedOut};
+ghost use Rattle.trial_jobs.specs.Trial.{trialAnswer, trialOut};
 ghost use Rattle.edits.specs.declared.edit.Edit.the-variants.{AddVertex, RemoveVertex, InsertEdge, DeleteEdge, TurnEdge};
 
 // Fills the slice with the empty mesh.
@@ -41,7 +41,7 @@ pub extern "C" fn planner_empty(words: &mut [u16]) -> i64
 pub extern "C" fn planner_check(words: &[u16]) -> i64
     ensures { λ r. ⌜ r ≡ codeOf (checkOf (now (words .entry))) ⌝ }
 {
-    code(checker::whole::check(words))
+    code(check_table::whole::check(words))
 }
 
 // Writes the listing of the table's walks, and answers its number of words.
@@ -49,7 +49,7 @@ pub extern "C" fn planner_check(words: &[u16]) -> i64
 pub extern "C" fn planner_listing(words: &[u16], out: &mut [u16]) -> i64
     ensures { λ r. ⌜ (r ≡ codeOf (listAnswer (now (words .entry)) (length (now (out .entry))))) × (now (out .exit) ≡ listOut (now (words .entry)) (now (out .entry))) ⌝ }
 {
-    code(listing::call::list(words, out))
+    code(tracing_listing::call::list(words, out))
 }
 
 // Adds vertex v.
@@ -57,7 +57,7 @@ pub extern "C" fn planner_listing(words: &[u16], out: &mut [u16]) -> i64
 pub extern "C" fn planner_add_vertex(words: &mut [u16], v: u16) -> i64
     ensures { λ r. ⌜ (r ≡ codeOf (answer (now (words .entry)) (AddVertex v))) × (now (words .exit) ≡ edited (now (words .entry)) (AddVertex v)) ⌝ }
 {
-    code(editor::vertex::add_vertex(words, v))
+    code(edits_do::vertex::add_vertex(words, v))
 }
 
 // Removes the isolated vertex v.
@@ -65,7 +65,7 @@ pub extern "C" fn planner_add_vertex(words: &mut [u16], v: u16) -> i64
 pub extern "C" fn planner_remove_vertex(words: &mut [u16], v: u16) -> i64
     ensures { λ r. ⌜ (r ≡ codeOf (answer (now (words .entry)) (RemoveVertex v))) × (now (words .exit) ≡ edited (now (words .entry)) (RemoveVertex v)) ⌝ }
 {
-    code(editor::vertex::remove_vertex(words, v))
+    code(edits_do::vertex::remove_vertex(words, v))
 }
 
 // Inserts edge e with turns k and the length of its strip: dart 2e into corner c1, then 2e+1 into c2. Answers the face count and, above its 16 bits, the rule met.
@@ -80,7 +80,7 @@ pub extern "C" fn planner_insert_edge(
 ) -> i64
     ensures { λ r. ⌜ (r ≡ replyCode (reply (now (words .entry)) (InsertEdge e c1 c2 k strip))) × (now (words .exit) ≡ edited (now (words .entry)) (InsertEdge e c1 c2 k strip)) ⌝ }
 {
-    reply_code(editor::edge::insert_edge(words, e, c1, c2, k, strip))
+    reply_code(edits_do::edge::insert_edge(words, e, c1, c2, k, strip))
 }
 
 // Deletes edge e. Answers the face count and, above its 16 bits, the rule met.
@@ -88,7 +88,7 @@ pub extern "C" fn planner_insert_edge(
 pub extern "C" fn planner_delete_edge(words: &mut [u16], e: u16) -> i64
     ensures { λ r. ⌜ (r ≡ replyCode (reply (now (words .entry)) (DeleteEdge e))) × (now (words .exit) ≡ edited (now (words .entry)) (DeleteEdge e)) ⌝ }
 {
-    reply_code(editor::edge::delete_edge(words, e))
+    reply_code(edits_do::edge::delete_edge(words, e))
 }
 
 // Turns edge e by an amount. Answers the face count and, above its 16 bits, the rule met.
@@ -96,7 +96,7 @@ pub extern "C" fn planner_delete_edge(words: &mut [u16], e: u16) -> i64
 pub extern "C" fn planner_turn_edge(words: &mut [u16], e: u16, amount: i16) -> i64
     ensures { λ r. ⌜ (r ≡ replyCode (reply (now (words .entry)) (TurnEdge e amount))) × (now (words .exit) ≡ edited (now (words .entry)) (TurnEdge e amount)) ⌝ }
 {
-    reply_code(editor::edge::turn_edge(words, e, amount))
+    reply_code(edits_do::edge::turn_edge(words, e, amount))
 }
 
 // What inserting edge e would do: the face count after, above its 16 bits the rule, above 32 the face count before.
@@ -111,7 +111,7 @@ pub extern "C" fn planner_ask_insert_edge(
 ) -> i64
     ensures { λ r. ⌜ r ≡ askedCode (ask (now (words .entry)) (InsertEdge e c1 c2 k strip)) ⌝ }
 {
-    asked_code(asker::ask::ask_insert_edge(words, e, c1, c2, k, strip))
+    asked_code(forecasts_ask::ask::ask_insert_edge(words, e, c1, c2, k, strip))
 }
 
 // What deleting edge e would do.
@@ -119,7 +119,7 @@ pub extern "C" fn planner_ask_insert_edge(
 pub extern "C" fn planner_ask_delete_edge(words: &[u16], e: u16) -> i64
     ensures { λ r. ⌜ r ≡ askedCode (ask (now (words .entry)) (DeleteEdge e)) ⌝ }
 {
-    asked_code(asker::ask::ask_delete_edge(words, e))
+    asked_code(forecasts_ask::ask::ask_delete_edge(words, e))
 }
 
 // What turning edge e by an amount would do.
@@ -127,7 +127,7 @@ pub extern "C" fn planner_ask_delete_edge(words: &[u16], e: u16) -> i64
 pub extern "C" fn planner_ask_turn_edge(words: &[u16], e: u16, amount: i16) -> i64
     ensures { λ r. ⌜ r ≡ askedCode (ask (now (words .entry)) (TurnEdge e amount)) ⌝ }
 {
-    asked_code(asker::ask::ask_turn_edge(words, e, amount))
+    asked_code(forecasts_ask::ask::ask_turn_edge(words, e, amount))
 }
 
 // Inserts edge e if ask would give this forecast now. Answers as the plain edit.
@@ -144,7 +144,7 @@ pub extern "C" fn planner_commit_insert_edge(
     ensures { λ r. ⌜ (r ≡ replyCode (commitReply (now (words .entry)) (InsertEdge e c1 c2 k strip) (forecastIn forecast)))
         × (now (words .exit) ≡ committed (now (words .entry)) (InsertEdge e c1 c2 k strip) (forecastIn forecast)) ⌝ }
 {
-    reply_code(committer::commit::commit_insert_edge(
+    reply_code(forecasts_commit::commit::commit_insert_edge(
         words,
         e,
         c1,
@@ -161,7 +161,7 @@ pub extern "C" fn planner_commit_delete_edge(words: &mut [u16], e: u16, forecast
     ensures { λ r. ⌜ (r ≡ replyCode (commitReply (now (words .entry)) (DeleteEdge e) (forecastIn forecast)))
         × (now (words .exit) ≡ committed (now (words .entry)) (DeleteEdge e) (forecastIn forecast)) ⌝ }
 {
-    reply_code(committer::commit::commit_delete_edge(words, e, forecast_in(forecast)))
+    reply_code(forecasts_commit::commit::commit_delete_edge(words, e, forecast_in(forecast)))
 }
 
 // Turns edge e by an amount if ask would give this forecast now. Answers as the plain edit.
@@ -175,7 +175,7 @@ pub extern "C" fn planner_commit_turn_edge(
     ensures { λ r. ⌜ (r ≡ replyCode (commitReply (now (words .entry)) (TurnEdge e amount) (forecastIn forecast)))
         × (now (words .exit) ≡ committed (now (words .entry)) (TurnEdge e amount) (forecastIn forecast)) ⌝ }
 {
-    reply_code(committer::commit::commit_turn_edge(words, e, amount, forecast_in(forecast)))
+    reply_code(forecasts_commit::commit::commit_turn_edge(words, e, amount, forecast_in(forecast)))
 }
 
 // Writes V, E, F, the number of parts and the Euler number, and answers five.
@@ -183,7 +183,7 @@ pub extern "C" fn planner_commit_turn_edge(
 pub extern "C" fn planner_counts(words: &[u16], out: &mut [i32]) -> i64
     ensures { λ r. ⌜ (r ≡ codeOf (countsAnswer (now (words .entry)) (length (now (out .entry))))) × (now (out .exit) ≡ countsOut (now (words .entry)) (now (out .entry))) ⌝ }
 {
-    code(measure::call::counts(words, out))
+    code(surface_calls::call::counts(words, out))
 }
 
 // Writes six words for each part, upward: smallest vertex, V, E, F, Euler number, orientable. Answers the number of words.
@@ -191,7 +191,7 @@ pub extern "C" fn planner_counts(words: &[u16], out: &mut [i32]) -> i64
 pub extern "C" fn planner_parts(words: &[u16], out: &mut [i32]) -> i64
     ensures { λ r. ⌜ (r ≡ codeOf (partsAnswer (now (words .entry)) (length (now (out .entry))))) × (now (out .exit) ≡ partsOut (now (words .entry)) (now (out .entry))) ⌝ }
 {
-    code(measure::call::parts(words, out))
+    code(surface_calls::call::parts(words, out))
 }
 
 // Does the ribbon through the step of dart and type alternate.
@@ -199,7 +199,7 @@ pub extern "C" fn planner_parts(words: &[u16], out: &mut [i32]) -> i64
 pub extern "C" fn planner_alternates(words: &[u16], dart: u16, kind: u16) -> i64
     ensures { λ r. ⌜ r ≡ codeOf (alternatesOf (now (words .entry)) dart kind) ⌝ }
 {
-    code(alternation::call::alternates(words, dart, kind))
+    code(weave_plain::call::alternates(words, dart, kind))
 }
 
 // Is the weave plain.
@@ -207,7 +207,7 @@ pub extern "C" fn planner_alternates(words: &[u16], dart: u16, kind: u16) -> i64
 pub extern "C" fn planner_plain(words: &[u16]) -> i64
     ensures { λ r. ⌜ r ≡ codeOf (plainOf (now (words .entry))) ⌝ }
 {
-    code(alternation::call::plain(words))
+    code(weave_plain::call::plain(words))
 }
 
 // Writes the letters of the ribbon through the step of dart and type, in the order of travel from it.
@@ -216,7 +216,7 @@ pub extern "C" fn planner_letters(words: &[u16], dart: u16, kind: u16, out: &mut
     ensures { λ r. ⌜ (r ≡ codeOf (lettersOf (now (words .entry)) dart kind (length (now (out .entry)))))
         × (now (out .exit) ≡ lettersOut (now (words .entry)) dart kind (now (out .entry))) ⌝ }
 {
-    code(letters::call::letters(words, dart, kind, out))
+    code(weave_letters::call::letters(words, dart, kind, out))
 }
 
 // The cut length of the ribbon through the step of dart and type, in sixteenths of a millimetre.
@@ -242,7 +242,7 @@ pub extern "C" fn planner_float_path(
         × (now (kinds .exit) ≡ kindsOut (now (words .entry)) dart kind (now (points .entry)) (now (lifts .entry)) (now (kinds .entry)) (now (coords .entry)))
         × (now (coords .exit) ≡ coordsOut (now (words .entry)) dart kind (now (points .entry)) (now (lifts .entry)) (now (kinds .entry)) (now (coords .entry))) ⌝ }
 {
-    code(paths::path::float_path(words, dart, kind, points, lifts, kinds, coords))
+    code(floatpath::path::float_path(words, dart, kind, points, lifts, kinds, coords))
 }
 
 // Writes the whole path of the ribbon through the step of dart and type: a word, three coordinates and three remainders for each piece. Answers the number of pieces.
@@ -264,7 +264,7 @@ pub extern "C" fn planner_whole_path(
         × (now (remainders .exit) ≡ wholeRemaindersOut (now (words .entry)) dart kind (now (points .entry)) (now (lifts .entry))
         (now (kinds .entry)) (now (coords .entry)) (now (remainders .entry))) ⌝ }
 {
-    code(wholepaths::path::whole_path(words, dart, kind, points, lifts, kinds, coords, remainders))
+    code(wholepath::path::whole_path(words, dart, kind, points, lifts, kinds, coords, remainders))
 }
 
 // One step of the walk reader: dart and type of the step it stands at, then those of its walk's start. Answers 1 where the walk ends at that step, else 0.
@@ -285,7 +285,7 @@ pub extern "C" fn planner_walk_step(words: &[u16], reader: &mut Standing, tally:
 pub extern "C" fn planner_trial_job(start: u32, edges: u32, out: &mut [u8]) -> i64
     ensures { λ r. ⌜ (r ≡ codeOf (trialAnswer edges (length (now (out .entry))))) × (now (out .exit) ≡ trialOut start edges (now (out .entry))) ⌝ }
 {
-    code(maker::call::trial_job(start, edges, out))
+    code(trial_make::call::trial_job(start, edges, out))
 }
 
 // Writes the job record of a mark and its arguments, and answers its number of bytes.
@@ -302,5 +302,5 @@ pub extern "C" fn planner_job_record(
     ensures { λ r. ⌜ (r ≡ codeOf (markedAnswer (markOf mark) name c1 c2 k strip (length (now (out .entry)))))
         × (now (out .exit) ≡ markedOut (markOf mark) name c1 c2 k strip (now (out .entry))) ⌝ }
 {
-    code(encoding::marked::job_record(mark, name, c1, c2, k, strip, out))
+    code(records_write::marked::job_record(mark, name, c1, c2, k, strip, out))
 }

@@ -2,7 +2,7 @@
 use Prim.Native.Nat.{ℕ}
 use mathlib.Core.List.{List}
 use denote.Ref.{RefT, now}
-use Rattle.tally.specs.declared.tally.Tally.{Tally}
+use Rattle.reader_tally.specs.declared.tally.Tally.{Tally}
 use Rattle.reader.specs.declared.walk.Stepped.{Stepped}
 use Rattle.reader.specs.declared.reader.Reader.{Reader}
 use Rattle.reader.specs.Reader.{stepOf}

@@ -17,11 +17,11 @@ use Rattle.weave.specs.declared.named.Named.{Named}
 use Rattle.weave.specs.declared.named.Named.the-variants.{There, Refused}
 use Rattle.weave.specs.Calls.{namedStep}
 use Rattle.reader.specs.declared.place.Step.{Step}
-use Rattle.tally.specs.declared.tally.Tally.{Tally}
-use Rattle.tally.specs.declared.tally.Tallied.{Tallied}
-use Rattle.tally.specs.declared.tally.Tallied.the-variants.{Brought, Kept}
+use Rattle.reader_tally.specs.declared.tally.Tally.{Tally}
+use Rattle.reader_tally.specs.declared.tally.Tallied.{Tallied}
+use Rattle.reader_tally.specs.declared.tally.Tallied.the-variants.{Brought, Kept}
 use Rattle.reader.specs.declared.walk.Stepped.{Stepped}
-use Rattle.tally.specs.Forward.{tallyOf}
+use Rattle.reader_tally.specs.Forward.{tallyOf}
 use Rattle.table.specs.Answers.{unless}
 
 -- the making of a reader: accepted, or the refusal of the step that it is made at

@@ -5,7 +5,7 @@ use Rattle.table.specs.Answers.{codeOf}
 use Rattle.reader.specs.declared.place.Step.{Step}
 use Rattle.reader.specs.declared.standing.Standing.{Standing}
 use Rattle.reader.specs.declared.standing.Called.{Called}
-use Rattle.tally.specs.declared.tally.Tally.{Tally}
+use Rattle.reader_tally.specs.declared.tally.Tally.{Tally}
 use Rattle.reader.specs.declared.walk.Stepped.{Stepped}
 use Rattle.reader.specs.Reader.{stepOf}
 

@@ -12,8 +12,8 @@ use Rattle.tracing.specs.Walk.{walk}
 use Rattle.tracing.specs.Listing.{has}
 use Rattle.lengths.specs.CutLength.{cutLengthOf}
 use Rattle.reader.specs.declared.place.Step.{Step}
-use Rattle.tally.specs.declared.tally.Tally.{Tally}
-use Rattle.tally.specs.Forward.{stepTally}
+use Rattle.reader_tally.specs.declared.tally.Tally.{Tally}
+use Rattle.reader_tally.specs.Forward.{stepTally}
 use Rattle.reader.specs.Reader.{wordAt, beginOf, stepOf, EachStep}
 use Rattle.reader.specs.Walked.{stepsFrom, afterSteps, Walked}
 use Rattle.reader.specs.laws.Reader as reader

@@ -12,7 +12,7 @@ use Rattle.tracing.specs.Listing.{bit}
 use Rattle.weave.specs.Letters.{over, under, letters}
 use Rattle.lengths.specs.CutLength.{sawLength}
 use Rattle.reader.specs.declared.place.Step.{Step}
-use Rattle.tally.specs.declared.tally.Tally.{Tally}
+use Rattle.reader_tally.specs.declared.tally.Tally.{Tally}
 use Rattle.reader.specs.declared.walk.Stepped.{Stepped}
 use Rattle.tracing.specs.Met.{times}
 use Rattle.reader.specs.Reader.{wordAt, stepOf}

@@ -1,11 +1,11 @@
 // Where a reader stands, and the refusals of its making and of its steps that come of the table and the place.
-use checker::whole::is_good;
-use letters::call::named_step;
+use check_table::whole::is_good;
 use table::answer::Answer;
 use table::answer::Refusal;
 use table::layout::DARTS;
 use table::layout::EDGE;
 use weave::named::Named;
+use weave_letters::call::named_step;
 ghost use mathlib.Core.Path.{_≡_};
 ghost use Rattle.reader.specs.Reader.{beginOf, placed as placedAt};
 

@@ -3,8 +3,8 @@
 use crate::place::Step;
 use crate::walk::Stepped;
 use crate::walk::walk_step;
+use reader_tally::tally::Tally;
 use table::answer::Answer;
-use tally::tally::Tally;
 ghost use mathlib.Core.Path.{_≡_};
 ghost use Rattle.reader.specs.Held.{readerAt, heldStep, heldAfter};
 ghost use Rattle.reader.specs.Reader.{stepOf};

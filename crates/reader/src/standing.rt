@@ -1,8 +1,8 @@
 // The walk reader as C keeps it: a record that the host lends, without the table, and one step of it by value.
 use crate::place::Step;
 use crate::reader::step_from;
+use reader_tally::tally::Tally;
 use table::answer::code;
-use tally::tally::Tally;
 ghost use mathlib.Core.Path.{_≡_};
 ghost use Rattle.reader.specs.Standing.{calledOf};
 

@@ -1,12 +1,12 @@
 // One step of a walk reader, by value: its answer, where the reader then stands, and the tally.
 use crate::place::Step;
 use crate::place::placed;
+use reader_tally::tally::Tallied;
+use reader_tally::tally::Tally;
+use reader_tally::tally::tally_step;
 use table::answer::Answer;
 use table::answer::Refusal;
-use tally::tally::Tallied;
-use tally::tally::Tally;
-use tally::tally::tally_step;
-use walks::step::step;
+use tracing_walks::step::step;
 use weave::named::Named;
 ghost use mathlib.Core.Path.{_≡_};
 ghost use Prim.Native.Nat.{_<_};

@@ -3,7 +3,7 @@ use Prim.Native.Nat.{ℕ}
 use mathlib.Core.List.{List}
 use lib.ListN.{length, take, drop}
 use Rattle.report.specs.declared.report.Window.{Window}
-use Rattle.lines.specs.Lines.{report}
+use Rattle.report_lines.specs.Lines.{report}
 
 -- the bytes of the report on t after the first `from`, at most n
 abbrev pub windowText : ℕ → ℕ → List ℕ → List ℕ

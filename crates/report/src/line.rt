@@ -1,15 +1,15 @@
 // The lines of the mesh and of the weave.
-use alternation::plain::is_plain;
-use lines::field::field;
-use lines::field::signed_field;
-use measure::mesh::measure_mesh;
+use report_lines::field::field;
+use report_lines::field::signed_field;
+use surface_calls::mesh::measure_mesh;
 use text::window::byte;
 use text::window::bytes;
+use weave_plain::plain::is_plain;
 ghost use Prim.Native.Nat.{_<_, _^_};
 ghost use Rattle.table.specs.Good.{Good};
 ghost use Rattle.table.specs.Rotation.{rotation};
-ghost use Rattle.lines.specs.Lines.{meshText, meshLine, weaveLine};
-ghost use Rattle.lines.specs.laws.Wrote.{Wrote};
+ghost use Rattle.report_lines.specs.Lines.{meshText, meshLine, weaveLine};
+ghost use Rattle.report_lines.specs.laws.Wrote.{Wrote};
 
 // The line of a mesh of these counts.
 fn write_mesh(

@@ -1,7 +1,7 @@
 // The lines of the parts, upward, read off their rows.
-use labels::forest::label_parts;
-use lines::field::signed_field;
-use measure::rows::labelled_rows;
+use report_lines::field::signed_field;
+use surface_calls::rows::labelled_rows;
+use surface_parts::forest::label_parts;
 use table::layout::VERTICES;
 use text::window::byte;
 use text::window::bytes;
@@ -11,8 +11,8 @@ ghost use Rattle.table.specs.Good.{Good};
 ghost use Rattle.table.specs.Rotation.{rotation};
 ghost use Rattle.tracing.specs.Listing.{gather};
 ghost use Rattle.surface.specs.Parts.{parts};
-ghost use Rattle.lines.specs.Lines.{partLine};
-ghost use Rattle.lines.specs.laws.Wrote.{Wrote, parts-most};
+ghost use Rattle.report_lines.specs.Lines.{partLine};
+ghost use Rattle.report_lines.specs.laws.Wrote.{Wrote, parts-most};
 ghost use Rattle.report.specs.laws.Parts.{Sided, LineOf};
 
 // o for the mark of an orientable part, n for the other.

@@ -2,15 +2,15 @@
 use crate::line::mesh_line;
 use crate::line::weave_line;
 use crate::part::part_lines;
-use lines::walk::lone_lines;
-use lines::walk::walk_lines;
+use report_lines::walk::lone_lines;
+use report_lines::walk::walk_lines;
 ghost use Prim.Native.Nat.{_-_, _<_, _^_, min};
 ghost use mathlib.Core.Path.{_≡_};
 ghost use lib.ListN.{length};
 ghost use Rattle.table.specs.Good.{Good};
 ghost use Rattle.text.specs.Paste.{paste};
 ghost use lib.Seq.{sets};
-ghost use Rattle.lines.specs.Lines.{report as reportOf};
+ghost use Rattle.report_lines.specs.Lines.{report as reportOf};
 ghost use Rattle.report.specs.Window.{windowText, windowOf};
 
 // What the window from place `from` on shows of the report on a good table. The length of the report.

@@ -1,1 +1,1 @@
-// Connected parts of a mesh, their Euler numbers, orientability. No code: crates `labels` and `measure` have it.
+// Connected parts of a mesh, their Euler numbers, orientability. No code: the crates `surface_..` have it.

@@ -1,2 +1,2 @@
-// Tracing over rotation systems: steps, walks, corners, the listing, the faces and their number. No code: crates `walks`, `listing` and `meeting` have it.
+// Tracing over rotation systems: steps, walks, corners, the listing, the faces and their number. No code: the crates `tracing_..` have it.
 pub mod meeting;

@@ -13,7 +13,7 @@ use Rattle.table.specs.Output.{front}
 use Rattle.arguments.specs.Arguments.{numberIn}
 use Rattle.arguments.specs.declared.number.Parsed.{Parsed}
 use Rattle.arguments.specs.declared.number.Parsed.the-variants.{Number, Nothing}
-use Rattle.trials.specs.Trial.{trialBytes}
+use Rattle.trial_jobs.specs.Trial.{trialBytes}
 use Rattle.trial.specs.declared.Outcome.{Outcome}
 use Rattle.trial.specs.declared.Outcome.the-variants.{Usage, BadStart, BadEdges, Job}
 

@@ -6,15 +6,15 @@ use arguments::number::Parsed;
 use arguments::number::number_in;
 use libc::STDERR_FILENO;
 use libc::STDOUT_FILENO;
-use maker::call::trial_job;
 use table::answer::Answer;
 use table::layout::EDGES;
 use text::window::bytes;
+use trial_make::call::trial_job;
 ghost use Prim.Native.Nat.{_≤_};
 ghost use mathlib.Core.Path.{_≡_};
 ghost use lib.ListN.{length};
 ghost use Rattle.table.specs.Layout.{edges as edgesMost};
-ghost use Rattle.trials.specs.Trial.{trialSize, trialBytes};
+ghost use Rattle.trial_jobs.specs.Trial.{trialSize, trialBytes};
 ghost use Rattle.trial.specs.Program.{outcome, output, message, Laid, Few};
 
 // What the arguments ask for.

@@ -1,4 +1,4 @@
-//! The copy of the check that counts its reads, crates/counting and crates/recheck, has the shape of the check: each function of the check stands there again,
+//! The copy of the check that counts its reads, crates/check_copy and crates/check_counted, has the shape of the check: each function of the check stands there again,
 //! with `read(t, X, reads)` for each `t[X]`, and with `reads` lent wherever the table is. So what is proved of the copy's reads is so of
 //! the check's. In the copy `read` alone indexes a slice, and it does so once; only `read` and `counted_check` stand for no function of
 //! the check. No other body has a bracket, so no array stands in the check either. Neither calls a function but its own, nor brings in anything but
@@ -9,9 +9,9 @@ use crate::rattle::Function;
 use crate::tree::Tree;
 use std::collections::{BTreeMap, BTreeSet};
 
-const CHECK: &str = "checker";
+const CHECK: &str = "check_table";
 /// The copy: its parts, and the whole.
-const COPY: [&str; 2] = ["counting", "recheck"];
+const COPY: [&str; 2] = ["check_copy", "check_counted"];
 /// A function of the check that stands below it, since the trace uses it as well.
 const BELOW: (&str, &str) = ("crates/table/src/block.rt", "is_dead");
 /// The functions of the copy that are its own.

@@ -4,9 +4,9 @@ use ties::copied::{counted, faults};
 use ties::small::Trial;
 
 const BELOW: &str = "crates/table/src/block.rt";
-const WHOLE: &str = "crates/checker/src/whole.rt";
-const COPY: &str = "crates/recheck/src/whole.rt";
-const READ: &str = "crates/counting/src/read.rt";
+const WHOLE: &str = "crates/check_table/src/whole.rt";
+const COPY: &str = "crates/check_counted/src/whole.rt";
+const READ: &str = "crates/check_copy/src/read.rt";
 
 const FILES: [(&str, &str); 4] = [
     (
@@ -22,7 +22,7 @@ const FILES: [(&str, &str); 4] = [
     ),
     (
         COPY,
-        "use counting::read::read;\n\npub struct Checked {\n    pub good: bool,\n    pub reads: usize,\n}\n\n\
+        "use check_copy::read::read;\n\npub struct Checked {\n    pub good: bool,\n    pub reads: usize,\n}\n\n\
          fn is_dead(t: &[u16], b: usize, reads: &mut usize) -> bool\n    requires { ⌜ now reads < room ⌝ }\n    ensures { λ r. ⌜ Told t b r reads ⌝ }\n{\n\
          \x20   read(t, BLOCK * b, reads) == 0\n}\n\nfn linked(t: &[u16], d: usize, reads: &mut usize) -> bool\n    ensures { λ r. ⌜ Told t d r reads ⌝ }\n{\n\
          \x20   // Back again, counted.\n    read(t, read(t, d, reads) as usize, reads) as usize == d\n}\n\nfn check(t: &[u16], reads: &mut usize) -> bool\n    ensures { λ r. ⌜ r ≡ good t ⌝ }\n{\n\
@@ -186,7 +186,7 @@ fn a_missing_function() {
         ],
     );
     TRIAL.found(&TRIAL.whole("no-below").remove(BELOW), &["is_dead is the copy of no", "check calls `is_dead`"]);
-    let no_check = ["crates/checker/src has no function", "linked is the copy of no", "check is the copy of no"];
+    let no_check = ["crates/check_table/src has no function", "linked is the copy of no", "check is the copy of no"];
     TRIAL.found(&TRIAL.whole("no-check").remove(WHOLE), &no_check);
 }
 
@@ -237,11 +237,11 @@ fn another_callee() {
 #[test]
 fn a_name_twice() {
     // The one that is not compared could be the one that is called.
-    let other = "crates/checker/src/other.rt";
+    let other = "crates/check_table/src/other.rt";
     let again = "fn linked(t: &[u16], d: usize) -> bool\n    ensures { λ r. ⌜ Linked t d ⌝ }\n{\n    t[d] == 0\n}\n";
     let twice = TRIAL.whole("twice-check").add(other, again);
     TRIAL.found(&twice, &["two functions of the check are named linked"]);
-    let copied = "crates/counting/src/other.rt";
+    let copied = "crates/check_copy/src/other.rt";
     let again = "fn linked(t: &[u16], d: usize, reads: &mut usize) -> bool {\n    read(t, d, reads) == 0\n}\n";
     let twice = TRIAL.whole("twice-copy").add(copied, again);
     TRIAL.found(&twice, &["two functions of the copy are named linked", "linked has "]);
@@ -258,26 +258,26 @@ fn another_import() {
     TRIAL.after(
         "function",
         COPY,
-        "use counting::read::read;",
-        "use counting::read::read;\nuse table::block::is_dead;",
-        &["crates/recheck/src/whole.rt uses `table::block::is_dead`"],
+        "use check_copy::read::read;",
+        "use check_copy::read::read;\nuse table::block::is_dead;",
+        &["crates/check_counted/src/whole.rt uses `table::block::is_dead`"],
     );
     TRIAL.after(
         "another-read",
         COPY,
-        "use counting::read::read;",
+        "use check_copy::read::read;",
         "use table::words::read;",
         &["whole.rt uses `table::words::read`"],
     );
     TRIAL.after(
         "as",
         COPY,
-        "use counting::read::read;",
+        "use check_copy::read::read;",
         "use table::block::peek as read;",
         &["whole.rt uses `table::block::peek as read`"],
     );
     TRIAL.after("check-as", WHOLE, "::is_dead;", "::is_idle as is_dead;", &["uses `table::block::is_idle as is_dead`"]);
-    TRIAL.after("many", WHOLE, "::is_dead;", "::*;", &["crates/checker/src/whole.rt uses `table::block::*`"]);
+    TRIAL.after("many", WHOLE, "::is_dead;", "::*;", &["crates/check_table/src/whole.rt uses `table::block::*`"]);
     TRIAL.after(
         "below-import",
         BELOW,
@@ -286,7 +286,7 @@ fn another_import() {
         &["crates/table/src/block.rt uses `crate::marks::MARKS`"],
     );
     let constant = "use table::other::EDGE;\nuse counting::read::read;";
-    TRIAL.after("constant-of", COPY, "use counting::read::read;", constant, &["uses `table::other::EDGE`"]);
+    TRIAL.after("constant-of", COPY, "use check_copy::read::read;", constant, &["uses `table::other::EDGE`"]);
     TRIAL.after(
         "check-constant",
         WHOLE,
@@ -295,7 +295,7 @@ fn another_import() {
         &["constant of its own"],
     );
     let right = "use table::counted::Counted;\nuse table::layout::EDGE;\nuse counting::read::read;";
-    TRIAL.after("right", COPY, "use counting::read::read;", right, &[]);
+    TRIAL.after("right", COPY, "use check_copy::read::read;", right, &[]);
 }
 
 #[test]

@@ -1,7 +1,7 @@
 -- `print_report` meets its contract. The invariant: the first `from` bytes of the report are handed over. The measure is what is left of it.
 use borrow.Author.Needs.{needs}
 use Rattle.job.specs.laws.Report.{Showing, showing-none, part-room, part-low, showing-more, showing-all}
-use Rattle.lines.specs.Lines.{report}
+use Rattle.report_lines.specs.Lines.{report}
 use Rattle.orbits.specs.laws.Truth.{clash}
 use lib.Seq.{length-take-le}
 use lib.ListN.{length}

@@ -22,7 +22,7 @@ use Rattle.records.specs.laws.Reading.{joined, reading-bounds}
 use Rattle.records.specs.Lines.{lines}
 use Rattle.records.specs.laws.Lines.{lines-few}
 use Rattle.records.specs.Blocks.{left}
-use Rattle.lines.specs.Lines.{report}
+use Rattle.report_lines.specs.Lines.{report}
 use Rattle.records.specs.laws.Blocks.{left-some, reading-left, left-again, left-few, lines-blocks, run-blocks, printed-bad, run-bad}
 use Rattle.records.specs.laws.Running.{Ready}
 use Rattle.records.specs.laws.Moving.{blockOf, block-fits}

@@ -14,7 +14,7 @@ use Rattle.table.specs.Empty.{emptyTable, emptied}
 use Rattle.table.specs.laws.Empty.{empty-good}
 use Rattle.text.specs.laws.Paste.{pasted-length}
 use Rattle.report.specs.declared.report.Window.{Window}
-use Rattle.lines.specs.Lines.{report}
+use Rattle.report_lines.specs.Lines.{report}
 use Rattle.report.specs.Window.{windowText, windowOf}
 use Rattle.report.specs.laws.Window.{window-size}
 use Rattle.records.specs.declared.records.Stop.{Stop}

@@ -22,15 +22,15 @@ use Rattle.tracing.specs.Listing.{bit, has, loneCorner}
 use Rattle.tracing.specs.Met.{times, total, edgeCount}
 use Rattle.tracing.specs.laws.Length.{walk-bound}
 use Rattle.tracing.specs.laws.Totals.{total-most, total-named, total-mirror}
-use Rattle.walks.specs.laws.Stands.{Stands, stands-low}
-use Rattle.walks.specs.laws.Along.{walk-stands}
+use Rattle.tracing_walks.specs.laws.Stands.{Stands, stands-low}
+use Rattle.tracing_walks.specs.laws.Along.{walk-stands}
 use Rattle.weave.specs.Letters.{over, wordOf, stepLetters}
 use Rattle.weave.specs.Ribbon.{some}
 use Rattle.weave.specs.declared.named.Named.{Named}
 use Rattle.weave.specs.declared.named.Named.the-variants.{There, Refused}
 use Rattle.weave.specs.Calls.{namedStep}
 use Rattle.weave.specs.laws.Calls.{there-steps}
-use Rattle.letters.specs.laws.Counts.{overs-back}
+use Rattle.weave_letters.specs.laws.Counts.{overs-back}
 use Rattle.lengths.specs.CutLength.{lengthOf, takenBy, lap, sawLength, cutLengthBy, cutLengthOf}
 use Rattle.lengths.specs.laws.Summing.{saw-total, takenMost, taken-most}
 

@@ -18,13 +18,13 @@ use Rattle.tracing.specs.Met.{times, countIn, total}
 use Rattle.tracing.specs.laws.Has.{countIn-append}
 use Rattle.tracing.specs.laws.Meets.{run-has}
 use Rattle.tracing.specs.laws.Totals.{total-last}
-use Rattle.walks.specs.laws.Stands.{Stands, stands-low}
-use Rattle.walks.specs.laws.Along.{Walking, walking-none, walking-more, walking-all, walking-few, along-few}
+use Rattle.tracing_walks.specs.laws.Stands.{Stands, stands-low}
+use Rattle.tracing_walks.specs.laws.Along.{Walking, walking-none, walking-more, walking-all, walking-few, along-few}
 use Rattle.weave.specs.Letters.{over, lettersOn, stepLetters, letters}
 use Rattle.weave.specs.Ribbon.{some}
 use Rattle.weave.specs.laws.Ribbon.{passes-some}
-use Rattle.letters.specs.laws.Crossing.{EdgeWord}
-use Rattle.letters.specs.laws.Counts.{letters-few, overs-step}
+use Rattle.weave_letters.specs.laws.Crossing.{EdgeWord}
+use Rattle.weave_letters.specs.laws.Counts.{letters-few, overs-step}
 use Rattle.lengths.specs.CutLength.{lengthOf, cutLength, overAllowance, takenBy, lap, sawLength}
 
 -- a step that passes a test, met on the way, is one of the walk's

@@ -3,7 +3,7 @@ use mathlib.Core.Path.{_∙_, ap}
 use Rattle.table.specs.Answers.{codeOf}
 use Rattle.table.specs.laws.Answers.{handed-on}
 use Rattle.records.specs.Records.{markOf}
-use Rattle.encoding.specs.laws.Marked.{handed-call}
+use Rattle.records_write.specs.laws.Marked.{handed-call}
 use borrow.Author.Needs.{needs}
 use Rattle.planner.proofs.planner_job_record.Statement.{statement}
 use Rattle.planner.proofs.planner_job_record.Tie as tie

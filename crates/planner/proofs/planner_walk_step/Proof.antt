@@ -45,12 +45,12 @@ use denote.Exit.{yes}
 use denote.Signature.{Slot, plain, shrSliceOf}
 use Rattle.reader.specs.declared.standing.Standing.{Standing}
 use Rattle.reader.specs.declared.standing.Called.{Called}
-use Rattle.tally.specs.declared.tally.Tally.{Tally}
+use Rattle.reader_tally.specs.declared.tally.Tally.{Tally}
 use Rattle.reader.specs.Standing.{calledOf}
 use Rattle.reader.proofs.standing.Standing as S
 use Rattle.reader.proofs.standing.Standing.Laws as S′
-use Rattle.tally.proofs.tally.Tally as Y
-use Rattle.tally.proofs.tally.Tally.Laws as Y′
+use Rattle.reader_tally.proofs.tally.Tally as Y
+use Rattle.reader_tally.proofs.tally.Tally.Laws as Y′
 use Rattle.reader.proofs.standing.Called as D
 use Rattle.reader.proofs.standing.Called.Laws as D′
 use Rattle.reader.proofs.standing.step_call as step-call

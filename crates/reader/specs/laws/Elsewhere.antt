@@ -16,13 +16,13 @@ use Rattle.tracing.specs.Walk.{walk}
 use Rattle.tracing.specs.Listing.{has}
 use Rattle.tracing.specs.laws.Place.{trace, trace-step}
 use Rattle.tracing.specs.laws.Meets.{walk-has}
-use Rattle.walks.specs.laws.Stands.{stands-low}
+use Rattle.tracing_walks.specs.laws.Stands.{stands-low}
 use Rattle.weave.specs.declared.named.Named.{Named}
 use Rattle.weave.specs.declared.named.Named.the-variants.{There, Refused}
 use Rattle.reader.specs.declared.place.Step.{Step}
-use Rattle.tally.specs.declared.tally.Tally.{Tally}
-use Rattle.tally.specs.declared.tally.Tallied.{Tallied}
-use Rattle.tally.specs.declared.tally.Tallied.the-variants.{Brought, Kept}
+use Rattle.reader_tally.specs.declared.tally.Tally.{Tally}
+use Rattle.reader_tally.specs.declared.tally.Tallied.{Tallied}
+use Rattle.reader_tally.specs.declared.tally.Tallied.the-variants.{Brought, Kept}
 use Rattle.reader.specs.Reader.{beginOf, wordAt, placed, steppedBy, tallyAt, stepBy, stepOf}
 use Rattle.reader.specs.Walked.{stepsFrom}
 use Rattle.reader.specs.laws.Reader.{there-placed, each-step}

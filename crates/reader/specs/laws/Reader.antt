@@ -18,17 +18,17 @@ use Rattle.table.specs.declared.answer.Refusal.{Refusal}
 use Rattle.table.specs.declared.answer.Refusal.the-variants.{Torn, NoSuchName, Absent}
 use Rattle.tracing.specs.Step.{step}
 use Rattle.tracing.specs.Listing.{bit}
-use Rattle.walks.specs.laws.Stands.{Stands}
+use Rattle.tracing_walks.specs.laws.Stands.{Stands}
 use Rattle.weave.specs.declared.named.Named.{Named}
 use Rattle.weave.specs.declared.named.Named.the-variants.{There, Refused}
 use Rattle.weave.specs.Calls.{namedStep}
 use Rattle.reader.specs.declared.place.Step.{Step}
-use Rattle.tally.specs.declared.tally.Tally.{Tally}
-use Rattle.tally.specs.declared.tally.Tallied.{Tallied}
-use Rattle.tally.specs.declared.tally.Tallied.the-variants.{Brought, Kept}
+use Rattle.reader_tally.specs.declared.tally.Tally.{Tally}
+use Rattle.reader_tally.specs.declared.tally.Tallied.{Tallied}
+use Rattle.reader_tally.specs.declared.tally.Tallied.the-variants.{Brought, Kept}
 use Rattle.reader.specs.declared.walk.Stepped.{Stepped}
-use Rattle.tally.specs.Forward.{stepTally, tallyOf}
-use Rattle.tally.specs.laws.Forward.{brought-is}
+use Rattle.reader_tally.specs.Forward.{stepTally, tallyOf}
+use Rattle.reader_tally.specs.laws.Forward.{brought-is}
 use Rattle.reader.specs.Reader.{beginBy, beginOf, wordAt, stepAt, isStep, placed, stays, endsAt, goesOn, steppedBy, tallyAt, stepBy, stepOf, EachStep}
 
 -- "Every step declines as the making of the reader would"

@@ -9,7 +9,7 @@ use mir.Val.{toZ, ofZ}
 use Rattle.table.specs.Answers.{codeOf}
 use Rattle.table.specs.laws.Answers.{handed-on}
 use Rattle.reader.specs.declared.standing.Standing.{Standing}
-use Rattle.tally.specs.declared.tally.Tally.{Tally}
+use Rattle.reader_tally.specs.declared.tally.Tally.{Tally}
 use Rattle.reader.specs.declared.walk.Stepped.{Stepped}
 use Rattle.reader.specs.Reader.{stepOf}
 use Rattle.reader.specs.Standing.{atOf, startOf, standsAt, called, calledOf}

@@ -22,23 +22,23 @@ use Rattle.tracing.specs.Walk.{walk}
 use Rattle.tracing.specs.laws.Walk.{iterates, run-suc, run-length, walk-run, walk-period, walk-period-le}
 use Rattle.tracing.specs.Listing.{gather, bit}
 use Rattle.tracing.specs.laws.Totals.{total-last}
-use Rattle.walks.specs.laws.Stands.{Stands, stands-low, stands-step}
+use Rattle.tracing_walks.specs.laws.Stands.{Stands, stands-low, stands-step}
 use Rattle.weave.specs.declared.named.Named.{Named}
 use Rattle.weave.specs.declared.named.Named.the-variants.{There, Refused}
 use Rattle.weave.specs.Letters.{over, under, stepLetters, letters}
-use Rattle.letters.specs.laws.Counts.{letters-few}
-use Rattle.letters.specs.laws.Passing.{lettersBefore, before-suc}
+use Rattle.weave_letters.specs.laws.Counts.{letters-few}
+use Rattle.weave_letters.specs.laws.Passing.{lettersBefore, before-suc}
 use Rattle.weave.specs.Ribbon.{some}
 use Rattle.weave.specs.Calls.{namedStep}
 use Rattle.weave.specs.laws.Calls.{there-steps}
 use Rattle.lengths.specs.CutLength.{takenBy, lap, cutLengthBy, cutLengthOf}
 use Rattle.lengths.specs.laws.Summing.{saw-total, takenBefore, takenMost, taken-most}
 use Rattle.reader.specs.declared.place.Step.{Step}
-use Rattle.tally.specs.declared.tally.Tally.{Tally}
+use Rattle.reader_tally.specs.declared.tally.Tally.{Tally}
 use Rattle.tracing.specs.Met.{times, countIn, total}
 use Rattle.tracing.specs.laws.Has.{countIn-append}
-use Rattle.tally.specs.Forward.{past32, fits32, forwardOf, lapAt, stepTally, tallyOf}
-use Rattle.tally.specs.laws.Forward.{lap-most}
+use Rattle.reader_tally.specs.Forward.{past32, fits32, forwardOf, lapAt, stepTally, tallyOf}
+use Rattle.reader_tally.specs.laws.Forward.{lap-most}
 use Rattle.reader.specs.Reader.{beginBy, beginOf, wordAt, stepAt, endsAt, goesOn, stepBy, stepOf}
 use Rattle.reader.specs.laws.Reader.{in-range, placed-begun, placed-there, Placed, there-placed}
 use Rattle.reader.specs.Walked.{stepsFrom, afterSteps, handed, Walked}

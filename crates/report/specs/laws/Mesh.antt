@@ -16,14 +16,14 @@ use Rattle.table.specs.laws.Lawful.{good-lawful}
 use Rattle.tracing.specs.Listing.{faceCount}
 use Rattle.surface.specs.Counts.{vertexCount}
 use Rattle.surface.specs.Signed.{meshEuler}
-use Rattle.tallies.specs.laws.EulerWord.{euler-sfits}
-use Rattle.measure.specs.laws.Mesh.{MeshCounts}
+use Rattle.surface_counts.specs.laws.EulerWord.{euler-sfits}
+use Rattle.surface_calls.specs.laws.Mesh.{MeshCounts}
 use Rattle.tracing.specs.laws.FaceCount.{faces-low}
 use Rattle.weave.specs.Letters.{plain}
-use Rattle.lines.specs.Lines.{space, newline, meshText, meshLine, kind-word, weave-word, weaveLine}
+use Rattle.report_lines.specs.Lines.{space, newline, meshText, meshLine, kind-word, weave-word, weaveLine}
 use Rattle.tracing.specs.Met.{edgeCount}
 use Rattle.text.specs.Paste.{Pasted}
-use Rattle.lines.specs.laws.Wrote.{Wrote, short}
+use Rattle.report_lines.specs.laws.Wrote.{Wrote, short}
 
 -- the mesh
 

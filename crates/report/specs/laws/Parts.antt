@@ -28,13 +28,13 @@ use Rattle.surface.specs.laws.Listed.{listed-root}
 use Rattle.surface.specs.Rows.{flagOf, row, rowsOf, rows}
 use Rattle.surface.specs.Signed.{partEuler}
 use Rattle.surface.specs.Labels.{inPart, orientable}
-use Rattle.tallies.specs.laws.EulerWord.{euler-sfits}
-use Rattle.measure.specs.laws.Rows.{Written, rows-append, flag-fits}
-use Rattle.measure.specs.laws.Mesh.{six-each, rows-length, parts-count}
+use Rattle.surface_counts.specs.laws.EulerWord.{euler-sfits}
+use Rattle.surface_calls.specs.laws.Rows.{Written, rows-append, flag-fits}
+use Rattle.surface_calls.specs.laws.Mesh.{six-each, rows-length, parts-count}
 use Rattle.tracing.specs.laws.FaceCount.{faces-low}
 use Rattle.text.specs.Decimal.{decimal, integer}
-use Rattle.lines.specs.Lines.{space, side, partLine}
-use Rattle.lines.specs.laws.Wrote.{Wrote, wrote-none, wrote-then, wrote-as, wrote-most, parts-most}
+use Rattle.report_lines.specs.Lines.{space, side, partLine}
+use Rattle.report_lines.specs.laws.Wrote.{Wrote, wrote-none, wrote-then, wrote-as, wrote-most, parts-most}
 
 -- of whatever part has this mark
 abbrev pub Sided : ℤ → ℕ → Type 0

@@ -9,10 +9,10 @@ use Rattle.table.specs.Rotation.{rotation}
 use Rattle.tracing.specs.Listing.{gather, starts, alones, loneCorner, faces}
 use Rattle.surface.specs.Parts.{parts}
 use Rattle.text.specs.Paste.{paste}
-use Rattle.lines.specs.declared.walk.Place.{Place}
-use Rattle.lines.specs.Lines.{meshLine, partLine, walkLine, numbered, weaveLine, report}
-use Rattle.lines.specs.laws.Wrote.{Wrote, wrote-then, wrote-as, lones-most, parts-most}
-use Rattle.lines.specs.laws.Walks.{numbered-append, PlacedAll, loneLines}
+use Rattle.report_lines.specs.declared.walk.Place.{Place}
+use Rattle.report_lines.specs.Lines.{meshLine, partLine, walkLine, numbered, weaveLine, report}
+use Rattle.report_lines.specs.laws.Wrote.{Wrote, wrote-then, wrote-as, lones-most, parts-most}
+use Rattle.report_lines.specs.laws.Walks.{numbered-append, PlacedAll, loneLines}
 
 -- the walks that start at a dart, then the empty ones
 faces-numbered : (t : List ℕ) → numbered (walkLine t) 0 (starts (rotation t) darts) ++ loneLines t (length (starts (rotation t) darts)) vertices ≡ numbered (walkLine t) 0 (faces (rotation t))

@@ -6,7 +6,7 @@ use lib.ListN.{length, drop, length-take, length-drop}
 use lib.Seq.{sets}
 use Rattle.text.specs.Paste.{paste}
 use Rattle.text.specs.laws.Paste.{window-shows}
-use Rattle.lines.specs.Lines.{report}
+use Rattle.report_lines.specs.Lines.{report}
 use Rattle.report.specs.Window.{windowText, windowOf}
 
 module _ (t : List ℕ) (from : ℕ) (out : List ℕ) where

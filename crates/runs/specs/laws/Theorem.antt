@@ -23,7 +23,7 @@ use Rattle.table.specs.declared.answer.Answer.the-variants.{Done}
 use Rattle.tracing.specs.Listing.{faceCount, listing}
 use Rattle.tracing.specs.laws.Met.{present-once, absent-never}
 use Rattle.tracing.specs.laws.Edges.{edge-twice}
-use Rattle.walks.specs.laws.Stands.{stands-low}
+use Rattle.tracing_walks.specs.laws.Stands.{stands-low}
 use Rattle.surgery.specs.Change.{Change, less, as-many, more, Changes}
 use Rattle.edits.specs.Edits.{edited, answer, lengthAfter}
 use Rattle.edits.specs.laws.Edits.{edited-passes, edited-declines, answer-passes, answer-declines}

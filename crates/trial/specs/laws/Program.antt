@@ -23,8 +23,8 @@ use Rattle.arguments.specs.Arguments.{numberIn}
 use Rattle.arguments.specs.laws.Reading.{number-within, number-decimal}
 use Rattle.arguments.specs.declared.number.Parsed.{Parsed}
 use Rattle.arguments.specs.declared.number.Parsed.the-variants.{Number, Nothing}
-use Rattle.trials.specs.Trial.{trialBytes, trialSize, trialAnswer, trialOut}
-use Rattle.trials.specs.laws.Size.{trial-size}
+use Rattle.trial_jobs.specs.Trial.{trialBytes, trialSize, trialAnswer, trialOut}
+use Rattle.trial_jobs.specs.laws.Size.{trial-size}
 use Rattle.trial.specs.Program.{startMost, arguments, withStart, outcome, output, message, Laid, Few}
 use Rattle.trial.specs.declared.Outcome.{Outcome}
 use Rattle.trial.specs.declared.Outcome.the-variants.{Usage, BadStart, BadEdges, Job}

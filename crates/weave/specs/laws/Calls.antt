@@ -21,7 +21,7 @@ use Rattle.table.specs.declared.answer.Answer.the-variants.{Done, Declined}
 use Rattle.table.specs.declared.answer.Refusal.{Refusal}
 use Rattle.table.specs.declared.answer.Refusal.the-variants.{Torn, NoSuchName, Absent, ShortSlice}
 use Rattle.tracing.specs.Listing.{bit}
-use Rattle.walks.specs.laws.Stands.{Stands}
+use Rattle.tracing_walks.specs.laws.Stands.{Stands}
 use Rattle.weave.specs.declared.named.Named.{Named}
 use Rattle.weave.specs.declared.named.Named.the-variants.{There, Refused}
 use Rattle.weave.specs.Letters.{letters, alternates, plain}

@@ -1,5 +1,5 @@
 -- `length::edge_length` meets its contract: the word of the edge.
-use Rattle.walks.specs.laws.Stands.{stands-low}
+use Rattle.tracing_walks.specs.laws.Stands.{stands-low}
 use mathlib.Core.Path.{refl}
 use native.Mathlib.Omega.{arith}
 use borrow.Author.Needs.{needs}

@@ -2,7 +2,7 @@
 use Rattle.lengths.specs.laws.Summing.{Summing, summing-none, summing-room, summing-more, summing-all}
 use native.Mathlib.Omega.{arith}
 use borrow.Author.Needs.{needs}
-use Rattle.walks.specs.laws.Along.{left, walking-less}
+use Rattle.tracing_walks.specs.laws.Along.{left, walking-less}
 use Rattle.lengths.proofs.length.length_along.Statement.{statement}
 use Rattle.lengths.proofs.length.length_along.Tie as tie
 

@@ -56,14 +56,14 @@ use Rattle.table.specs.declared.answer.Answer.{Answer}
 use Rattle.table.proofs.answer.Answer as E
 use Rattle.table.proofs.answer.Answer.Laws as E′
 use Rattle.reader.specs.declared.place.Step.{Step}
-use Rattle.tally.specs.declared.tally.Tally.{Tally}
+use Rattle.reader_tally.specs.declared.tally.Tally.{Tally}
 use Rattle.reader.specs.declared.walk.Stepped.{Stepped}
 use Rattle.reader.specs.declared.reader.Reader.{Reader}
 use Rattle.reader.specs.Held.{heldStep, heldAfter}
 use Rattle.reader.proofs.place.Step as S
 use Rattle.reader.proofs.place.Step.Laws as S′
-use Rattle.tally.proofs.tally.Tally as Y
-use Rattle.tally.proofs.tally.Tally.Laws as Y′
+use Rattle.reader_tally.proofs.tally.Tally as Y
+use Rattle.reader_tally.proofs.tally.Tally.Laws as Y′
 use Rattle.reader.proofs.walk.Stepped as D
 use Rattle.reader.proofs.walk.Stepped.Laws as D′
 use Rattle.reader.proofs.reader.Reader as T

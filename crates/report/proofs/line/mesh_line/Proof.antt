@@ -1,5 +1,5 @@
 -- `line::mesh_line` meets its contract: the line of the counts of the mesh.
-use Rattle.lines.specs.laws.Wrote.{wrote-as}
+use Rattle.report_lines.specs.laws.Wrote.{wrote-as}
 use Rattle.report.specs.laws.Mesh.{mesh-text}
 use borrow.Author.Needs.{needs}
 use Rattle.report.proofs.line.mesh_line.Statement.{statement}

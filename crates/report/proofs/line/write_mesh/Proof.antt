@@ -1,7 +1,7 @@
 -- `line::write_mesh` meets its contract: the word and five fields, one after the other.
 use native.Mathlib.Omega.{arith}
-use Rattle.lines.specs.laws.Wrote.{short, wrote-then, wrote-as}
-use Rattle.lines.specs.Lines.{space, meshText}
+use Rattle.report_lines.specs.laws.Wrote.{short, wrote-then, wrote-as}
+use Rattle.report_lines.specs.Lines.{space, meshText}
 use Rattle.text.specs.Decimal.{integer}
 use mir.Facts.{toZ-ofZ}
 use mathlib.Core.List.{_∷_}

@@ -1,8 +1,8 @@
 -- `part::part_line` meets its contract: the word and three fields, one after the other.
 use Rattle.surface.specs.Labels.{orientable}
 use Rattle.report.specs.laws.Parts.{vertex-text, euler-text, mark-handed}
-use Rattle.lines.specs.laws.Wrote.{short, wrote-then, wrote-as, wrote-most}
-use Rattle.lines.specs.Lines.{partText}
+use Rattle.report_lines.specs.laws.Wrote.{short, wrote-then, wrote-as, wrote-most}
+use Rattle.report_lines.specs.Lines.{partText}
 use mathlib.Core.List.{[], _∷_}
 use mathlib.Core.Path.{ap}
 use native.Mathlib.Omega.{arith}

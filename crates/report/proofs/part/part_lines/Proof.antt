@@ -2,7 +2,7 @@
 use Rattle.table.specs.Rotation.{rotation}
 use Rattle.table.specs.laws.Lawful.{good-lawful}
 use Rattle.report.specs.laws.Parts.{rows-few, Parting, parting-none, parting-near, parting-room, parting-more, parting-all}
-use Rattle.lines.specs.laws.Wrote.{wrote-length}
+use Rattle.report_lines.specs.laws.Wrote.{wrote-length}
 use Prim.Native.Nat.{_-_}
 use native.Mathlib.Omega.{arith}
 use borrow.Author.Needs.{needs}

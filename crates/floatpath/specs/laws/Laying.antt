@@ -1,0 +1,220 @@
+-- The loop that writes a float path: its pieces so far stand at the front of the two slices.
+use Prim.Native.Nat.{ℕ, suc, _+_, _*_, _<_, _≤_}
+use native.Mathlib.Omega.{arith}
+use native.Mathlib.Nat.{mul-suc, zero-add}
+use native.Mathlib.Numerals.{add-one}
+use mathlib.Core.Path.{_≡_, refl, sym, _∙_, ap}
+use mathlib.Core.Bool.{false}
+use mathlib.Core.List.{List, [], _∷_, _++_, map, append-assoc, append-nil, map-append}
+use mathlib.Core.Logic.{_≢_}
+use lib.IntN.{ℤ}
+use lib.Ieee.{Float}
+use lib.ListN.{length, set, length-append, length-map}
+use lib.Seq.{sets, length-sets}
+use Rattle.orbits.specs.laws.Truth.{truth, holds, fails, clash}
+use Rattle.table.specs.Rotation.{rotation}
+use Rattle.table.specs.laws.Lawful.{good-lawful}
+use Rattle.table.specs.Output.{front}
+use Rattle.table.specs.laws.Output.{sets-append, sets-front}
+use Rattle.tracing.specs.Step.{step}
+use Rattle.tracing.specs.Walk.{walk}
+use Rattle.tracing.specs.laws.Walk.{iterates, run-suc, run-length, walk-run, walk-period, walk-period-le}
+use Rattle.tracing_walks.specs.laws.Stands.{stands-low}
+use Rattle.tracing_walks.specs.laws.Along.{Walking, walking-none, walking-more, walking-all, along-few}
+use Rattle.weave.specs.Ribbon.{some}
+use Rattle.floatpath_pieces.specs.declared.piece.Point.{Point}
+use Rattle.floatpath_pieces.specs.declared.piece.Piece.{Piece}
+use Rattle.floatpath_pieces.specs.declared.piece.Piece.the-variants.{Close}
+use Rattle.lengths.specs.laws.Summing.{walk-some}
+use Rattle.floatpath_pieces.specs.Path.{pieceOn, pathFrom, kindOf, kindsOf, pointOf, floatsOf, text, farStep}
+use Rattle.floatpath_pieces.specs.laws.Places.{Lent}
+
+-- what is written for pieces, one after the other
+
+text-append : {A : Type 0} (f : Piece → List A) (a b : List Piece) → text f (a ++ b) ≡ text f a ++ text f b
+unfolding text
+text-append f [] b = refl
+text-append f (p ∷ a) b = rw (text-append f a b) (sym (append-assoc (f p) (text f a) (text f b)))
+
+text-one : {A : Type 0} (f : Piece → List A) (p : Piece) → text f (p ∷ []) ≡ f p
+unfolding text
+text-one f p = append-nil (f p)
+
+-- each piece takes as much
+text-length : {A : Type 0} (f : Piece → List A) (k : ℕ) → ((p : Piece) → length (f p) ≡ k) → (l : List Piece) → length (text f l) ≡ k * length l
+unfolding text
+text-length f k e [] = omega arith
+text-length f k e (p ∷ l) = let r = text-length f k e l in let h = e p in rw (length-append, mul-suc) (omega arith)
+
+pub kinds-length : (l : List Piece) → length (text kindsOf l) ≡ length l
+kinds-length l = let r = text-length kindsOf 1 (λ p. refl) l in omega arith
+
+pub floats-length : (l : List Piece) → length (text floatsOf l) ≡ 3 * length l
+floats-length l = text-length floatsOf 3 (λ p. refl) l
+
+-- one piece more
+laid-more : {A : Type 0} (f : Piece → List A) (l : List Piece) (p : Piece) (out₀ : List A) {out out′ : List A} {at : ℕ} → out ≡ sets out₀ 0 (text f l) → length (text f l) ≡ at
+    → out′ ≡ sets out at (f p) → out′ ≡ sets out₀ 0 (text f (l ++ (p ∷ [])))
+laid-more f l p out₀ w e g =
+    g ∙ rw (text-append f l (p ∷ []), text-one f p, sets-append out₀ 0 (text f l) (f p), zero-add, e, w)
+
+-- a piece, written to both slices
+pub record PieceWritten (n : ℕ) (p : Piece) (kinds : List ℕ) (coords : List Float) (kinds′ : List ℕ) (coords′ : List Float) : Type 0 where
+  pub kind : kinds′ ≡ sets kinds n (kindsOf p)
+  pub floats : coords′ ≡ sets coords (3 * n) (floatsOf p)
+
+pub wrote-made : {n : ℕ} {p : Piece} {kinds : List ℕ} {coords : List Float} {k : ℕ} {q : Point} → k ≡ kindOf p → q ≡ pointOf p
+    → PieceWritten n p kinds coords (set kinds n k) (set (set (set coords (3 * n) (q .x)) (3 * n + 1) (q .y)) (3 * n + 2) (q .z))
+wrote-made {n} {kinds = kinds} e f =
+    let two : 3 * n + 2 ≡ suc (suc (3 * n)) = omega arith in
+    record { kind = ap (set kinds n) e; floats = rw (f, add-one, two) }
+
+-- a ribbon whose words are in range, and room for its path
+pub record PathRoom (t : List ℕ) (points lifts : List ℤ) (s sizeKinds sizeCoords : ℕ) : Type 0 where
+  pub lent : Lent t points lifts s
+  pub near : some (farStep t points lifts) (walk (rotation t) s) ≡ false
+  pub kinds : length (walk (rotation t) s) < sizeKinds
+  pub coords : 3 * length (walk (rotation t) s) + 2 < sizeCoords
+
+-- the path has a piece for each step, and Close
+pub path-length : (t : List ℕ) (points lifts : List ℤ) (s : ℕ) → length (pathFrom t points lifts s) ≡ length (walk (rotation t) s) + 1
+unfolding pathFrom
+path-length t points lifts s = rw (length-append, length-map)
+
+path-room : {t : List ℕ} {points lifts : List ℤ} {s m c : ℕ} → PathRoom t points lifts s m c
+    → (length (text kindsOf (pathFrom t points lifts s)) ≤ m) × (length (text floatsOf (pathFrom t points lifts s)) ≤ c)
+path-room {t} {points} {lifts} {s} h =
+    let a = h .kinds in
+    let b = h .coords in
+    let l = path-length t points lifts s in
+    let d = kinds-length (pathFrom t points lifts s) in
+    let e = floats-length (pathFrom t points lifts s) in
+    (omega arith, omega arith)
+
+-- the pieces of the first n steps from s
+abbrev pub piecesBefore : List ℕ → List ℤ → List ℤ → ℕ → ℕ → List Piece
+piecesBefore t points lifts s n = map (pieceOn t points lifts) (iterates (step (rotation t)) s n)
+
+-- there is one step of the walk for each so far, and the present one
+walk-more : {t : List ℕ} {s n at : ℕ} → Walking t s n at → n < length (walk (rotation t) s)
+walk-more {t} {s} w =
+    let R = rotation t in
+    let L = good-lawful t (w .start .good) in
+    let low = stands-low (w .start) in
+    let p = walk-period R L s low in
+    let few = along-few (w .along) p in
+    rw (walk-run R s p (walk-period-le R L s low p), run-length (step R) s (p .steps)) few
+
+-- the pieces of a walk's steps, r of them, written
+pub record Laid (t : List ℕ) (points lifts : List ℤ) (s : ℕ) (kinds₀ : List ℕ) (coords₀ : List Float) (r : ℕ) (kinds : List ℕ) (coords : List Float) : Type 0 where
+  pub count : r ≡ length (walk (rotation t) s)
+  pub kinds-laid : kinds ≡ sets kinds₀ 0 (text kindsOf (map (pieceOn t points lifts) (walk (rotation t) s)))
+  pub coords-laid : coords ≡ sets coords₀ 0 (text floatsOf (map (pieceOn t points lifts) (walk (rotation t) s)))
+
+-- the loop over the walk
+pub record Laying (t : List ℕ) (points lifts : List ℤ) (s at n : ℕ) (kinds₀ : List ℕ) (coords₀ : List Float) (kinds : List ℕ) (coords : List Float) : Type 0 where
+  pub walking : Walking t s n at
+  pub room : PathRoom t points lifts s (length kinds₀) (length coords₀)
+  pub kinds-laid : kinds ≡ sets kinds₀ 0 (text kindsOf (piecesBefore t points lifts s n))
+  pub coords-laid : coords ≡ sets coords₀ 0 (text floatsOf (piecesBefore t points lifts s n))
+
+pub laying-none : {t : List ℕ} {points lifts : List ℤ} {s : ℕ} {kinds : List ℕ} {coords : List Float} → PathRoom t points lifts s (length kinds) (length coords)
+    → Laying t points lifts s s 0 kinds coords kinds coords
+unfolding iterates text
+laying-none k = record { walking = walking-none (k .lent .stands); room = k; kinds-laid = refl; coords-laid = refl }
+
+before-length : (t : List ℕ) (points lifts : List ℤ) (s n : ℕ) → length (piecesBefore t points lifts s n) ≡ n
+before-length t points lifts s n = length-map (iterates (step (rotation t)) s n) (pieceOn t points lifts) ∙ run-length (step (rotation t)) s n
+
+module _ {t : List ℕ} {points lifts : List ℤ} {s at n : ℕ} {kinds₀ : List ℕ} {coords₀ : List Float} {kinds : List ℕ} {coords : List Float}
+    (k : Laying t points lifts s at n kinds₀ coords₀ kinds coords) where
+  pub laying-lent : Lent t points lifts at
+  laying-lent = record { stands = k .walking .there; points-size = k .room .lent .points-size; lifts-size = k .room .lent .lifts-size }
+
+  -- a step of the ribbon is in range
+  pub laying-near : farStep t points lifts at ≡ false
+  laying-near = elim (truth (farStep t points lifts at)) [
+    | holds e ↦ absurd (clash (walk-some (k .walking) (farStep t points lifts) e) (k .room .near))
+    | fails e ↦ e
+  ]
+
+  kinds-size : length kinds ≡ length kinds₀
+  kinds-size = ap length (k .kinds-laid) ∙ length-sets kinds₀ 0 (text kindsOf (piecesBefore t points lifts s n))
+
+  coords-size : length coords ≡ length coords₀
+  coords-size = ap length (k .coords-laid) ∙ length-sets coords₀ 0 (text floatsOf (piecesBefore t points lifts s n))
+
+  pub laying-room : (n < length kinds) × (3 * n + 2 < length coords)
+  laying-room =
+      let few = walk-more (k .walking) in
+      let a = k .room .kinds in
+      let b = k .room .coords in
+      let c = kinds-size in
+      let d = coords-size in
+      (omega arith, omega arith)
+
+  -- a piece more
+  module _ {p : Piece} (q : p ≡ pieceOn t points lifts at) {kinds′ : List ℕ} {coords′ : List Float} (w : PieceWritten n p kinds coords kinds′ coords′) where
+    before-more : piecesBefore t points lifts s n ++ (p ∷ []) ≡ piecesBefore t points lifts s (n + 1)
+    before-more =
+        let f = step (rotation t) in
+        sym (rw (add-one, run-suc, k .walking .along .here, map-append (pieceOn t points lifts) (iterates f s n) (at ∷ []), q))
+
+    kinds-more : kinds′ ≡ sets kinds₀ 0 (text kindsOf (piecesBefore t points lifts s (n + 1)))
+    kinds-more =
+        let l = piecesBefore t points lifts s n in
+        rw (← before-more) (laid-more kindsOf l p kinds₀ (k .kinds-laid) (kinds-length l ∙ before-length t points lifts s n) (w .kind))
+
+    coords-more : coords′ ≡ sets coords₀ 0 (text floatsOf (piecesBefore t points lifts s (n + 1)))
+    coords-more =
+        let l = piecesBefore t points lifts s n in
+        rw (← before-more) (laid-more floatsOf l p coords₀ (k .coords-laid) (floats-length l ∙ ap (λ m. 3 * m) (before-length t points lifts s n)) (w .floats))
+
+    pub laying-more : {next : ℕ} → next ≡ step (rotation t) at → next ≢ s → Laying t points lifts s next (n + 1) kinds₀ coords₀ kinds′ coords′
+    laying-more e b = record { walking = walking-more (k .walking) e b; room = k .room; kinds-laid = kinds-more; coords-laid = coords-more }
+
+    pub laying-all : {next : ℕ} → next ≡ step (rotation t) at → next ≡ s → Laid t points lifts s kinds₀ coords₀ (n + 1) kinds′ coords′
+    laying-all e b =
+        let whole = walking-all (k .walking) e b in
+        record { count = rw whole (sym (run-length (step (rotation t)) s (n + 1))); kinds-laid = rw whole kinds-more; coords-laid = rw whole coords-more }
+
+    -- the slices keep their sizes
+    pub laying-kinds : length kinds′ ≡ length kinds₀
+    laying-kinds = ap length kinds-more ∙ length-sets kinds₀ 0 (text kindsOf (piecesBefore t points lifts s (n + 1)))
+
+    pub laying-coords : length coords′ ≡ length coords₀
+    laying-coords = ap length coords-more ∙ length-sets coords₀ 0 (text floatsOf (piecesBefore t points lifts s (n + 1)))
+
+-- "then Close"
+module _ {t : List ℕ} {points lifts : List ℤ} {s : ℕ} {kinds₀ : List ℕ} {coords₀ : List Float} {r : ℕ} {kinds : List ℕ} {coords : List Float}
+    (h : PathRoom t points lifts s (length kinds₀) (length coords₀))
+    (k : Laid t points lifts s kinds₀ coords₀ r kinds coords) where
+  pub closing-room : (r < length kinds) × (3 * r + 2 < length coords)
+  closing-room =
+      let walked = map (pieceOn t points lifts) (walk (rotation t) s) in
+      let a = h .kinds in
+      let b = h .coords in
+      let c = ap length (k .kinds-laid) ∙ length-sets kinds₀ 0 (text kindsOf walked) in
+      let d = ap length (k .coords-laid) ∙ length-sets coords₀ 0 (text floatsOf walked) in
+      let e = k .count in
+      (omega arith, omega arith)
+
+  module _ {kinds′ : List ℕ} {coords′ : List Float} (w : PieceWritten r Close kinds coords kinds′ coords′) where
+    walked-length : length (map (pieceOn t points lifts) (walk (rotation t) s)) ≡ r
+    walked-length = length-map (walk (rotation t) s) (pieceOn t points lifts) ∙ sym (k .count)
+
+    pub closing-kinds : kinds′ ≡ front (text kindsOf (pathFrom t points lifts s)) kinds₀
+    unfolding pathFrom
+    closing-kinds =
+        let walked = map (pieceOn t points lifts) (walk (rotation t) s) in
+        let room = path-room h in
+        laid-more kindsOf walked Close kinds₀ (k .kinds-laid) (kinds-length walked ∙ walked-length) (w .kind)
+        ∙ sets-front (text kindsOf (walked ++ (Close ∷ []))) kinds₀ (room .0)
+
+    pub closing-coords : coords′ ≡ front (text floatsOf (pathFrom t points lifts s)) coords₀
+    unfolding pathFrom
+    closing-coords =
+        let walked = map (pieceOn t points lifts) (walk (rotation t) s) in
+        let room = path-room h in
+        laid-more floatsOf walked Close coords₀ (k .coords-laid) (floats-length walked ∙ ap (λ m. 3 * m) walked-length) (w .floats)
+        ∙ sets-front (text floatsOf (walked ++ (Close ∷ []))) coords₀ (room .1)

@@ -1,0 +1,82 @@
+// Asking what an edit of an edge would do: its verdict, the face count and the rule by one trace, and the face count after it by the rule.
+use edits::edit::Verdict;
+use edits::rule::Reply;
+use edits_rule::deletion::delete_rule;
+use edits_rule::insertion::insert_rule;
+use edits_rule::reply::by_rule;
+use edits_rule::reply::rule_number;
+use edits_rule::turning::turn_rule;
+use edits_verdict::turns::turned_word;
+use edits_verdict::verdict::delete_verdict;
+use edits_verdict::verdict::insert_verdict;
+use edits_verdict::verdict::turn_verdict;
+use forecasts::forecast::Asked;
+use forecasts::forecast::Forecast;
+use table::layout::EDGE;
+ghost use mathlib.Core.Path.{_≡_};
+ghost use Rattle.edits.specs.declared.edit.Edit.the-variants.{InsertEdge, DeleteEdge, TurnEdge};
+ghost use Rattle.forecasts.specs.Forecast.{ask};
+ghost use Rattle.forecasts_ask.specs.laws.Ask.{askedOf};
+
+// What ask answers where the faces are so many now and the plain edit would reply so.
+fn foretell(before: u32, reply: Reply) -> Asked
+    ensures { λ a. ⌜ a ≡ askedOf before reply ⌝ }
+{
+    match reply {
+        Reply::Faces(n) => Asked::Foretold(Forecast {
+            before: before,
+            after: n,
+            rule: 0,
+        }),
+        Reply::ByRule(after, rule) => Asked::Foretold(Forecast {
+            before: before,
+            after: after,
+            rule: rule_number(rule) as u32,
+        }),
+        Reply::Refused(r) => Asked::Refused(r),
+    }
+}
+
+// What inserting edge e with turns k and a length, dart 2e into corner c1 and 2e+1 into c2, would do.
+pub fn ask_insert_edge(t: &[u16], e: u16, c1: u16, c2: u16, k: i16, length: u16) -> Asked
+    ensures { λ a. ⌜ a ≡ ask (now (t .entry)) (InsertEdge e c1 c2 k length) ⌝ }
+{
+    match insert_verdict(t, e, c1, c2, k, length) {
+        Verdict::Declines(r) => Asked::Refused(r),
+        Verdict::Passes => {
+            let w = turned_word(100, k);
+            let ruling = insert_rule(t, c1, c2, w);
+            let before = ruling.faces;
+            foretell(before, by_rule(ruling))
+        }
+    }
+}
+
+// What deleting edge e would do.
+pub fn ask_delete_edge(t: &[u16], e: u16) -> Asked
+    ensures { λ a. ⌜ a ≡ ask (now (t .entry)) (DeleteEdge e) ⌝ }
+{
+    match delete_verdict(t, e) {
+        Verdict::Declines(r) => Asked::Refused(r),
+        Verdict::Passes => {
+            let ruling = delete_rule(t, e as usize);
+            let before = ruling.faces;
+            foretell(before, by_rule(ruling))
+        }
+    }
+}
+
+// What turning edge e by an amount would do.
+pub fn ask_turn_edge(t: &[u16], e: u16, amount: i16) -> Asked
+    ensures { λ a. ⌜ a ≡ ask (now (t .entry)) (TurnEdge e amount) ⌝ }
+{
+    match turn_verdict(t, e, amount) {
+        Verdict::Declines(r) => Asked::Refused(r),
+        Verdict::Passes => {
+            let w = turned_word(t[EDGE + e as usize], amount);
+            let ruling = turn_rule(t, e as usize, w);
+            let before = ruling.faces;
+            foretell(before, by_rule(ruling))
+        }
+    }
+}

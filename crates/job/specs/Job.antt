@@ -1,8 +1,9 @@
 -- What the job program does, document 01, "The job program". What a read gives is not known to a proof, so the statements are about some bytes.
---     output       all that is printed on some bytes
---     goesOn       why the reading goes on, or not
---     Turn         what one read and the records that it makes whole change
---     Read         what the reading leaves;     Ended     what the program leaves
+--     output             all that is printed on some bytes
+--     goesOn             why the reading goes on, or not
+--     afterBlock, Turn   what one read and the records that it makes whole change
+--     Over               why a reading that went well is over
+--     Read, Ended        what the reading leaves, what the program leaves
 use Prim.Native.Nat.{ℕ, zero, suc, _+_, _≤_, _^_}
 use mathlib.Core.Path.{_≡_}
 use mathlib.Core.Bool.{Bool, true, false}
@@ -36,13 +37,14 @@ afterBlock t p came s fine = record {
   left = length (left s);
   next = p .next + length (reading s .edits);
   stop = reading s .stop;
+  came = came;
   read = p .read + came;
   printed = p .printed + length (lines t (p .next) (reading s .edits));
 }
 
 -- where a read failed: nothing more is read, and nothing else has changed
 abbrev pub failedAt : Progress → Progress
-failedAt p = record { going = false; fine = false; left = p .left; next = p .next; stop = p .stop; read = p .read; printed = p .printed }
+failedAt p = record { going = false; fine = false; left = p .left; next = p .next; stop = p .stop; came = p .came; read = p .read; printed = p .printed }
 
 -- one read: bytes came, or it failed. The bytes that were left stand before those that came.
 pub data Turn (t₀ buf₀ : List ℕ) (p : Progress) (t buf : List ℕ) (r : Progress) : Type 0 where
@@ -53,8 +55,14 @@ pub data Turn (t₀ buf₀ : List ℕ) (p : Progress) (t buf : List ℕ) (r : Pr
       → Turn t₀ buf₀ p t buf r
   failed : r ≡ failedAt p → t ≡ t₀ → take (p .left) buf ≡ take (p .left) buf₀ → Turn t₀ buf₀ p t buf r
 
+-- why a reading that went well is over: the last read gave nothing, which is the end of the input; or a record stopped it, "10 .. end the reading"; or
+-- 2 ^ 60 bytes have come
+pub data Over (came : ℕ) (stop : Stop) (read : ℕ) : Type 0 where
+  nothing-came : came ≡ 0 → Over came stop read
+  stopped : readsOn stop ≡ false → Over came stop read
+  so-many : 2 ^ 60 ≤ read → Over came stop read
+
 -- all that came has been read: there are so many bytes, and what their reading gives is what the program has. "Records count from 1."
--- It ended since no more was to be read, or with the block that brought the bytes to 2 ^ 60.
 pub record Read (t₀ t : List ℕ) (p : Progress) : Type 0 where
   pub input : List ℕ
   pub all : p .read ≡ length input
@@ -62,12 +70,15 @@ pub record Read (t₀ t : List ℕ) (p : Progress) : Type 0 where
   pub next : p .next ≡ 1 + length (reading input .edits)
   pub stop : p .stop ≡ reading input .stop
   pub printed : p .printed ≡ length (lines t₀ 1 (reading input .edits))
-  pub over : p .going ≡ true → 2 ^ 60 ≤ p .read
+  pub over : p .fine ≡ true → Over (p .came) (reading input .stop) (p .read)
   pub low : p .read ≤ 2 ^ 60 + 4096
 
--- the program's end: the table is that of all that came, and, unless something failed, as many bytes were handed over as the output has
+-- the program's end: the table is that of all that came; never more bytes were handed over than the output has, and, unless something failed, so many, and
+-- the reading was over
 pub record Ended (t₀ t : List ℕ) (r : Job) : Type 0 where
   pub input : List ℕ
   pub all : r .read ≡ length input
   pub table : t ≡ run t₀ (reading input .edits)
+  pub most : r .printed ≤ length (output t₀ input)
   pub whole : r .fine ≡ true → r .printed ≡ length (output t₀ input)
+  pub over : r .fine ≡ true → Over (r .came) (reading input .stop) (r .read)

@@ -38,7 +38,9 @@ struct Progress {
     next: u64,
     // why no whole record follows
     stop: Stop,
-    // the bytes that came
+    // how many bytes the last read gave
+    came: usize,
+    // the bytes that came, all together
     read: u64,
     // the bytes that were handed to standard output
     printed: u64,
@@ -53,6 +55,8 @@ struct Printed {
 // What the program did.
 struct Job {
     fine: bool,
+    // how many bytes the last read gave
+    came: usize,
     read: u64,
     printed: u64,
 }
@@ -104,6 +108,7 @@ fn run_and_print(t: &mut [u16], buf: &mut [u8], came: usize, p: Progress) -> Pro
         left: block.left,
         next: block.next,
         stop,
+        came,
         read: p.read + came as u64,
         printed: p.printed + lines.bytes as u64,
     }
@@ -125,6 +130,7 @@ fn read_block(t: &mut [u16], buf: &mut [u8], p: Progress) -> Progress
             left,
             next: p.next,
             stop,
+            came: p.came,
             read: p.read,
             printed: p.printed,
         };
@@ -142,12 +148,14 @@ fn read_job(t: &mut [u16]) -> Progress
     ensures { λ r. ⌜ Read (now (t .entry)) (now (t .exit)) r ⌝ }
 {
     let mut buf = io::buffer();
+    // No read has given nothing yet.
     let mut p = Progress {
         going: true,
         fine: true,
         left: 0,
         next: 1,
         stop: Stop::End,
+        came: 1,
         read: 0,
         printed: 0,
     };
@@ -169,7 +177,7 @@ fn print_stop(n: u64, stop: Stop) -> Printed
 // Prints the report, a window at a time.
 fn print_report(t: &[u16]) -> Printed
     requires { ⌜ Good (now t) ⌝ }
-    ensures { λ r. ⌜ (r .fine ≡ true → r .bytes ≡ length (report (now (t .entry)))) × (r .bytes < 2 ^ 31) ⌝ }
+    ensures { λ r. ⌜ (r .fine ≡ true → r .bytes ≡ length (report (now (t .entry)))) × (r .bytes ≤ length (report (now (t .entry)))) × (r .bytes < 2 ^ 31) ⌝ }
 {
     let mut out = io::large_buffer();
     let mut from: usize = 0;
@@ -203,24 +211,28 @@ fn run_job(t: &mut [u16]) -> Job
     if !p.fine {
         return Job {
             fine: false,
+            came: p.came,
             read: p.read,
             printed: p.printed,
         };
     }
     let stop = p.stop;
     let line = print_stop(p.next, stop);
+    let printed = p.printed + line.bytes as u64;
     if !line.fine {
         return Job {
             fine: false,
+            came: p.came,
             read: p.read,
-            printed: p.printed,
+            printed,
         };
     }
     let lines = print_report(t);
     Job {
         fine: lines.fine,
+        came: p.came,
         read: p.read,
-        printed: p.printed + line.bytes as u64 + lines.bytes as u64,
+        printed: printed + lines.bytes as u64,
     }
 }
 

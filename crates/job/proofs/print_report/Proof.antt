@@ -1,6 +1,6 @@
 -- `print_report` meets its contract. The invariant: the first `from` bytes of the report are handed over. The measure is what is left of it.
 use borrow.Author.Needs.{needs}
-use Rattle.job.specs.laws.Report.{Showing, showing-none, part-room, part-low, showing-more, showing-all}
+use Rattle.job.specs.laws.Report.{Showing, showing-none, part-room, part-low, part-within, showing-more, showing-all}
 use Rattle.report_lines.specs.Lines.{report}
 use Rattle.orbits.specs.laws.Truth.{clash}
 use lib.Seq.{length-take-le}
@@ -60,14 +60,15 @@ returns c =
     let loop = c .before .before .before .before .before .before .before .before .loop in
     let show = c .before .before .before .before .before .before .show in
     let print = c .before .before .before .print in
-    (λ e. absurd (clash e refl), part-low (loop .inv) (show .ensures) (print .ensures))
+    (λ e. absurd (clash e refl), part-within (loop .inv) (show .ensures) (print .ensures), part-low (loop .inv) (show .ensures) (print .ensures))
 
 returns-2 : tie.Need-returns-2 Inv-loop μ-loop
 returns-2 c =
     let loop = c .before .before .before .before .before .before .before .before .before .before .loop in
     let show = c .before .before .before .before .before .before .before .before .show in
     let print = c .before .before .before .before .before .print in
-    (λ e. showing-all (loop .inv) (show .ensures) (print .ensures) (c .if2 .taken), part-low (loop .inv) (show .ensures) (print .ensures))
+    let shown = show .ensures in
+    (λ e. showing-all (loop .inv) shown (print .ensures) (c .if2 .taken), part-within (loop .inv) shown (print .ensures), part-low (loop .inv) shown (print .ensures))
 
 loop-less : tie.Need-loop-less Inv-loop μ-loop
 loop-less c =

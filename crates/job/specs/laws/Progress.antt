@@ -9,7 +9,7 @@ use mathlib.Core.List.{List, [], _∷_, _++_}
 use lib.ListN.{length, take, drop, length-append, length-drop}
 use lib.Seq.{sets, length-sets, length-take-le, take-nil, drop-nil}
 use borrow.Author.Tests.{not-true, not-false}
-use Rattle.orbits.specs.laws.Truth.{clash}
+use Rattle.orbits.specs.laws.Truth.{clash, truth, holds, fails}
 use Rattle.table.specs.Good.{Good}
 use Rattle.text.specs.laws.Paste.{front-text}
 use Rattle.records.specs.declared.block.Block.{Block}
@@ -22,12 +22,11 @@ use Rattle.records.specs.laws.Reading.{joined, reading-bounds}
 use Rattle.records.specs.Lines.{lines}
 use Rattle.records.specs.laws.Lines.{lines-few}
 use Rattle.records.specs.Blocks.{left}
-use Rattle.report_lines.specs.Lines.{report}
-use Rattle.records.specs.laws.Blocks.{left-some, reading-left, left-again, left-few, lines-blocks, run-blocks, printed-bad, run-bad}
+use Rattle.records.specs.laws.Blocks.{left-some, reading-left, left-again, left-few, lines-blocks, run-blocks}
 use Rattle.records.specs.laws.Running.{Ready}
 use Rattle.records.specs.laws.Moving.{blockOf, block-fits}
 use Rattle.job.specs.declared.Progress.{Progress}
-use Rattle.job.specs.Job.{output, goesOn, afterBlock, Turn, came, failed, Read}
+use Rattle.job.specs.Job.{goesOn, afterBlock, Turn, came, failed, Over, nothing-came, stopped, so-many, Read}
 
 -- the first n bytes of the buffer, and a buffer for the lines
 module _ (number n : ℕ) (t buf out : List ℕ) (e : length buf ≡ 4096) (l : n ≤ 4096) (h : number ≤ 2 ^ 61) (f : 65536 ≡ length out) where
@@ -50,7 +49,7 @@ module _ (number n : ℕ) (t buf out : List ℕ) (e : length buf ≡ 4096) (l : 
     -- how far the reading is then, where the lines were handed over
     pub block-after : (p : Progress) (new : ℕ) {going fine : Bool} {bytes : ℕ} → p .next ≡ number
         → going ≡ goesOn fine new (b .stop) → bytes ≡ length (take (b .written) out′)
-        → record { going = going; fine = fine; left = b .left; next = b .next; stop = b .stop; read = p .read + new; printed = p .printed + bytes }
+        → record { going = going; fine = fine; left = b .left; next = b .next; stop = b .stop; came = new; read = p .read + new; printed = p .printed + bytes }
         ≡ afterBlock t p new (take n buf) fine
     block-after p new same goes handed =
         let bytes-all = handed ∙ length-take-le (b .written) out′ block-written in
@@ -72,6 +71,11 @@ goes-reads : (fine : Bool) (new : ℕ) (stop : Stop) → goesOn fine new stop �
 goes-reads false new stop e = absurd (clash e refl)
 goes-reads true zero stop e = absurd (clash e refl)
 goes-reads true (suc new) stop e = e
+
+goes-over : {came read : ℕ} (fine : Bool) (new : ℕ) (stop : Stop) → fine ≡ true → goesOn fine new stop ≡ false → came ≡ new → Over came stop read
+goes-over false new stop f e c = absurd (clash f refl)
+goes-over true zero stop f e c = nothing-came c
+goes-over true (suc new) stop f e c = stopped e
 
 -- one read
 
@@ -111,6 +115,7 @@ pub record Going (t₀ t buf : List ℕ) (p : Progress) : Type 0 where
   pub waits : p .left ≡ length (left input)
   pub front : take (p .left) buf ≡ left input
   pub on : p .going ≡ true → readsOn (reading input .stop) ≡ true
+  pub over : p .fine ≡ true → p .going ≡ false → Over (p .came) (reading input .stop) (p .read)
 
 nothing-read : reading [] ≡ ended End
 unfolding reading readUpTo
@@ -120,7 +125,7 @@ nothing-left : left [] ≡ []
 nothing-left = left-some [] (ap (λ r. readsOn (r .stop)) nothing-read) ∙ drop-nil (reading [] .taken)
 
 pub going-none : {t buf : List ℕ} → Good t → 4096 ≡ length buf
-    → Going t t buf (record { going = true; fine = true; left = 0; next = 1; stop = End; read = 0; printed = 0 })
+    → Going t t buf (record { going = true; fine = true; left = 0; next = 1; stop = End; came = 1; read = 0; printed = 0 })
 unfolding run lines
 going-none {t} g e = record {
   input = [];
@@ -136,6 +141,7 @@ going-none {t} g e = record {
   waits = rw nothing-left;
   front = rw nothing-left;
   on = λ q. rw nothing-read;
+  over = λ f q. absurd (clash refl q);
 }
 
 -- what the next turn asks
@@ -212,6 +218,8 @@ module _ {t₀ t buf : List ℕ} {p : Progress} (k : Going t₀ t buf p) (g : p 
         waits = ap (λ x. x .left) after ∙ ap length (sym (left-again (k .input) new (k .on g)));
         front = h ∙ ap left here ∙ sym (left-again (k .input) new (k .on g));
         on = λ q. rw whole (goes-reads (p′ .fine) (length new) (reading s .stop) (sym (ap (λ x. x .going) after) ∙ q));
+        over = λ q r. rw whole
+            (goes-over (p′ .fine) (length new) (reading s .stop) q (sym (ap (λ x. x .going) after) ∙ r) (ap (λ x. x .came) after));
       }
   going-more (failed e f h) z y = record {
     input = k .input;
@@ -227,21 +235,18 @@ module _ {t₀ t buf : List ℕ} {p : Progress} (k : Going t₀ t buf p) (g : p 
     waits = rw e (k .waits);
     front = ap (λ x. take (x .left) buf′) e ∙ h ∙ k .front;
     on = λ q. absurd (clash q (ap (λ x. x .going) e));
+    over = λ q r. absurd (clash q (ap (λ x. x .fine) e));
   }
 
 -- the reading is over
 pub going-over : {t₀ t buf : List ℕ} {p : Progress} → Going t₀ t buf p → (p .going ≡ true → 2 ^ 60 ≤ p .read) → Read t₀ t p
-going-over k h = record {
+going-over {p = p} k h = record {
   input = k .input;
   all = k .all;
   table = k .table;
   next = k .next;
   stop = k .stop;
   printed = k .printed;
-  over = h;
+  over = λ f. elim (truth (p .going)) [ holds g ↦ so-many (h g) | fails g ↦ k .over f g ];
   low = k .low;
 }
-
--- why nothing has to be read after a bad mark: whatever follows, the output is the same
-pub output-bad : (t s rest : List ℕ) → readsOn (reading s .stop) ≡ false → output t (s ++ rest) ≡ output t s
-output-bad t s rest h = ap₂ (λ a u. a ++ report u) (printed-bad t 1 s rest h) (run-bad t 1 s rest h)

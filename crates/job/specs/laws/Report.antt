@@ -2,11 +2,11 @@
 use Prim.Native.Nat.{ℕ, _+_, _-_, _≤_, _<_, _^_, min}
 use native.Mathlib.Omega.{arith}
 use mathlib.Core.Path.{_≡_, refl, sym, _∙_, ap}
-use mathlib.Core.Bool.{Bool, true, false}
+use mathlib.Core.Bool.{Bool, true, false, not}
 use mathlib.Core.List.{List}
 use lib.ListN.{length, take, length-append}
 use lib.Seq.{sets, length-sets, length-take-le}
-use borrow.Author.Tests.{eq-eqb}
+use borrow.Author.Tests.{eq-eqb, not-false}
 use Rattle.orbits.specs.laws.Truth.{clash}
 use Rattle.table.specs.Layout.{words}
 use Rattle.table.specs.Good.{Good}
@@ -26,7 +26,7 @@ use Rattle.records.specs.Lines.{lines, stopLine}
 use Rattle.records.specs.laws.Lines.{lines-few, stop-few}
 use Rattle.records.specs.Blocks.{printed}
 use Rattle.job.specs.declared.Progress.{Progress}
-use Rattle.job.specs.Job.{Read, Ended}
+use Rattle.job.specs.Job.{output, Read, Ended}
 use Rattle.text.specs.Paste.{Pasted}
 
 -- the last line has room, and all of it is handed over
@@ -87,6 +87,9 @@ module _ {t out : List ℕ} {from : ℕ} (k : Showing t out from) {w : Window} {
         let handed = part-handed in
         omega arith
 
+    pub part-within : from + bytes ≤ length (report t)
+    part-within = let within = k .within in let handed = part-handed in omega arith
+
     pub showing-more : from + bytes < w .size → Showing t out′ (from + bytes) × (length (report t) - (from + bytes) < length (report t) - from)
     showing-more q =
         let p = shows-part in
@@ -116,8 +119,31 @@ module _ (t₁ : List ℕ) {t₀ : List ℕ} (h : length t₁ ≡ words) (s : t�
     pub read-good : Good t
     read-good = rw (k .table) (run-good t₀ (reading (k .input) .edits) start-good)
 
-    pub ended-early : (n : ℕ) → Ended emptyTable t (record { fine = false; read = p .read; printed = n })
-    ended-early n = record { input = k .input; all = k .all; table = k .table ∙ ap (λ x. run x (reading (k .input) .edits)) start; whole = λ e. absurd (clash e refl) }
+    -- how many bytes the output has
+    output-size : length (output emptyTable (k .input)) ≡ p .printed + length (stopLine (p .next) (p .stop)) + length (report t)
+    unfolding printed
+    output-size =
+        let said = k .printed in
+        let Es = reading (k .input) .edits in
+        let stop : length (stopLine (1 + length Es) (reading (k .input) .stop)) ≡ length (stopLine (p .next) (p .stop)) = rw (k .next, k .stop) in
+        let after : length (report (run t₀ Es)) ≡ length (report t) = rw (k .table) in
+        rw (← start) (simp length-append (omega arith))
+
+    -- the program's end, after so many bytes were handed over
+    ended : {bytes : ℕ} {fine : Bool} → bytes ≤ p .printed + length (stopLine (p .next) (p .stop)) + length (report t)
+        → (fine ≡ true → (bytes ≡ p .printed + length (stopLine (p .next) (p .stop)) + length (report t)) × (p .fine ≡ true))
+        → Ended emptyTable t (record { fine = fine; came = p .came; read = p .read; printed = bytes })
+    ended m w = record {
+      input = k .input;
+      all = k .all;
+      table = k .table ∙ ap (λ x. run x (reading (k .input) .edits)) start;
+      most = rw output-size m;
+      whole = λ e. w e .0 ∙ sym output-size;
+      over = λ e. k .over (w e .1);
+    }
+
+    pub ended-early : Ended emptyTable t (record { fine = false; came = p .came; read = p .read; printed = p .printed })
+    ended-early = ended (omega arith) (λ e. absurd (clash e refl))
 
     module _ {line : ℕ} (a : line ≡ length (stopLine (p .next) (p .stop))) where
       -- the numbers of bytes can be added
@@ -134,18 +160,9 @@ module _ (t₁ : List ℕ) {t₀ : List ℕ} (h : length t₁ ≡ words) (s : t�
           let few = stop-few (p .next) (p .stop) (omega arith) in
           omega arith
 
-      pub ended-whole : {lines : ℕ} {fine : Bool} → (fine ≡ true → lines ≡ length (report t))
-          → Ended emptyTable t (record { fine = fine; read = p .read; printed = p .printed + line + lines })
-      unfolding printed
-      ended-whole {lines} b = record {
-        input = k .input;
-        all = k .all;
-        table = k .table ∙ ap (λ x. run x (reading (k .input) .edits)) start;
-        whole = λ e.
-            let rest = b e in
-            let said = k .printed in
-            let Es = reading (k .input) .edits in
-            let stop : length (stopLine (1 + length Es) (reading (k .input) .stop)) ≡ line = rw (← k .next, ← k .stop) (sym a) in
-            let after : length (report (run t₀ Es)) ≡ lines = rw (← k .table) (sym rest) in
-            rw (← start) (simp length-append (omega arith));
-      }
+      pub ended-line : Ended emptyTable t (record { fine = false; came = p .came; read = p .read; printed = p .printed + line })
+      ended-line = ended (omega arith) (λ e. absurd (clash e refl))
+
+      pub ended-whole : {lines : ℕ} {fine : Bool} → not (p .fine) ≡ false → (fine ≡ true → lines ≡ length (report t)) → lines ≤ length (report t)
+          → Ended emptyTable t (record { fine = fine; came = p .came; read = p .read; printed = p .printed + line + lines })
+      ended-whole f b m = ended (omega arith) (λ e. let rest = b e in (omega arith, not-false (p .fine) f))

@@ -10,7 +10,7 @@ use Rattle.table.specs.Check.{good?}
 use Rattle.table.specs.declared.answer.Answer.{Answer}
 use Rattle.table.specs.declared.answer.Answer.the-variants.{Done, Declined}
 use Rattle.table.specs.declared.answer.Refusal.{Refusal}
-use Rattle.table.specs.declared.answer.Refusal.the-variants.{Torn, NoSuchName, Absent}
+use Rattle.table.specs.declared.answer.Refusal.the-variants.{Torn, NoSuchName, Absent, Overturned}
 use Rattle.tracing.specs.Step.{step}
 use Rattle.tracing.specs.Listing.{bit}
 use Rattle.weave.specs.declared.named.Named.{Named}
@@ -87,8 +87,14 @@ stepOf t at first y = stepBy t at first y (placed t at first)
 
 -- every step, of a reader that stands anywhere and whose walk began anywhere
 pub record EachStep (t : List ℕ) (y : Tally) : Type 0 where
-  -- "Every step declines as the making of the reader would"
+  -- "Every step declines as the making of the reader would": of a reader that could not be made, every step is declined so
   pub as-made : (s : Step) {r : Refusal} → beginOf t (s .dart) (s .kind) ≡ Declined r → stepOf t s s y ≡ stays s y r
+  -- and of one whose start is one that can be made, a step is declined as the making of a reader where it stands would be
+  pub as-made-there : (at first : Step) → beginOf t (first .dart) (first .kind) ≡ Done 0 → {r : Refusal} → beginOf t (at .dart) (at .kind) ≡ Declined r
+      → stepOf t at first y ≡ stays at y r
+  -- and otherwise for its tally alone: "a tally that a step would carry past 32 bits is declined with 6"
+  pub else-overturned : (at first : Step) → beginOf t (first .dart) (first .kind) ≡ Done 0 → beginOf t (at .dart) (at .kind) ≡ Done 0
+      → {r : Refusal} → stepOf t at first y .answer ≡ Declined r → r ≡ Overturned
   -- "after a declined step the reader has not moved"
   pub not-moved : (at first : Step) {r : Refusal} → stepOf t at first y .answer ≡ Declined r → stepOf t at first y ≡ stays at y r
   -- "whether the walk ends there": where a step says so the reader is back at its start, dart and type

@@ -25,8 +25,7 @@ use Rattle.reader_tally.specs.declared.tally.Tallied.{Tallied}
 use Rattle.reader_tally.specs.declared.tally.Tallied.the-variants.{Brought, Kept}
 use Rattle.reader.specs.Reader.{beginOf, wordAt, placed, steppedBy, tallyAt, stepBy, stepOf}
 use Rattle.reader.specs.Walked.{stepsFrom}
-use Rattle.reader.specs.laws.Reader.{there-placed, each-step}
-use Rattle.reader.specs.laws.Walked.{begun-placed}
+use Rattle.reader.specs.laws.Reader.{there-placed, begun-placed, each-step}
 
 module _ (t : List ℕ) (at first : Step) (y : Tally) where
   abbrev On : Step → Type 0

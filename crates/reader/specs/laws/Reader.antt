@@ -2,7 +2,7 @@
 use Prim.Native.Nat.{ℕ, _+_, _*_, _/_, _%_, _<_, _≤_}
 use native.Mathlib.Omega.{arith}
 use mathlib.Core.Path.{_≡_, refl, sym, _∙_, ap}
-use mathlib.Core.Bool.{Bool, true, false, _&&_}
+use mathlib.Core.Bool.{Bool, true, false, _&&_, and-true}
 use mathlib.Core.List.{List}
 use lib.Dec.{ltb, eqb}
 use borrow.Author.Tests.{lt-ltb, le-ltb, ltb-true, eqb-true, eq-eqb, ne-eqb}
@@ -15,7 +15,7 @@ use Rattle.table.specs.laws.Check.{good-case}
 use Rattle.table.specs.laws.Output.{done-same, done-declined}
 use Rattle.table.specs.declared.answer.Answer.the-variants.{Done, Declined}
 use Rattle.table.specs.declared.answer.Refusal.{Refusal}
-use Rattle.table.specs.declared.answer.Refusal.the-variants.{Torn, NoSuchName, Absent}
+use Rattle.table.specs.declared.answer.Refusal.the-variants.{Torn, NoSuchName, Absent, Overturned}
 use Rattle.tracing.specs.Step.{step}
 use Rattle.tracing.specs.Listing.{bit}
 use Rattle.tracing_walks.specs.laws.Stands.{Stands}
@@ -28,7 +28,7 @@ use Rattle.reader_tally.specs.declared.tally.Tallied.{Tallied}
 use Rattle.reader_tally.specs.declared.tally.Tallied.the-variants.{Brought, Kept}
 use Rattle.reader.specs.declared.walk.Stepped.{Stepped}
 use Rattle.reader_tally.specs.Forward.{stepTally, tallyOf}
-use Rattle.reader_tally.specs.laws.Forward.{brought-is}
+use Rattle.reader_tally.specs.laws.Forward.{brought-is, kept-is}
 use Rattle.reader.specs.Reader.{beginBy, beginOf, wordAt, stepAt, isStep, placed, stays, endsAt, goesOn, steppedBy, tallyAt, stepBy, stepOf, EachStep}
 
 -- "Every step declines as the making of the reader would"
@@ -40,13 +40,17 @@ placed-begun t s = rw (and-self (isStep (s .dart) (s .kind)), and-self (live? t 
     and-self true = refl
     and-self false = refl
 
+begun-refused : {r : Refusal} (n : Named) → beginBy n ≡ Declined r → n ≡ Refused r
+begun-refused (There x) f = absurd (done-declined (sym f))
+begun-refused {r} (Refused q) f = let same : q ≡ r = cc in ap Refused same
+
+pub begun-named : (n : Named) → beginBy n ≡ Done 0 → (x : ℕ) × (There x ≡ n)
+begun-named (There x) e = (x, refl)
+begun-named (Refused r) e = absurd (done-declined e)
+
 -- and so a reader that could not be made hands out no step
 begun-declined : (t : List ℕ) (s : Step) (y : Tally) {r : Refusal} → beginOf t (s .dart) (s .kind) ≡ Declined r → stepOf t s s y ≡ stays s y r
-begun-declined t s y {r} e = ap (stepBy t s s y) (placed-begun t s ∙ refused (namedStep t (s .dart) (s .kind)) e)
-  where
-    refused : (n : Named) → beginBy n ≡ Declined r → n ≡ Refused r
-    refused (There x) f = absurd (done-declined (sym f))
-    refused (Refused q) f = let same : q ≡ r = cc in ap Refused same
+begun-declined t s y e = ap (stepBy t s s y) (placed-begun t s ∙ begun-refused (namedStep t (s .dart) (s .kind)) e)
 
 -- the ends of the making
 
@@ -133,6 +137,37 @@ there-placed {t} {at} {first} {s} e = elim (truth (good? t)) [
   where
     other : {r : Refusal} → There s ≡ Refused r → ⊥
     other f = let z : _≡_ {A = ℕ} 0 1 = cc in omega arith
+
+-- a reader that can be made
+pub begun-placed : (t : List ℕ) (s : Step) → beginOf t (s .dart) (s .kind) ≡ Done 0 → Placed t s s (wordAt s)
+begun-placed t s b =
+    let n = begun-named (namedStep t (s .dart) (s .kind)) b in
+    let h = there-placed (n .1 ∙ sym (placed-begun t s)) in rw (h .word) at h
+
+-- wherever it has come, it is placed as one that is made there
+placed-made : (t : List ℕ) (at first : Step) → beginOf t (first .dart) (first .kind) ≡ Done 0 → placed t at first ≡ namedStep t (at .dart) (at .kind)
+unfolding placed namedStep
+placed-made t at first b =
+    let h = begun-placed t first b in
+    let low = h .first-type in
+    let half : wordAt first / 2 ≡ first .dart = omega arith in
+    let live : live? t (first .dart) ≡ true = rw half at (h .stands .live) in
+    rw (in-range (first .dart) (first .kind) (h .first-low) (omega arith), live, and-true (isStep (at .dart) (at .kind)), and-true (live? t (at .dart)))
+
+module _ (t : List ℕ) (y : Tally) (at first : Step) (b : beginOf t (first .dart) (first .kind) ≡ Done 0) where
+  made-declined : {r : Refusal} → beginOf t (at .dart) (at .kind) ≡ Declined r → stepOf t at first y ≡ stays at y r
+  made-declined e = ap (stepBy t at first y) (placed-made t at first b ∙ begun-refused (namedStep t (at .dart) (at .kind)) e)
+
+  made-overturned : beginOf t (at .dart) (at .kind) ≡ Done 0 → {r : Refusal} → stepOf t at first y .answer ≡ Declined r → r ≡ Overturned
+  made-overturned h {r} = by (placed t at first) (begun-named (namedStep t (at .dart) (at .kind)) h .1 ∙ sym (placed-made t at first b))
+    where
+      tallied : (s : ℕ) (m : Tallied) → m ≡ tallyAt t first s y → steppedBy t at first y s m .answer ≡ Declined r → r ≡ Overturned
+      tallied s (Brought z) g e = absurd (done-declined (sym e))
+      tallied s (Kept q) g e = let same : q ≡ r = cc in sym same ∙ kept-is t s (endsAt (step (rotation t) s) first) y g
+
+      by : (n : Named) {x : ℕ} → There x ≡ n → stepBy t at first y n .answer ≡ Declined r → r ≡ Overturned
+      by (There s) p e = tallied s (tallyAt t first s y) refl e
+      by (Refused q) p e = let z : _≡_ {A = ℕ} 0 1 = cc in absurd (let no : ⊥ = omega arith in no)
 
 -- the ends of a step
 
@@ -225,6 +260,8 @@ step-tallied t at first y n = by (placed t at first) refl
 pub each-step : (t : List ℕ) (y : Tally) → EachStep t y
 each-step t y = record {
   as-made = λ s. begun-declined t s y;
+  as-made-there = made-declined t y;
+  else-overturned = made-overturned t y;
   not-moved = declined-rests t y;
   back = ends-back t y;
 }

@@ -15,7 +15,6 @@ use Rattle.table.specs.Rotation.{rotation, live?}
 use Rattle.table.specs.laws.Rotation.{live-yes}
 use Rattle.table.specs.laws.Lawful.{good-lawful}
 use Rattle.table.specs.laws.Check.{good-yes}
-use Rattle.table.specs.laws.Output.{done-declined}
 use Rattle.table.specs.declared.answer.Answer.the-variants.{Done}
 use Rattle.tracing.specs.Step.{step, steps}
 use Rattle.tracing.specs.Walk.{walk}
@@ -39,8 +38,8 @@ use Rattle.tracing.specs.Met.{times, countIn, total}
 use Rattle.tracing.specs.laws.Has.{countIn-append}
 use Rattle.reader_tally.specs.Forward.{past32, fits32, forwardOf, lapAt, stepTally, tallyOf}
 use Rattle.reader_tally.specs.laws.Forward.{lap-most}
-use Rattle.reader.specs.Reader.{beginBy, beginOf, wordAt, stepAt, endsAt, goesOn, stepBy, stepOf}
-use Rattle.reader.specs.laws.Reader.{in-range, placed-begun, placed-there, Placed, there-placed}
+use Rattle.reader.specs.Reader.{beginOf, wordAt, stepAt, endsAt, goesOn, stepBy, stepOf}
+use Rattle.reader.specs.laws.Reader.{in-range, placed-there, begun-named, begun-placed}
 use Rattle.reader.specs.Walked.{stepsFrom, afterSteps, handed, Walked}
 
 module _ (t : List ℕ) (first : Step) (start : Stands t (wordAt first)) (type : first .kind < 2)
@@ -203,15 +202,6 @@ module _ (t : List ℕ) (first : Step) (start : Stands t (wordAt first)) (type :
       }
 
 -- a step that a reader can be made at
-begun-named : (n : Named) → beginBy n ≡ Done 0 → (x : ℕ) × (There x ≡ n)
-begun-named (There x) e = (x, refl)
-begun-named (Refused r) e = absurd (done-declined e)
-
-pub begun-placed : (t : List ℕ) (s : Step) → beginOf t (s .dart) (s .kind) ≡ Done 0 → Placed t s s (wordAt s)
-begun-placed t s b =
-    let n = begun-named (namedStep t (s .dart) (s .kind)) b in
-    let h = there-placed (n .1 ∙ sym (placed-begun t s)) in rw (h .word) at h
-
 begun-there : (t : List ℕ) (s : Step) → beginOf t (s .dart) (s .kind) ≡ Done 0 → namedStep t (s .dart) (s .kind) ≡ There (wordAt s)
 begun-there t s b =
     let n = begun-named (namedStep t (s .dart) (s .kind)) b in

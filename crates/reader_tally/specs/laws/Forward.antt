@@ -69,6 +69,14 @@ tally-forward t s last y {l} {w} {n} {o} h e c f g =
     let u = unders-left w (s % 2) c f (omega arith) .1 in
     g ∙ rw (lap-bit last, u, f, h, e .word)
 
+-- a step is declined for its tally with 6 alone
+pub kept-is : (t : List ℕ) (s : ℕ) (last : Bool) (y : Tally) {r : Refusal} → Kept r ≡ tallyOf t s last y → r ≡ Overturned
+unfolding tallyOf forwardOf
+kept-is t s last y {r} e = elim (truth (fits32 (stepTally t s last y))) [
+  | fails c ↦ let same : Kept r ≡ Kept Overturned = rw c at e in cc
+  | holds c ↦ let other : Kept r ≡ Brought (stepTally t s last y) = rw c at e in let z : _≡_ {A = ℕ} 0 1 = cc in absurd (let no : ⊥ = omega arith in no)
+]
+
 -- the tally that a step has brought forward
 pub brought-is : (t : List ℕ) (s : ℕ) (last : Bool) (y : Tally) {z : Tally} → Brought z ≡ tallyOf t s last y → z ≡ stepTally t s last y
 unfolding tallyOf forwardOf

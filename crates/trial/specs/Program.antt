@@ -1,4 +1,5 @@
--- What the trial program writes for its arguments, document 02, request f. What the arguments are is not known to a proof, so the statements are about some bytes.
+-- What the trial program writes for its arguments, document 02, request f. What the arguments are is not known to a proof,
+-- so the statements are about some bytes.
 --     outcome     what the arguments ask for
 --     output      what goes to standard output;     message     what goes to standard error
 use Prim.Native.Nat.{ℕ, _≤_}

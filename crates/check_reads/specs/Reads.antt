@@ -1,10 +1,16 @@
 -- How many words of the table one check reads, document 02, request c. A read is a read of a lent word, and a word that is read again counts again.
 -- The check makes its tests in a fixed order, and ends with the first that fails.
---     Test                     so many words are read, and then the check goes on or ends
---     readsOf, passAll         tests in a row: the words that are read;  whether all pass
---     together                 such a row as one test
---     readsBelow, allBelow     the same of a test for each number below n, upward
---     checkReads               the whole check
+--     checkReads                                      the words that the whole check reads
+--     Test, reading                                   so many words are read, and then the check goes on or ends
+--     readsOf, passAll                                tests in a row: the words that are read; whether all pass
+--     together                                        such a row as one test
+--     readsBelow, allBelow                            the same of a test for each number below n, upward
+--     dartTests, bareTests, linkedTests               the tests of a dart; if it is not live; if it is
+--     edgeTests, edgeIn, edgeBlock                    those of an edge; of an edge of a block, as one test; of a block of 32 edges
+--     deadBlock, blank, idleTests                     a block without a live edge, whose darts' words are all 65,535
+--     vertexTests, leadsNone, leadTests, cycleTest    the tests of a vertex; its word leads no cycle; it leads one; the cycle
+--     vertexIn, vertexBlock                           those of a vertex of a block, as one test; of a block of 32 vertices
+--     lengthFits                                      the test of an edge's length
 use Prim.Native.Nat.{ℕ, zero, suc, _+_, _*_}
 use mathlib.Core.Bool.{Bool, true, false, cond, _&&_, _||_}
 use mathlib.Core.List.{List, [], _∷_}

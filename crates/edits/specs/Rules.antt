@@ -1,8 +1,9 @@
 -- Which rule an edit falls under, document 02, request a, read on the table just before it; and what an edit answers with it.
---     ruleFor, turnRule, ruleOf      the rule, from how the corners or the sides lie
---     ruleChange                     what a rule says of the number of faces
---     reply, replyCode               the answer with its rule;     as a host gets it
---     facesRead, ruleRead            what the host reads in that
+--     ruleFor, turnRule, ruleOf         the rule, from how the corners or the sides lie
+--     ruleChange                        what a rule says of the number of faces
+--     reply, withRule                   the answer with its rule
+--     replyCode, ruleNumber             as a host gets it; the numbers of the rules
+--     facesRead, ruleRead, numberMet    what the host reads in that; the number of the rule met, 0 for none
 use Prim.Native.Nat.{ℕ, zero, suc, _+_, _*_, _/_, _%_}
 use mathlib.Core.List.{List}
 use mathlib.Core.Option.{Option, none, some}

@@ -1,4 +1,11 @@
 -- The theorems of this crate, document 01, "Edits", and document 02, requests a and g. Each is proved by the law of its name.
+--     written-good                                 an accepted edit leaves a good table
+--     written-changes, rule-changes                the face count changes as the edit's places call for; as its rule says
+--     reply-read                                   a host reads the face count and the rule in the answer
+--     edited-declines                              a declined edit leaves every word
+--     insert-without, insert-sits, insert-order    where the two darts of a new edge go
+--     delete-without, insert-delete                a deletion leaves the rotation without the edge; it undoes an insertion
+--     written-length                               which edits alter a length
 use Prim.Native.Nat.{ℕ, _+_, _*_}
 use mathlib.Core.Path.{_≡_}
 use mathlib.Core.List.{List}

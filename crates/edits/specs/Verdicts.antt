@@ -1,6 +1,12 @@
 -- Which edits are declined, and with which number: document 01, "When a call declines". "Where several hold: 1, 2, 3, 4, 5, 6",
 -- and of an insertion 9 after them. First what the edit names is tested, 1 to 4, then what it may not pass, 5, 6 and 9; nothing is written before.
---     onNames, onLimits     the two lists of tests;     verdict     one after the other
+--     verdict                            the answer of all tests, one list after the other
+--     onNames, onLimits                  the two lists of tests
+--     newVertex, oldVertex               the vertex to add; the vertex named
+--     newEdge, oldEdge                   the edge to add, with its corners; the edge named
+--     isolation, fewTurns, fairLength    5, joined; 6, overturned; 9, far
+--     vertexThere, edgeThere             is the vertex live; is the edge live
+--     andThen                            one list of tests after another
 use Prim.Native.Nat.{ℕ}
 use mathlib.Core.Bool.{Bool, not, _&&_}
 use mathlib.Core.List.{List}

@@ -1,4 +1,5 @@
--- What the call for the float path answers, and what it leaves in the two slices, document 01, "When a call declines": "1, 2, 3, 4, 5, 6, 8, 9, with 7 tested after 4".
+-- What the call for the float path answers, and what it leaves in the two slices, document 01, "When a call declines":
+-- "1, 2, 3, 4, 5, 6, 8, 9, with 7 tested after 4".
 use Prim.Native.Nat.{ℕ, _+_, _*_}
 use mathlib.Core.List.{List}
 use lib.Dec.{leb}

@@ -1,4 +1,14 @@
 -- The float path of a ribbon, document 01, "Over and under": its pieces, what is written for them, and what is out of range.
+--     pathFrom, pieceOn                          the pieces of the ribbon through a step, with Close; the piece of one step
+--     pieceFor, pointAt                          the piece for a letter and a point; the point between two ends
+--     thirtySeconds                              a coordinate times 32
+--     letterOf, firstOf                          the letter of a step with one turn, 0 without turns
+--     sixteenths, firstEnd, secondEnd, liftAt    a lent word; where a step's two ends and its lift begin
+--     kindOf, pointOf, positiveZero              the word of a piece; its point; the zero of Close
+--     kindsOf, floatsOf, text                    what is written for a piece; for all pieces
+--     manyTurns, farStep, farThree, past         8, more than one turn; 9, out of range: of a step, of three words, of one
+--     pointWords, liftWords                      the sizes of the lent slices
+--     farthestPoint, farthestLift                how far a point and a lift may be
 use Prim.Native.Nat.{ℕ, _+_, _*_, _/_}
 use mathlib.Core.Bool.{Bool, false, cond, _||_}
 use mathlib.Core.List.{List, [], _∷_, _++_, map}

@@ -1,8 +1,9 @@
 -- Forecast, then do it: document 02, request b.
---     forecast, ask                 the three answers;     or the edit's own refusal
---     sameThree                     are they the same
---     onAsked, commitVerdict        does a commit go through, and if not, with which number
---     commitReply, committed        its answer;     the table that it leaves
+--     forecast, ask, askedBy    the three answers; or the edit's own refusal
+--     sameThree                 are they the same
+--     onAsked, commitVerdict    does a commit go through, and if not, with which number
+--     commitReply, replyBy      its answer
+--     committed, leftBy         the table that it leaves
 use Prim.Native.Nat.{ℕ}
 use mathlib.Core.Bool.{Bool, _&&_}
 use mathlib.Core.List.{List}

@@ -1,4 +1,11 @@
 -- The theorems of this crate, document 02, request b. Each is proved by the law of its name.
+--     ask-foretells, ask-by-rule                   what the three answers are; how after comes of before by the rule
+--     ask-refuses                                  ask declines exactly where the edit does, with its number
+--     ask-read, same-rule                          a host reads the three answers in ask's number; a rule's number tells the rule
+--     commit-exactly, commit-plain                 when a commit goes through; it is then the plain edit
+--     commit-own, commit-stale, commit-declines    the edit's own number; 12; a declined commit changes nothing
+--     ask-commit                                   a commit right after its ask goes through
+--     number-exactly, number-stale                 which number a commit takes; every other is stale
 use Prim.Native.Nat.{ℕ}
 use mathlib.Core.Path.{_≡_}
 use mathlib.Core.List.{List}

@@ -1,9 +1,9 @@
 -- What the job program does, document 01, "The job program". What a read gives is not known to a proof, so the statements are about some bytes.
---     output             all that is printed on some bytes
---     goesOn             why the reading goes on, or not
---     afterBlock, Turn   what one read and the records that it makes whole change
---     Over               why a reading that went well is over
---     Read, Ended        what the reading leaves, what the program leaves
+--     output                         all that is printed on some bytes
+--     goesOn                         whether more is read after a read
+--     afterBlock, failedAt, Turn     what one read and the records that it makes whole change
+--     Over                           why a reading that went well is over
+--     Read, Ended                    what the reading leaves;  what the program leaves
 use Prim.Native.Nat.{ℕ, zero, suc, _+_, _≤_, _^_}
 use mathlib.Core.Path.{_≡_}
 use mathlib.Core.Bool.{Bool, true, false}

@@ -1,4 +1,12 @@
 -- The walk reader, document 01, "Corners and walks": where it stands, when it declines, and what a step leaves.
+--     beginOf, beginBy             the answer to making a reader
+--     placed, isStep               where the reader stands, or its refusal; is it a dart and a type
+--     stepOf, stepBy, steppedBy    what a step leaves; once its place is known; once its tally is known
+--     tallyAt                      the tally with this step more
+--     goesOn, stays                the reader goes on to the next step; it does not move
+--     endsAt                       does the walk end there
+--     wordAt, stepAt               the step word 2d+t of a step; the step of a step word
+--     EachStep                     what holds of every step, wherever the reader stands
 use Prim.Native.Nat.{ℕ, _+_, _*_, _/_, _%_}
 use mathlib.Core.Path.{_≡_}
 use mathlib.Core.Bool.{Bool, _&&_}

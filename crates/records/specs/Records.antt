@@ -1,4 +1,11 @@
 -- Job records, document 01, "The job program": the first record of some bytes.
+--     firstRecord                  the first record of some bytes: its edit and its size, or why there is none
+--     markedRecord, knownRecord    the same once the mark is read; once it is known
+--     word, signedWord             the 16-bit word at byte i; as a signed number
+--     markOf                       the mark that a word says
+--     sizeOf, longestRecord        the bytes of a record, its mark included; the most that a record has
+--     editOf, insertionOf          the edit that a record says; the insertion, with a length
+--     plainLength                  the length that a plain IE writes
 use Prim.Native.Nat.{ℕ, _+_, _-_, _*_}
 use mathlib.Core.Bool.{cond}
 use mathlib.Core.List.{List}

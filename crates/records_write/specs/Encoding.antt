@@ -1,8 +1,11 @@
 -- Edits as job records, document 01, "The job program": the bytes of a record and of a job, for whoever writes a job file. Crate `records` reads them.
---     recordBy, editFor     the bytes of a mark with its arguments;   the edit that they say
---     recordOf, jobOf       the bytes of an edit;     of a list of edits
---     Sixteen, AllSixteen   edits whose arguments are 16-bit words
---     Bytes                 numbers that are bytes
+--     recordBy, editFor                the bytes of a mark with its arguments; the edit that they say
+--     recordOf, jobOf                  the bytes of an edit; of a list of edits
+--     bytesOf, complement              the two bytes of a word; two's complement
+--     insertionWords, insertionMark    the words of an insertion; its mark, by its length
+--     Word, SignedWord                 numbers that a 16-bit word holds
+--     Sixteen, AllSixteen              edits whose arguments are 16-bit words
+--     Bytes                            numbers that are bytes
 use Prim.Native.Nat.{ℕ, _-_, _/_, _%_, _<_}
 use mathlib.Core.Bool.{cond}
 use mathlib.Core.List.{List, [], _∷_, _++_, flatMap}

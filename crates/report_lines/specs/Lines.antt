@@ -1,5 +1,10 @@
 -- The lines that the job program prints after reading, document 01, "The job program", as bytes.
---     meshLine, partLine, walkLine, weaveLine     the lines;     report     all of them, in their order
+--     report                                                    all lines, in their order
+--     meshLine, partLine, walkLine, weaveLine                   the four kinds of lines
+--     meshText, partText, walkFields, stepText                  the text of a line from its numbers; of a walk; of a step
+--     numbered                                                  what f gives for each, with its index
+--     mesh-word, part-word, walk-word, weave-word, kind-word    the words as bytes; "plain" or "mixed"
+--     space, newline, side                                      the bytes between fields, after a line, and o or n
 use Prim.Native.Nat.{ℕ, suc, _-_, _*_, _/_, _%_}
 use mathlib.Core.Bool.{Bool, true, false}
 use mathlib.Core.List.{List, [], _∷_, _++_}

@@ -1,4 +1,10 @@
 -- A run of edits, document 01, "Runs of edits": any list of the five edits with any arguments, over one table.
+--     run                                the table after the run
+--     calls, called                      what the rules call for: of one edit; in the whole run
+--     callsBy, number                    the same once the verdict is known; -1, 0 or +1
+--     faceNumber                         the number of listed walks
+--     tells, told, vertexTells           what an answer says of the faces: of one edit; of the whole run; of an edit on a vertex
+--     lengthGiven, lengthBy, lengthIn    the length last given to edge e: in a run; by an edit; by an accepted one
 use Prim.Native.Nat.{ℕ}
 use mathlib.Core.Bool.{cond}
 use mathlib.Core.List.{List, [], _∷_}

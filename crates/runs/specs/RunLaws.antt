@@ -1,5 +1,17 @@
 -- The third demand: one claim about a whole run, a field for each clause, document 01, "Runs of edits" and "Counts".
 -- It holds for every list of edits, declined ones included, from every good table, and so from the empty mesh (`Theorems`).
+--     after, R                                       the table after the run; its rotation system
+--     RunLaws                                        the claim; its fields are these
+--     good, checked                                  the table is good, and the check says so
+--     corners-once, no-others, edges-twice           listed walks meet every corner once, nothing else, every live edge twice
+--     one-part, part-once, part-named, part-alone    the connected parts, and their names
+--     part-marked, walk-once, walk-part              which parts are orientable; the part that a walk is in
+--     part-euler, mesh-euler                         V-E+F of each part and of the mesh
+--     count, answered, ruled, told-count             the face count, the edits' answers and their rules
+--     lengths                                        the lengths of live edges
+--     alternation                                    a ribbon alternates exactly if its turned edges all turn the same way
+--     listing-call, counts-call, parts-call          the calls for the listing and the counts answer these
+--     letters-call, alternates-call, plain-call      and those for the letters
 use Prim.Native.Nat.{ℕ, _<_, _+_, _*_, _/_, _≤_}
 use mathlib.Core.Path.{_≡_}
 use mathlib.Core.Bool.{true}

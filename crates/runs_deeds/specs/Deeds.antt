@@ -1,8 +1,9 @@
 -- Runs that hold commits beside plain edits, document 02, request b: any list of them, with any forecasts, over one table.
---     done, answers, editIn     the table that a deed leaves;     its answer;     its edit
---     ran                       the table after the run
---     due, dueIn                what the rules call for, of a deed;     in the whole run
---     countsAs, counted         the plain edits that a deed counts as;     and the run
+--     Deed                           a plain edit, or a commit with its three answers
+--     done, answers, editIn          the table that a deed leaves; its answer; its edit
+--     ran                            the table after the run
+--     due, dueIn                     what the rules call for, of a deed; in the whole run
+--     countsAs, countsBy, counted    the plain edits that a deed counts as; and the run
 use Prim.Native.Nat.{ℕ}
 use mathlib.Core.List.{List, [], _∷_, _++_}
 use lib.IntN.{ℤ, pos, _+ℤ_}

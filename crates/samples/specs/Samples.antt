@@ -1,5 +1,13 @@
 -- Document 01, "Samples (P: to be proved)", 1 to 6: for each the edits from the empty mesh, what they answer, and what is said of the
 -- table that they leave. Nothing else has to be believed: every fact is an equation with a definition of the crates below.
+--     samples, sample                           the list of samples; one line of it
+--     Sample, Holds                             edits, answers and facts of a sample; that they hold from the empty mesh
+--     Fact, Has                                 what a sample says of a table; that the table has it
+--     answers, by                               what a host gets from each edit of a run; F faces by a rule
+--     walkLengths                               the steps of each listed walk that has steps
+--     oneEdge, oneLoop, twoLoops, turnedLoop    the edits of the samples, for their turns
+--     anyLength                                 the length of every edge here
+--     All                                       P holds of each of a list
 use Prim.Native.Nat.{ℕ, _*_}
 use mathlib.Core.Path.{_≡_}
 use mathlib.Core.Bool.{Bool, true, false}

@@ -1,5 +1,13 @@
 -- The theorems on parts and Euler numbers, document 01, "Counts", each stated in full; its proof names the law that gives it.
 -- A good table's rotation system is lawful; the theorems over lawful ones speak of good tables.
+--     same-label, one-part                  in one part exactly if a chain of live edges joins them
+--     label-smallest, part-named            a part's name is its smallest vertex, a live one
+--     part-once, part-alone                 a live vertex is in exactly one part; an isolated one is a part alone
+--     walk-part                             all corners that a walk meets are in one part
+--     orientable-marks                      orientable exactly if the vertices can be marked so
+--     vertices-sum, edges-sum, walks-sum    V, E and F are sums over the parts
+--     table-parts, table-sum                V-E+F of each part: at most 2, even, at most 1; the mesh's is their sum
+--     empty-parts, empty-euler              a mesh without vertices: no parts, Euler number 0
 use Prim.Native.Nat.{ℕ, _≤_}
 use mathlib.Core.Path.{_≡_}
 use mathlib.Core.Bool.{true, false}

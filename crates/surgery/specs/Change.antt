@@ -1,6 +1,6 @@
 -- The change of the number of faces by each edit, in document 01's words, read on the table before the edit: "Edits".
---     Change, Changes      one less, as many, one more;     what that says of the numbers before and after
---     deletion, turning, insertion     the document's table of changes
+--     Change, Changes                 one less, as many, one more; what that says of the numbers before and after
+--     deletion, turning, insertion    the document's table of changes
 use mathlib.Core.Path.{_≡_}
 use Prim.Native.Nat.{ℕ, zero, suc, _*_, _%_}
 use Rattle.tracing.specs.declared.meeting.Sides.{Sides}

@@ -1,4 +1,13 @@
 -- The words of a table, document 01, "The table": the layout is named here, and once more as the constants of src/layout.rt, and nowhere else.
+--     vertices, edges, darts, words                   how many there are of each; the size of the table
+--     prevAt, leavesAt, edgeAt, vertexAt, lengthAt    where each kind of word begins
+--     nextWord, prevWord, leaves                      the three words of a dart
+--     edgeWord, lengthWord, vertexWord                the two words of an edge; the word of a vertex
+--     nothing, isolated                               the word of what is not live; of a vertex that is live and isolated
+--     longest, edgeWordMost                           the largest length; the largest word of an edge
+--     loneAt                                          where the corner names of isolated vertices begin
+--     rev, edgeOf                                     the reverse of a dart; its edge
+--     Live                                            the dart is live
 use Prim.Native.Nat.{ℕ, _+_, _-_, _*_, _/_, _%_, _<_}
 use mathlib.Core.List.{List}
 use mathlib.Core.Logic.{_≢_}

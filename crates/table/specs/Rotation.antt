@@ -1,5 +1,11 @@
 -- A rotation system, with no words in it: tracing, surgery and surfaces are stated over it. `rotation t` reads one off a table, and a good table's is lawful.
 -- A dart that is not live is its own next and its own previous, so that the laws hold for every number.
+--     Rotation                 live darts, next and previous, turns, the vertex a dart leaves, live and isolated vertices
+--     Lawful                   the rules of a good table, said of a rotation system
+--     rotation                 the rotation system of a table
+--     live?, there?, alone?    is the dart live; is the vertex live; is it isolated
+--     nextDart, prevDart       the next and the previous dart; the dart itself if it is not live
+--     turnsOf                  a number of the parity of its edge's turns
 use Prim.Native.Nat.{ℕ, _<_}
 use mathlib.Core.Path.{_≡_}
 use mathlib.Core.Bool.{Bool, true, false, _&&_, not, cond}

@@ -1,4 +1,5 @@
--- A slice as a window on a text: `from` is the place in the text where the slice begins. What is written at a place that the slice does not show changes nothing.
+-- A slice as a window on a text: `from` is the place in the text where the slice begins.
+-- What is written at a place that the slice does not show changes nothing.
 use Prim.Native.Nat.{ℕ, suc, _-_, _+_}
 use mathlib.Core.Bool.{cond}
 use mathlib.Core.List.{List, [], _∷_}

@@ -1,5 +1,12 @@
 -- The listed walks, the listing and the face count, document 01, "Corners and walks" and "Counts".
 -- A listed face is named by the corner that its walk starts at: a dart, or 32,768+v for an isolated vertex v.
+--     faces, faceCount          the listed faces, in their order; F, how many there are
+--     listing, walkText         the words of the listing; those of one walk
+--     starts, fresh             the darts that listed walks start at; dart d, if a walk starts there
+--     alones, lone              the isolated vertices; vertex v, if it is isolated
+--     loneCorner                the corner of an isolated vertex
+--     metBy                     the corners that the walks from some darts meet
+--     has, gather, only, bit    for lists: is it among them; what f gives for each; x if a test holds; 1 or 0
 use Prim.Native.Nat.{ℕ, zero, suc, _+_, _*_}
 use mathlib.Core.Bool.{Bool, true, false, not, cond}
 use mathlib.Core.List.{List, [], _∷_, _++_, map}

@@ -1,8 +1,9 @@
 -- A trial job from two numbers, document 02, request f: its edits, its bytes, and what the call that writes it answers.
---     afterDraw, state, draw    s after one more draw; after some; what a draw below n reads in it
---     cornerAt                  the corner that an end goes to
---     trialJob, trialBytes      the edits; the job as it is written
---     trialAnswer, trialOut     what the call answers, and what it leaves in the slice
+--     afterDraw, state, draw                   s after one more draw; after some; what a draw below n reads in it
+--     firstVertex, secondVertex, turnsDrawn    what is drawn for an edge
+--     cornerAt, insertionOn                    the corner that an end goes to; the insertion of edge e
+--     trialJob, additions, trialBytes          the edits; those of the vertices; the job as it is written
+--     trialAnswer, trialSize, trialOut         what the call answers; the bytes of the job; what it leaves in the slice
 use Prim.Native.Nat.{ℕ, zero, suc, _+_, _*_, _/_, _%_, _^_}
 use mathlib.Core.Bool.{cond}
 use mathlib.Core.List.{List, [], _∷_, _++_}

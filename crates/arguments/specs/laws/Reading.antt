@@ -1,4 +1,9 @@
 -- What the reading of a number knows at its loop's head, and each of its ends.
+--     Reading, reading-none, reading-more                           the first i bytes are digits, and n is their number
+--     empty-nothing, reading-below, reading-above, reading-large    no number: no byte, a byte that is no digit, too large
+--     reading-all                                                   the number that is read
+--     number-within                                                 it is no more than the bound
+--     number-decimal                                                the decimal text of a number is read as that number
 use Prim.Native.Nat.{ℕ, suc, _+_, _-_, _*_, _≤_, _<_}
 use native.Mathlib.Omega.{arith}
 use native.Mathlib.Numerals.{add-one}

@@ -1,4 +1,11 @@
--- How many words one check reads at most: 15,872, which are two for each edge, 320 for each block of edges, 96 for each block of vertices, and one for each dart on a cycle.
+-- How many words one check reads at most: 15,872, which are two for each edge, 320 for each block of edges, 96 for each block of vertices,
+-- and one for each dart on a cycle.
+--     reads-most                                     a check reads at most 15,872 words
+--     dart-most, edge-most, idle-most, block-most    the bounds for a dart, an edge, a blank block, any block of edges
+--     vertex-crude, vertex-block-crude               rough bounds for a vertex and a block of them
+--     room                                           the number that a count of reads stays below
+--     leavingBelow, leavingAt                        the live darts that leave the vertices below v; that leave v
+--     cycle-most, vertex-most, blocks-most           what cycles, vertices and their blocks read, by these
 use Prim.Native.Nat.{ℕ, zero, suc, _+_, _-_, _*_, _≤_, _<_}
 use native.Mathlib.Omega.{arith}
 use native.Mathlib.Decide.{ℕ-discrete, decLt}

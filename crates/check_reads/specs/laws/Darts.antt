@@ -1,4 +1,12 @@
 -- The tests of darts and edges: they pass exactly if the darts keep their rules.
+--     tests-dead, tests-live              the tests of a dart, by its edge word
+--     told-dead, told-live, told-many     they have been made; too many turns fail
+--     dart-case, edge-case                they pass exactly if the dart, the edge's two darts keep their rule
+--     dead-case, blank-case, idle-case    the tests of a block that may be passed over
+--     block-case, blocks-case             a block passes exactly if its darts keep their rules; all blocks
+--     by-edges, by-darts                  the darts of a block, by edges and singly
+--     block-idle, block-read              the words read at a block that is passed over; at another
+--     block-passes, block-fails           the block's verdict from the count's answer
 use Prim.Native.Nat.{ℕ, _+_, _-_, _*_, _/_, _%_, _≤_, _<_}
 use native.Mathlib.Omega.{arith}
 use mathlib.Core.Path.{_≡_, sym}

@@ -1,4 +1,9 @@
 -- A good table whose names are all in use: its check reads 15,872 words, as many as any.
+--     reads-full                   the check of such a table reads 15,872 words
+--     dart-four, edge-nine         4 words for a dart's tests, 9 for an edge
+--     block-exact, blocks-exact    320 for a block of edges; what the blocks of vertices read
+--     cycle-exact, vertex-exact    a cycle reads as many words as it has darts, a vertex two more
+--     led-all                      all darts are on the cycles that the vertices lead
 use Prim.Native.Nat.{ℕ, zero, suc, _+_, _*_, _≤_, _<_}
 use native.Mathlib.Omega.{arith}
 use native.Mathlib.Nat.{add-zero}

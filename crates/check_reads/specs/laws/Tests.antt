@@ -1,4 +1,16 @@
 -- Tests in a row: what is read by the time that one fails, or that all have passed.
+--     Told                                                          a row of tests has been made, with its verdict and its count
+--     told-all, told-fails, told-goes, told-end, told-is            the row ends, fails, goes on, is decided by its last test
+--     told-differs, told-same, told-past, told-low                  a word that was read, tested against a number
+--     told-in-fails, told-in-goes                                   a row in a row
+--     total, reads-total, passed-total                              the words of all tests: at most these are read, all if all pass
+--     true-case, truth-case, both-case, all-case                    Boolean cases of rows
+--     Going                                                         a test for each number: those below i have passed
+--     going-none, going-more, going-stops, going-most               it begins, goes on, ends with one that fails; how much is read
+--     rowsFrom, Along                                               the same with rows, from a number on
+--     along-none, along-more, along-stops, along-all, along-most    it begins, goes on, ends; how much is read
+--     below-most, below-exact, below-until                          words read where each reads at most k, exactly k, at most one
+--     below-passed, below-any                                       where a test that passes reads at most k, and another x more
 use Prim.Native.Nat.{ℕ, zero, suc, _+_, _-_, _*_, _≤_, _<_}
 use native.Mathlib.Omega.{arith}
 use native.Mathlib.Decide.{ℕ-discrete, decLt}

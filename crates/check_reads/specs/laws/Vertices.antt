@@ -1,4 +1,11 @@
 -- The tests of cycles and vertices, once each dart keeps its rules: how many words a cycle takes, and that a vertex passes exactly if it keeps its rule.
+--     cycle-reads                                                  the words read on the walk round a cycle
+--     tests-none, tests-leads, word-leads                          the tests of a vertex, by whether its word leads a cycle
+--     read-none, read-alone, read-past, read-astray, read-cycle    how many words have been read when the vertex is told
+--     vertex-case                                                  they pass exactly if the vertex keeps its rule
+--     told-kept, told-broken                                       the verdict from the count's answer
+--     loose-case, block-case                                       a block that leads nothing; a block of vertices
+--     block-loose, block-read, block-passes, block-fails           its words and its verdict
 use Prim.Native.Nat.{ℕ, zero, suc, _+_, _-_, _*_, _≤_, _<_}
 use native.Mathlib.Omega.{arith}
 use native.Mathlib.Decide.{ℕ-discrete, decLt}

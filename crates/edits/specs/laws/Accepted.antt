@@ -1,4 +1,9 @@
 -- What an accepted insertion or deletion does to the rotation system: the laws of Inserted, Deleted and RoundTrip, where the verdict passes.
+--     insert-without               an inserted edge taken out of the rotation leaves the old one
+--     insert-sits, insert-order    where its darts stand; their order where the corners are one
+--     insert-delete                deleting what was inserted gives the first table back
+--     delete-without               a deletion leaves the old rotation without the edge
+--     written-length               what an accepted edit does to the lengths
 use Prim.Native.Nat.{ℕ, _+_, _*_, _≤_}
 use mathlib.Core.Path.{_≡_}
 use mathlib.Core.List.{List}

@@ -1,4 +1,10 @@
 -- The change of the face count that each edit's rule calls for, read on the table just before it, document 01, "Edits"; and that it is the change.
+--     written-changes                 the face count changes as the edit's rule calls for
+--     vertex-added                    the rotation with a vertex more, isolated
+--     first-live                      an edge that is there has its first dart live
+--     edge-turned                     the rotation with an edge turned
+--     odd-turned                      the parity of turns and amount, from the edge word
+--     remove-changes, turn-changes    the change by a removal; by a turn
 use Prim.Native.Nat.{ℕ, zero, suc, _+_, _-_, _*_, _%_, _<_}
 use native.Mathlib.Omega.{arith}
 use mathlib.Core.Path.{_≡_, refl, sym, _∙_, ap, subst}

@@ -1,4 +1,9 @@
 -- Edge e taken out of a good table: what is left is good, and its rotation is the old one without e.
+--     deleted-good                                  the table is good
+--     deleted-without                               its rotation is the old one without e
+--     deleted-own, deleted-other, deleted-length    the edge words and lengths after it
+--     delete-ready                                  the words that the deletion follows are in range
+--     bare, left                                    the table with both darts out; the darts that are left
 use Prim.Native.Nat.{ℕ, _+_, _*_, _%_, _≤_, _<_}
 use native.Mathlib.Omega.{arith}
 use native.Mathlib.Decide.{ℕ-discrete}

@@ -1,4 +1,14 @@
--- The tables that the insertion and the deletion of an edge leave, document 01, "Edits". Both are good; deleting what was inserted gives the first table back.
+-- One dart put in at a corner or taken out, and the two words of an edge written: what each of these writes leaves.
+-- An insertion and a deletion, document 01, "Edits", are made of them.
+--     Corner                                          a corner that is there: a live dart, or an isolated vertex
+--     dart-link, link-past                            a dart put in at a dart's corner; at an isolated vertex
+--     link-grown, link-before, link-alone             the rules hold with the dart more; where it stands
+--     still-isolated                                  a vertex isolated before is so after, unless the dart is there
+--     unlink-reads, unlink-shrunk                     the words with the dart out; the rules hold with the dart less
+--     next-of                                         the next dart of the rotation is that of the live darts
+--     edge-held, own-held, own-next                   writing an edge's words keeps the rules and the next darts
+--     own-edge, own-length, own-leaves, own-vertex    what they change, and what not
+--     insert-last, delete-last                        the last write gives the inserted, the deleted table
 use Prim.Native.Nat.{ℕ, _+_, _-_, _*_, _≤_, _<_}
 use native.Mathlib.Omega.{arith}
 use native.Mathlib.Decide.{ℕ-discrete}

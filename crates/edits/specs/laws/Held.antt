@@ -1,4 +1,11 @@
 -- The rules of a good table for any set L of live darts, so that an edge can be put in and taken out one dart at a time.
+--     Held                         the rules of a good table, with L for its live darts
+--     good-held, held-good         a good table keeps them for its own live darts; they make it good
+--     SmallestIn                   d is the smallest dart of L that leaves v
+--     nextIn, next-in, next-out    the next dart where L are the live ones
+--     held-kept                    the rules speak of the words of darts and vertices alone
+--     held-same                    two tables with the same next darts, vertices, edge words and lengths are one
+--     Long                         a length that a live edge may have
 use Prim.Native.Nat.{ℕ, _≤_, _<_}
 use native.Mathlib.Omega.{arith}
 use native.Mathlib.Decide.{ℕ-discrete}

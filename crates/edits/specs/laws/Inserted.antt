@@ -1,4 +1,13 @@
--- Edge e put between two corners of a good table: the table is good, and without e its rotation is the old one. Deleting e gives the first table back.
+-- Edge e put between two corners of a good table: the table is good, and without e its rotation is the old one.
+--     inserted-good                                    the table is good
+--     inserted-without                                 without e its rotation is the old one
+--     inserted-sits, inserted-order                    where e's darts stand; their order where the corners are one
+--     inserted-own, inserted-other, inserted-length    the edge words and lengths after it
+--     insert-ready                                     the words that the insertion follows are in range
+--     half, full, result                               the table with dart 2e+1 in; with both; with e's own words
+--     more, More                                       the live darts after it: those of before and e's two
+--     Leads, first-leads, second-next                  what e's darts lead to
+--     first-sits, second-sits                          where each of them stands
 use Prim.Native.Nat.{ℕ, _+_, _*_, _%_, _≤_, _<_}
 use native.Mathlib.Omega.{arith}
 use native.Mathlib.Decide.{ℕ-discrete}

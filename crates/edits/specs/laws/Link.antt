@@ -1,4 +1,11 @@
 -- A dart put on its seat: the rules of the darts hold again.
+--     linked-grown                      the rules hold with the dart more, and the rest is as before
+--     linked-seat                       where the dart stands: its vertex, and the dart after it
+--     linked-held                       the rules of the darts, with x among them
+--     linked-next                       with x left out again, the next darts are those of before
+--     next-x, next-p, next-other        the next words after the writes; so for "previous" and the vertex left
+--     old-step, old-reach, new-cycle    the darts of a vertex are still one cycle
+--     smallest-here, smallest-new       the vertex words are still the smallest darts
 use Prim.Native.Nat.{ℕ, _<_}
 use native.Mathlib.Omega.{arith}
 use native.Mathlib.Decide.{ℕ-discrete}

@@ -1,4 +1,9 @@
 -- One vertex word changed between nothing and isolated, where no live dart leaves the vertex: the table stays good.
+--     marked-good                                     the table is good
+--     marked                                          the table with the vertex word changed
+--     own-word, other-word, vertex-apart              the vertex words after it
+--     next-same, prev-same, leaves-same, edge-same    the words that stay
+--     was-live, live-still, reach-kept                the live darts and their cycles stay
 use Prim.Native.Nat.{ℕ, _<_}
 use native.Mathlib.Omega.{arith}
 use native.Mathlib.Decide.{ℕ-discrete}

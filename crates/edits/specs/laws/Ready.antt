@@ -1,4 +1,9 @@
 -- What the writes of an edit ask of a table: its size, and that each word that is followed names a dart or a vertex.
+--     SpliceReady, CutReady        for the writes that put a dart between two others, or take it out
+--     LinkReady, UnlinkReady       for a dart put in at a corner; for a dart taken out
+--     InsertReady, DeleteReady     for both darts of an edge
+--     ready-first, ready-second    the second of the two, once the first is done
+--     link-ready, unlink-ready     where the rules of the darts hold, these do
 use Prim.Native.Nat.{ℕ, _+_, _*_, _-_, _≤_, _<_}
 use native.Mathlib.Omega.{arith}
 use mathlib.Core.Path.{_≡_}

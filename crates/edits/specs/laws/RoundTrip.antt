@@ -1,4 +1,7 @@
 -- Deleting the edge that was inserted gives the first table back, word for word.
+--     deleted-inserted                                          the deletion after the insertion gives the first table
+--     there-and-back                                            the table after both
+--     live-back, next-back, there-back, edge-back, long-back    what is read on it, one kind after the other
 use Prim.Native.Nat.{ℕ, _≤_, _<_}
 use native.Mathlib.Decide.{ℕ-discrete}
 use mathlib.Core.Path.{_≡_, sym, _∙_, subst, fun-ext}

@@ -1,4 +1,7 @@
 -- Where a dart is put: a seat at a vertex, and the word that the vertex then has. An insertion has one of two seats.
+--     Seat                              x between dart d of vertex v and the dart p before it, or alone at v
+--     Foremost                          v is live, and w is the smallest of its darts and x
+--     foremost-among, foremost-alone    the word of the vertex for either seat
 use Prim.Native.Nat.{ℕ, _≤_, _<_}
 use native.Mathlib.Omega.{arith}
 use native.Mathlib.Decide.{decLt}

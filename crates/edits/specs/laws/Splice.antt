@@ -1,4 +1,9 @@
 -- The writes that put a dart into a vertex's cycle and take one out: the words after them.
+--     Reads                         the words of a table after writes, as functions
+--     reads-tie                     two darts made neighbours
+--     reads-leaves, reads-vertex    the vertex a dart leaves written; a vertex word written
+--     reads-none                    both words of a dart made 65,535
+--     reads-splice, reads-cut       a dart put in; a dart taken out
 use Prim.Native.Nat.{ℕ, _<_}
 use mathlib.Core.Path.{_≡_, refl, _∙_}
 use mathlib.Core.List.{List}

@@ -1,4 +1,12 @@
 -- Turns as edge words: "for each edge, 0 if not live, else its turns plus 100; turns run from -99 to 99".
+--     overturned-low, overturned-high                       turns below -99 or above 99 are overturned
+--     FewTurns, in-range, few-range                         turns in range, and their word
+--     word-fits, amount-fits, sum-fits, hundred-fits        the sums fit 32 bits
+--     settle-word, settle-amount, settle, settle-hundred    so the machine's sums are the sums
+--     word-over, word-in, few-word                          the word after a turn: 0 where it would pass 99
+--     hundred                                               an edge without turns has the word 100
+--     inserted-word, turned-some                            the word of an inserted or turned edge is a live one's
+--     amount-on                                             an amount that is handed on keeps its value
 use Prim.Native.Nat.{ℕ, suc, _≤_, _<_, _^_}
 use native.Mathlib.Omega.{arith}
 use mathlib.Core.Path.{_≡_, refl, sym, _∙_, ap, ap₂}

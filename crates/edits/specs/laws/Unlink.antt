@@ -1,4 +1,17 @@
 -- A dart taken out of its vertex's cycle. The rules of the darts hold again, for the darts that are left.
+--     Shrunk                                                   a table with dart x less: the rules hold, the rest is as before
+--     out-shrunk                                               the writes that take x out leave such a table
+--     Sought, sought                                           what the search from dart d finds: the first dart that leaves v, or none
+--     seek-here, seek-on                                       the search ends at a dart of v, or goes on
+--     Seeking                                                  the loop of the search
+--     seeking-none, seeking-more, seeking-here, seeking-all    it begins, goes on, finds one, finds none
+--     unlink-last                                              the last write gives the table without x
+--     Left                                                     a dart that is left: live, and not x
+--     next-left, prev-left, prev-next-left, next-prev-left     next and previous among those
+--     Way, way-step, left-reach, left-cycle                    the darts left at a vertex are still one cycle
+--     After, word-after                                        the vertex word: the smallest dart left, or isolated
+--     smallest-left, alone-left, live-left                     so the rules of vertex words hold
+--     out-held, out-next                                       the rules of the darts left; their next darts
 use Prim.Native.Nat.{ℕ, zero, suc, _+_, _-_, _≤_, _<_}
 use native.Mathlib.Omega.{arith}
 use native.Mathlib.Decide.{ℕ-discrete, decLt}

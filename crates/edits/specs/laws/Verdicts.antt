@@ -1,4 +1,13 @@
 -- What a verdict tells: two lists of tests, one after the other, and what is known where an edit goes through.
+--     Judged, judged, never                                    a verdict is one of two
+--     then-none, then-declines, then-passes                    two lists of tests, one after the other
+--     MayAdd, MayRemove, MayInsert, MayDelete, MayTurn         what is known where each edit goes through
+--     may-add, may-remove, may-insert, may-delete, may-turn    that its verdict says so
+--     VertexThere, vertex-there, edge-there                    what the tests on names tell
+--     passed-good                                              an edit goes through on good tables alone
+--     room-is                                                  the test of turns, from the word that the code makes
+--     insert-on, turn-on                                       turns and amounts that are handed on keep their values
+--     AreNames, names-are                                      the names of an edge and of two corners
 use Prim.Native.Nat.{ℕ, _<_}
 use native.Mathlib.Omega.{arith}
 use mathlib.Core.Path.{_≡_, refl, sym, _∙_, ap}

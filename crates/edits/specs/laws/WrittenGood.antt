@@ -1,4 +1,9 @@
 -- The table that an accepted edit writes is good, and its words may be followed as they are written.
+--     written-good                                                  the table that an accepted edit writes is good
+--     add-good, remove-good, insert-good, delete-good, turn-good    the same for each of the five
+--     turn-live                                                     a turn leaves the live darts
+--     may-insert-ready, may-delete-ready                            the words that the writes follow are in range
+--     present-corner                                                a corner that is there is a live dart or an isolated vertex
 use Prim.Native.Nat.{ℕ, _<_}
 use native.Mathlib.Decide.{ℕ-discrete}
 use mathlib.Core.Path.{_≡_, refl, sym, _∙_, ap, subst, fun-ext}

@@ -1,4 +1,10 @@
 -- The rules, as the code tells them: what it asks for, the parity of words, and the face count after the edit.
+--     facesAfter, after-is                      the face count after an edit, by the rule; it is the one that the rule allows
+--     Allowed, allowed-some                     there is a face count after; rule A needs one face before
+--     insert-corners, delete-edge, turn-edge    what an accepted edit gives to the reading of its rule
+--     unsplit, one-more, even-turn, odd-turn    the rules by the parity of words
+--     few-rules                                 a rule's number is below 5
+--     rule-allows, ruled-reply                  there is a face count after an accepted edit; it is answered with the rule
 use Prim.Native.Nat.{ℕ, zero, suc, _+_, _-_, _%_, _<_, _≤_}
 use native.Mathlib.Omega.{arith}
 use mathlib.Core.Path.{_≡_, refl, sym, _∙_, ap}

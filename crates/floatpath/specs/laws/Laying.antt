@@ -1,4 +1,14 @@
 -- The loop that writes a float path: its pieces so far stand at the front of the two slices.
+--     PathRoom                                       a ribbon whose words are in range, and room for its path
+--     PieceWritten, wrote-made                       a piece is written to both slices
+--     piecesBefore, path-length                      the pieces of the first n steps; the path has one a step, and Close
+--     kinds-length, floats-length                    how many words and floats some pieces take
+--     Laying                                         the loop over the walk
+--     laying-none, laying-more, laying-all           it begins, goes on, ends
+--     laying-lent, laying-near, laying-room          the present step: its words are there, in range, and there is room
+--     laying-kinds, laying-coords                    the slices keep their sizes
+--     Laid                                           the pieces of all steps are written
+--     closing-room, closing-kinds, closing-coords    then Close: the path stands at the front of both slices
 use Prim.Native.Nat.{ℕ, suc, _+_, _*_, _<_, _≤_}
 use native.Mathlib.Omega.{arith}
 use native.Mathlib.Nat.{mul-suc, zero-add}

@@ -1,4 +1,11 @@
--- What the call for the float path answers, and what it leaves in the two slices, document 01, "When a call declines": "1, 2, 3, 4, 5, 6, 8, 9, with 7 tested after 4".
+-- What the call for the float path answers, and what it leaves in the two slices, document 01, "When a call declines":
+-- "1, 2, 3, 4, 5, 6, 8, 9, with 7 tested after 4".
+--     short-points, short-lifts, short-kinds, short-coords    7, for each of the four slices
+--     many-turns, far-away, path-sized                        8; 9; or the number of pieces
+--     survey-few                                              a walk has at most as many steps as there are step words
+--     along-room                                              an accepted path has room, and words in range
+--     Left, left-declined, left-done                          what is answered and left for the path from a step
+--     path-refused, path-left                                 the two ends of the call
 use Prim.Native.Nat.{ℕ, _+_, _*_, _<_, _≤_}
 use native.Mathlib.Omega.{arith}
 use mathlib.Core.Path.{_≡_, refl, sym, _∙_, ap}

@@ -1,4 +1,10 @@
 -- Numbers within a range either way: the tests that the code makes.
+--     bound-fits, bound-is                     the bound below zero
+--     past-yes, past-else                      the test of one number
+--     Answered                                 what the test of a lent word answered
+--     far-first, far-second, far-last          the test of three words, one after the other
+--     first-there, second-there, lift-there    the words of a step's ends and its lift are there
+--     step-first, step-second, step-last       the test of a step
 use Prim.Native.Nat.{ℕ, zero, suc, _+_, _≤_, _<_, _^_}
 use native.Mathlib.Omega.{arith}
 use mathlib.Core.Path.{_≡_, refl, sym, _∙_, ap, ap₂}

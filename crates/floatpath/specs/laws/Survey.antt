@@ -1,4 +1,9 @@
 -- What the walk of a ribbon shows before its path is written: the number of its steps, and what is wrong with its edges. The loop that gathers it.
+--     surveyOf, surveyWith, with-made                  the survey of some steps; with one step more
+--     many-read                                        more than one turn, by the number of crossings
+--     Surveying                                        the loop over the walk
+--     surveying-none, surveying-more, surveying-all    it begins, goes on, ends
+--     surveying-lent, surveying-few                    the present step's words are there; there are few steps
 use Prim.Native.Nat.{ℕ, zero, _+_, _<_, _≤_}
 use native.Mathlib.Numerals.{add-one}
 use mathlib.Core.Path.{_≡_, refl, _∙_, ap}

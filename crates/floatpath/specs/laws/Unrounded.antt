@@ -1,4 +1,7 @@
 -- "Points lie within 65,536 either way, lifts within 4,096, so nothing is rounded": what holds of the floats of an accepted path.
+--     path-unrounded    the floats of every step of an accepted path are exact
+--     step-unrounded    those of a step whose words are in range
+--     held-point        a piece holds the point that it is made of
 use Prim.Native.Nat.{ℕ, _+_, _*_}
 use native.Mathlib.Omega.{arith}
 use mathlib.Core.Path.{_≡_, refl, sym}

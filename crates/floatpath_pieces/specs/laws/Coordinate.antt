@@ -1,4 +1,11 @@
 -- One coordinate of a piece: its sums of whole numbers fit the machine's words and the float.
+--     NearEnds, near-handed                                  two end coordinates and a lift in range; as the machine has them
+--     ends-fit, twice-fits, over-fits, under-fits            a+b, 2l, a+b+2l and a+b-2l fit 32 bits
+--     over-small, under-small, flat-small, coordinate-few    what the float is made of is small enough
+--     coordinate-over, coordinate-under, coordinate-flat     the coordinate over, under, flat
+--     size-fits, handed-is                                   a small number fits, and keeps its value when handed on
+--     NearThree, Readable                                    the words of a point are in range; they are there, too
+--     readAt, point-made                                     a coordinate from the lent words; the point of three
 use Prim.Native.Nat.{ℕ, _+_, _*_, _≤_, _<_}
 use native.Mathlib.Omega.{arith}
 use mathlib.Core.Path.{_≡_, _∙_, ap}

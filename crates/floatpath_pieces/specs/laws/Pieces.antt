@@ -1,4 +1,9 @@
 -- The piece of a step, as the code makes it.
+--     near-step                        the words of a step that is not far are in range
+--     letter-none, letter-one          the letter of a step without turns; with one turn
+--     for-over, for-under, for-flat    a piece by its letter
+--     piece-readable, piece-is         the words of a piece are there and in range; what the code makes is the step's piece
+--     zeros                            zeros for Close
 use Prim.Native.Nat.{ℕ, suc, _+_, _-_, _%_, _≤_}
 use native.Mathlib.Omega.{arith}
 use mathlib.Core.Path.{_≡_, refl, sym, _∙_, ap}

@@ -1,4 +1,8 @@
 -- Where the lent words of a step begin, and that slices of the sizes that are needed have them.
+--     placesOf, places-are    where the words of a step's two ends and its lift begin
+--     Ends, ends              the ends of a live step's edge are vertices
+--     Lent                    a live step, and points and lifts of the sizes needed
+--     Lies, lies              the three words of each are there
 use Prim.Native.Nat.{ℕ, _+_, _*_, _/_, _≤_, _<_}
 use native.Mathlib.Omega.{arith}
 use mathlib.Core.Path.{_≡_, refl}

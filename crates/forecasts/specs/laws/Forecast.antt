@@ -1,10 +1,11 @@
 -- What ask and commit answer where the edit goes through, where it is declined, and where the forecast is stale.
---     numbered, same-rule                         a rule by its number
---     alike, same-is, is-same                     the same three answers are the same forecast
---     ask-passes, ask-declines, asked-passes      from the verdict to ask's answer, and back
---     commit-plain, commit-declines               what a commit answers and leaves, by its verdict
---     commit-own, commit-stale, commit-through    its verdict, by the edit's own and by the forecast
---     asked-insertion, asked-turn, same-commit    what is handed on
+--     ruleNumbered, numbered, same-rule                           a rule by its number
+--     alike, same-is, is-same                                     the same three answers are the same forecast
+--     ask-passes, ask-declines, asked-passes                      from the verdict to ask's answer, and back
+--     ask-foretells, ask-by-rule, ask-refuses                     what ask answers
+--     commit-plain, commit-declines, ask-commit                   what a commit answers and leaves, by its verdict; right after its ask
+--     commit-own, commit-stale, commit-through, commit-exactly    its verdict, by the edit's own and by the forecast
+--     asked-insertion, asked-turn, same-commit                    what is handed on
 use Prim.Native.Nat.{ℕ}
 use native.Mathlib.Omega.{arith}
 use mathlib.Core.Path.{_≡_, refl, sym, _∙_, ap, ap₂, subst}

@@ -1,4 +1,8 @@
 -- A host's number goes through exactly if it is the one that ask answers now.
+--     number-exactly, number-stale    a commit takes ask's number; every other is stale
+--     ask-read                        the three answers are read in ask's number
+--     Within                          the three answers, each within its bits
+--     Numbered, asked-numbered        ask's answer has a number of 64 bits
 use Prim.Native.Nat.{ℕ, _+_, _*_, _/_, _<_}
 use native.Mathlib.Omega.{arith}
 use mathlib.Core.Path.{_≡_, refl, sym, _∙_, ap}

@@ -1,4 +1,11 @@
 -- The blocks of the job program: they are ready to be run, and what is known of all that came.
+--     block-ready, block-written, block-left, block-after    a block can be run; what is written, left, and known after it
+--     goes-failed, goes-ended, goes-more                     whether more is read
+--     goes-over                                              why it is not
+--     turn-came                                              one read, and the records that it makes whole
+--     Going                                                  the loop that reads: what is known of all the bytes that came
+--     going-none, going-ready, going-more, going-over        it begins, can go on, goes on, is over
+--     waiting, going-less                                    the measure that falls with each turn
 use Prim.Native.Nat.{ℕ, zero, suc, _+_, _-_, _≤_, _<_, _^_}
 use native.Mathlib.Omega.{arith}
 use native.Mathlib.Nat.{zero-add, suc-add}

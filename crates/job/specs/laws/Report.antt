@@ -1,4 +1,9 @@
 -- The end of the job program: the last line, the report, a window at a time, and all that was handed over.
+--     line-room, line-handed                                     the last line has room, and all of it is handed over
+--     Showing, showing-none, showing-more, showing-all           the loop that prints the report, a window at a time
+--     ShowsPart, shows-part, part-room, part-handed, part-low    what a window shows is what is handed over
+--     start-good, read-good                                      the table is good at the start; after the reading
+--     ended-early, handed-low, ended-whole                       the ends of the program
 use Prim.Native.Nat.{ℕ, _+_, _-_, _≤_, _<_, _^_, min}
 use native.Mathlib.Omega.{arith}
 use mathlib.Core.Path.{_≡_, refl, sym, _∙_, ap}

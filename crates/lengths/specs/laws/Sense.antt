@@ -1,5 +1,11 @@
--- The cut length belongs to the face: it depends neither on the step that names the ribbon nor on the sense in which the face is traced. It is bounded,
--- and an isolated vertex has none.
+-- The cut length belongs to the face: it depends neither on the step that names the ribbon nor on the sense in which the face is traced.
+-- It is bounded, and an isolated vertex has none.
+--     saw-named, saw-mirror      any step of the ribbon may name it; and either sense
+--     saw-most                   the longest that a cut length can be
+--     cut-named, cut-mirror      the same of what the call answers
+--     lone-none                  an isolated vertex yields no ribbon
+--     some-total                 one of a list passes a test exactly if their number is not 0
+--     length-back, taken-back    the way back along an edge takes as much
 use Prim.Native.Nat.{ℕ, _+_, _*_, _/_, _<_, _≤_}
 use native.Mathlib.Omega.{arith}
 use mathlib.Core.Path.{_≡_, refl, sym, _∙_, ap, ap₂}

@@ -1,4 +1,10 @@
 -- The loop that sums the lengths along a walk: what it knows, and how it ends.
+--     saw-total                                                the cut length is what the steps take up, and the lap
+--     takenBefore, takenMost, taken-most                       what the first n steps take up; the most that one step does
+--     length-most                                              the length of an edge on the way
+--     Summing                                                  the loop that sums what the steps take up
+--     summing-none, summing-room, summing-more, summing-all    it begins, has room for one step more, goes on, ends
+--     walk-some                                                a step met on the way is one of the walk's
 use Prim.Native.Nat.{ℕ, zero, suc, _+_, _*_, _/_, _%_, _≤_}
 use native.Mathlib.Omega.{arith}
 use native.Mathlib.Numerals.{add-one}

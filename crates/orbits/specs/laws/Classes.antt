@@ -1,12 +1,13 @@
 -- The number of classes of a decided equivalence below N: how many numbers are least in their class. Only the classes
 -- of live numbers are counted, where `live` is any test that is constant on classes.
---     Partition                  R is an equivalence below N, and the test r decides it
---     least, head, classes       no smaller number is in the class; live and least; how many
---     least-of, least-one        each class has one least member, and no two
---     reps-count                 any system of representatives, indexed as one likes, is as large as there are classes
---     carry-classes              a map that takes classes to classes, one to one and onto, keeps their number
---     classes-same, -split, -le  equal live sets; a live set in two exclusive parts; no more classes than live numbers
---     classes-none, -some, -one  no live number; some live number; all live numbers in one class
+--     least-means, least-says                    no smaller number is in the class
+--     Least, least-of, least-one                 each class has one least member, and no two
+--     head-live, head-least, head-says           a number that counts for its class is live and least
+--     Keeps                                      a test that is constant on classes
+--     Reps, reps-count                           any system of representatives, indexed as one likes, is as large as there are classes
+--     Carry, carry-classes                       a map that takes classes to classes, one to one and onto, keeps their number
+--     classes-same, classes-split, classes-le    equal live sets; a live set in two exclusive parts; no more classes than live numbers
+--     classes-none, classes-some, classes-one    no live number; some live number; all live numbers in one class
 use mathlib.Core.Path.{_≡_, refl, sym, _∙_}
 use mathlib.Core.Bool.{Bool, true, false, _||_, Bool-discrete, and-or-distrib-right}
 use Prim.Native.Nat.{ℕ, zero, _+_, _<_, _≤_}

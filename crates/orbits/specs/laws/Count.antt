@@ -1,9 +1,14 @@
 -- How many numbers below n pass a test.
---     count-same, count-one      equal tests; tests that differ at one number only
---     count-none, count-all      no number passes; each does.       count-le, none-counted, count-some, count-find    the ways back
---     count-split, count-sum     a test in two exclusive parts; a range in two pieces.       count-short    nothing past n passes
---     count-into                 an injective relation from one counted set into another: the first has no more members
---     count-onto                 the same both ways: as many
+--     count-same, count-one                             equal tests; tests that differ at one number only
+--     count-none, count-all                             no number passes; each does
+--     count-le, none-counted, count-some, count-find    the ways back
+--     PassesAt                                          a number below n that passes
+--     without, without-at, without-other, without-on    a test with one number taken out
+--     count-without                                     one fewer passes it
+--     count-split, count-part, count-sum                a test in two exclusive parts; a range in two pieces
+--     count-short, count-fewer                          nothing past n passes; a test that implies another
+--     count-into                                        an injective relation from one counted set into another: the first has no more members
+--     count-onto                                        the same both ways: as many
 use mathlib.Core.Path.{_≡_, refl, sym, _∙_}
 use mathlib.Core.Logic.{_≢_}
 use mathlib.Core.Bool.{Bool, true, false, not, _&&_, _||_, and-true, and-false, Bool-discrete}

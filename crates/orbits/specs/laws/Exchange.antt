@@ -1,9 +1,11 @@
 -- The exchange of two values, and where it joins. f with its values at x and y exchanged: where these were on two
 -- orbits, the two become one, and all other orbits stay.
---     exch             f after x and y are exchanged;     exch-left, exch-right, exch-off    its values
---     exch-exch        the exchange undoes itself;     exch-inj, exch-world    it is injective where f is
---     exch-joins       x and y on two orbits of f: the orbits of the exchange are those of f with these two joined
---     exch-less        then there is one orbit less
+--     exch-left, exch-right, exch-off    the values of f after x and y are exchanged
+--     exch-exch, exch-swap               the exchange undoes itself; x and y may change places
+--     exch-inj, exch-world               it is injective where f is
+--     exch-outside                       an orbit that has neither x nor y stays
+--     exch-joins                         x and y on two orbits of f: the orbits of the exchange are those of f with these two joined
+--     exch-less                          then there is one orbit less
 use mathlib.Core.Path.{_≡_, sym, _∙_, ap, fun-ext}
 use mathlib.Core.Logic.{_≢_, _⊎_, inl, inr, ⊎-elim}
 use mathlib.Core.Bool.{Bool}

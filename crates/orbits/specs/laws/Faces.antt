@@ -1,8 +1,9 @@
 -- A face is an orbit with its mirror image. No orbit is its own mirror, so there are half as many faces as orbits.
---     Face, faced, faceClasses     on one orbit or on mirror orbits; the test; how many live classes
---     orbits-pair            twice as many orbits
---     faces-live, faces-split     equal live sets; a live set in two exclusive parts
---     reps-faces             one number for each live face: as many as there are faces
+--     face-flip, face-trans, face-partition    being on one face is an equivalence, and is decided
+--     face-keeps                               a face is live as a whole, or not at all
+--     orbits-pair                              twice as many orbits
+--     faces-live, faces-split                  equal live sets; a live set in two exclusive parts
+--     reps-faces                               one number for each live face: as many as there are faces
 use mathlib.Core.Path.{_≡_, sym, _∙_, ap, subst}
 use mathlib.Core.Bool.{Bool, true, false, not, _&&_, _||_, true-or, or-true, false-or}
 use Prim.Native.Nat.{ℕ, _+_, _*_, _<_}

@@ -1,11 +1,10 @@
 -- One map that follows another: g goes on from j to the next marked number after φ j on the orbit of f. So φ may rename
 -- points, and the numbers that are not marked are passed over. Where each live orbit of f meets φ, the two maps have the same
 -- orbits, and as many.
---     Skip             j is the first marked number after i
---     Follows          g follows f under φ
---     reach-follow     i and j are on one orbit of g exactly if φ i and φ j are on one of f;     face-follow    the same for faces
---     orbits-follow    as many orbits;     faces-follow    as many faces
---     faces-agree      for maps that agree on live numbers
+--     skip-reach                     the next marked number is on the orbit
+--     reach-follow, face-follow      on one orbit, on one face of g exactly if the images are on one of f
+--     orbits-follow, faces-follow    as many orbits; as many faces
+--     agree-follows, faces-agree     for maps that agree on live numbers
 use mathlib.Core.Path.{_≡_, refl, sym}
 use mathlib.Core.Logic.{_↔_}
 use mathlib.Core.Bool.{Bool, false}

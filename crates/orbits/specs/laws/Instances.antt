@@ -1,6 +1,17 @@
 -- Small cases, computed. Four numbers, none of which moves, with the mirror 0 ↔ 1, 2 ↔ 3: four orbits, two faces. The
 -- mirrored exchange at 0 and 2 joins faces, again at 0 and 2 it parts them, and at 0 and 1 it keeps their number. So the
 -- hypotheses of the general statements can be met, and the numbers are the computed ones.
+--     all, stay, flip                        the four numbers; the map that moves none; the mirror
+--     joined                                 the map after the exchange at 0 and 2
+--     two-faces, one-face                    the hypotheses on mirrors are met by both maps
+--     four-orbits, two-orbits                their orbits, counted
+--     two-faces-counted, one-face-counted    their faces, counted
+--     joins, parts, keeps                    the exchange joins two orbits with their mirrors, parts them, keeps their number
+--     parts-counted, keeps-counted           the orbits after it, counted
+--     half, back-in-two                      the bound on periods, met with equality
+--     taken-out, taken-out-counted           a number taken out of its orbit
+--     own-face                               a face of two fixed numbers
+--     pair-joins, pair-parts                 the exchange without the mirror
 use mathlib.Core.Path.{_≡_, refl, sym}
 use mathlib.Core.Logic.{_≢_}
 use mathlib.Core.Bool.{Bool, true}

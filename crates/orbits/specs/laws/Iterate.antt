@@ -1,8 +1,10 @@
 -- Steps of a map, and its finite order. A map that is injective below N and stays there brings each number back.
---     iter             k steps of f from i
---     Inj              f keeps the numbers below N, and is injective on them
---     Period, period   the least number of steps, at least one, after which i comes back
---     period-on        it is at most the number of points of any set that f stays in, so at most N: period-le
+--     iter-zero, iter-suc, iter-step, iter-add    no step; one more, at the end or at the start; some and then others
+--     iter-low, iter-inj, iter-keeps              steps stay below N, are injective, and keep what f keeps
+--     Period, period                              the least number of steps, at least one, after which i comes back
+--     period-apart                                until then all points differ
+--     meeting                                     the first time that the steps from i meet t
+--     period-on, period-le                        it is at most the number of points of any set that f stays in, so at most N
 use mathlib.Core.Path.{_≡_, refl, sym, _∙_, ap}
 use mathlib.Core.Logic.{_≢_, Dec·and}
 use mathlib.Core.Bool.{Bool, true}

@@ -1,10 +1,11 @@
 -- Two classes become one. Nothing of maps is in it: R and R′ are equivalences below N, and R′ is R with the classes of
 -- x and y joined. Where these were two live classes, there is one class less.
---     Join          i and j are in one class, or one is in the class of x and the other in that of y
---     Merge         R′ is Join R x y, and R holds x and y apart
---     join-then, join-tr     what stays inside the joined relation: R, and to exchange one number of x's class and one of y's
---     join-flat     where x and y were in one class, nothing is joined
---     merge-classes the number falls by one
+--     Join                               i and j are in one class, or one is in the class of x and the other in that of y
+--     Merge                              R′ is Join R x y, and R holds x and y apart
+--     join-swap, join-map, merge-swap    x and y may change places; another relation with as much in it
+--     join-then, join-tr                 what stays inside the joined relation: R, and to exchange one number of x's class and one of y's
+--     join-flat                          where x and y were in one class, nothing is joined
+--     merge-classes                      the number falls by one
 use mathlib.Core.Path.{_≡_}
 use mathlib.Core.Logic.{_≢_}
 use mathlib.Core.Bool.{Bool, true, false}

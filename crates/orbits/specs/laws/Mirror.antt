@@ -1,12 +1,13 @@
 -- A mirror of a map: an involution m that turns each orbit of f into one run the other way. On live numbers m has no
 -- fixed point, and never takes i to f i. Then no orbit is its own mirror image, so orbits have at most half of the live numbers each.
---     Mirror           the laws
---     mirror-world     such an f is injective below N
---     mirror-part      the same mirror on a part of the live numbers
---     reach-mirror     j after i: then the mirror of i after the mirror of j
---     opposite-..      the opposite of i is m (f i): the same step, run the other way
---     no-self          i and its mirror are on two orbits
---     period-half      twice the period of a live number is at most the number of live numbers
+--     mirror-world                                 such an f is injective below N
+--     mirror-part, mirror-on                       the same mirror on a part of the live numbers; the mirror of a live number is live
+--     mirror-next, reach-mirror                    j after i: then the mirror of i after the mirror of j
+--     mirror-reach, mirror-unreach                 the mirror of an orbit is an orbit
+--     opposite-reach, opposite-low, opposite-on    the opposite of i is m (f i): the same step, run the other way
+--     opposite-inj, opposite-apart                 no two numbers have one opposite, and no live one is its own
+--     no-self                                      i and its mirror are on two orbits
+--     period-half                                  twice the period of a live number is at most the number of live numbers
 use mathlib.Core.Path.{_≡_, refl, sym, _∙_, ap}
 use mathlib.Core.Logic.{_≢_}
 use mathlib.Core.Bool.{Bool, true}

@@ -1,11 +1,12 @@
 -- The mirrored exchange: the values of f at x and y are exchanged, and those at their opposites m (f x) and m (f y). The
 -- mirror is then a mirror of the new map. The number of orbits changes by -2, +2 or 0, as y lies to the orbit of x.
---     exch2            the exchange;     exch2-left, exch2-right, exch2-undo    its values
---     exch2-mirror     the mirror stays
---     exch2-less       y neither on the orbit of x nor on its mirror: two orbits less
---     exch2-more       y on the orbit of x, and not x: two orbits more
---     exch2-same       y on the mirror of the orbit of x: as many orbits
---     less-joins, more-parts, same-parts     what the second of the two exchanges does to the orbits that the first leaves
+--     exch2-at, exch2-left, exch2-right, exch2-undo    the values of the exchange
+--     exch2-back, exch2-world                          it changes nothing where y is the opposite of x; it is injective where f is
+--     exch2-mirror                                     the mirror stays
+--     exch2-less                                       y neither on the orbit of x nor on its mirror: two orbits less
+--     exch2-more                                       y on the orbit of x, and not x: two orbits more
+--     exch2-same, mirror-apart                         y on the mirror of the orbit of x, and so not on the orbit: as many orbits
+--     less-joins, more-parts, same-parts               what the second of the two exchanges does to the orbits that the first leaves
 use mathlib.Core.Path.{_≡_, refl, sym, _∙_, ap, ap₂}
 use mathlib.Core.Logic.{_≢_}
 use mathlib.Core.Bool.{Bool}

@@ -1,7 +1,7 @@
 -- The number of orbits of a map on the live numbers below N.
---     orbits           how many live numbers are least on their orbit
---     World, On        f is injective below N and keeps `live`; x is a live number below N
---     merge-orbits     two orbits joined are one less
+--     reach-partition                      being on one orbit is an equivalence, and is decided
+--     reach-live, reach-on, world-keeps    along an orbit `live` does not change
+--     merge-orbits                         two orbits joined are one less
 use mathlib.Core.Path.{_≡_, refl, _∙_}
 use mathlib.Core.Bool.{Bool}
 use Prim.Native.Nat.{ℕ, suc, _<_}

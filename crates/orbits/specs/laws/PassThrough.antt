@@ -1,9 +1,9 @@
 -- Points put into an orbit, or taken out. A number that f fixes is alone in its orbit. One that has a predecessor is taken
 -- out by the exchange of the values at the two: the other orbits, and what is left of this one, stay.
---     reach-alone, orbits-alone, alone-world     a fixed number is alone; without it there is one orbit less
---     faces-alone, alone-mirror     a fixed number with its mirror: without the two there is one face less, and the mirror stays
---     pass-out         f s = z: the map that goes from s straight to f z follows f on the other numbers
---     pass-out-orbits  so without z it has as many orbits as f
+--     reach-alone, orbits-alone, alone-world    a fixed number is alone; without it there is one orbit less
+--     faces-alone, alone-mirror                 a fixed number with its mirror: without the two one face less, and the mirror stays
+--     pass-out, pass-out-world                  f s = z: the map that goes from s straight to f z follows f on the other numbers
+--     pass-out-orbits                           so without z it has as many orbits as f
 use mathlib.Core.Path.{_≡_, refl, sym, _∙_, ap}
 use mathlib.Core.Logic.{_≢_}
 use mathlib.Core.Bool.{Bool, true, false}

@@ -1,10 +1,11 @@
 -- Being on one orbit: some number of steps of f takes i to j. Below N, for a map that is injective there, this is an
 -- equivalence, and it is decided by trying fewer than N steps.
---     reach-here, reach-one, reach-trans, reach-sym      it is an equivalence, and each step stays in it
---     reach-ind        what holds at i and is kept by a step along the orbit holds on the whole orbit
---     reach-by, reach-agree     a way of f is a way of g, where g leads along each of its steps
---     reach-within     fewer steps than the period are enough;     reach-below    so fewer than N
---     reaches          the test; reach-says and says-reach: it passes exactly if i reaches j; reach-dec
+--     reach-here, reach-one, reach-step       no step, one step, one step more
+--     reach-trans, reach-sym, reach-back      it is an equivalence, and the orbit comes back
+--     reach-ind                               what holds at i and is kept by a step along the orbit holds on the whole orbit
+--     reach-by, reach-agree                   a way of f is a way of g, where g leads along each of its steps
+--     reach-low, reach-within, reach-below    it stays below N; fewer steps than the period are enough, so fewer than N
+--     reach-says, says-reach, reach-dec       the test passes exactly if i reaches j
 use mathlib.Core.Path.{_≡_, refl, sym, _∙_, ap, subst}
 use mathlib.Core.Bool.{true}
 use Prim.Native.Nat.{ℕ, zero, suc, _+_, _<_, pred}

@@ -1,6 +1,7 @@
 -- Two numbers exchanged.
---     tr               takes x to y, y to x, and each other number to itself
---     Position, position     where a number stands
+--     Position, position                     where a number stands: at x, at y or at neither
+--     tr-left, tr-right, tr-off              x goes to y, y to x, and each other number to itself
+--     tr-twice, tr-inj, tr-swap, tr-keeps    the exchange undoes itself; x and y may change places
 use mathlib.Core.Path.{_≡_, refl, sym, _∙_, ap}
 use mathlib.Core.Logic.{_≢_}
 use Prim.Native.Nat.{ℕ}

@@ -1,8 +1,8 @@
 -- Deciding: a Boolean is true or false, with the equation in hand; and the first number that passes a test.
---     truth        the two cases of a Boolean
---     both         a conjunction holds exactly if its two parts do:  both, both-left, both-right
---     same-truth   two Booleans that imply one another are equal
---     first        among the numbers below n, the first with a property, or that none has it
+--     Truth, truth, clash, false-unless        the two cases of a Boolean
+--     both, both-left, both-right, not-both    a conjunction holds exactly if its two parts do
+--     same-truth                               two Booleans that imply one another are equal
+--     First, first                             among the numbers below n, the first with a property, or that none has it
 use mathlib.Core.Path.{_≡_, refl, sym}
 use mathlib.Core.Bool.{Bool, true, false, _&&_}
 use Prim.Native.Nat.{ℕ, zero, suc, _<_}

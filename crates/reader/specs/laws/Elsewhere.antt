@@ -1,4 +1,6 @@
 -- A reader whose start is not on the walk of its step: it goes round that walk, and no step says that the walk ends.
+--     never-ends              no step says that the walk ends
+--     On, goes-on, on-walk    the reader stays on the walk of its step
 use Prim.Native.Nat.{ℕ, zero, suc, _+_, _*_, _/_, _%_}
 use native.Mathlib.Omega.{arith}
 use mathlib.Core.Path.{_≡_, refl, sym, subst}

@@ -1,4 +1,15 @@
--- The walk reader, document 01, "Corners and walks": where it stands, when it declines, and what a step leaves.
+-- Why each step of a reader is as `Reader` says: the ends of the making, of the placing and of the step, and what holds of every step.
+--     each-step                                             what holds of every step, wherever the reader stands
+--     step-tallied                                          an accepted step's answer says whether the lap is in the tally
+--     placed-begun                                          a reader at its start declines as its making would
+--     begin-refused, begin-there                            the ends of the making
+--     begun-refused, begun-named, begun-placed              what the making's answer says of the place
+--     placed-made, made-declined, made-overturned           a reader that can be made is placed, wherever it has come, as one that is made there
+--     placed-torn, placed-past, placed-type, placed-dead    the refusals of the present step: 1, 2, 2, 4
+--     first-past, first-type, first-dead, in-range          those of the step that the walk began at
+--     Placed, placed-there, there-placed                    a reader that stands at a live step, and began at one
+--     moved-on, step-refused, step-kept, step-moved         the ends of a step
+--     Settled, settled                                      a step goes on, or leaves reader and tally as they were
 use Prim.Native.Nat.{ℕ, _+_, _*_, _/_, _%_, _<_, _≤_}
 use native.Mathlib.Omega.{arith}
 use mathlib.Core.Path.{_≡_, refl, sym, _∙_, ap}

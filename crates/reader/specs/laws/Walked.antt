@@ -1,5 +1,11 @@
 -- A reader over one whole walk: it hands out the walk's steps, says at the last of them that the walk ends, and is then where it began;
 -- a tally begun at zeros holds the ribbon's numbers.
+--     reader-walks                            a reader that can be made goes over the whole walk
+--     tally-cut                               the tally's length is then what the call for the cut length answers
+--     one-step                                one step that is not declined
+--     Reads, reads-none, reads-more, reads    what n steps have come to: the place, the tally, the steps handed out
+--     lapped, tallied                         the lap once the walk is over; the tally of the first n steps
+--     end-at                                  the step says that the walk ends exactly at the walk's end
 use Prim.Native.Nat.{ℕ, zero, suc, _+_, _*_, _/_, _%_, _<_, _≤_}
 use native.Mathlib.Omega.{arith}
 use native.Mathlib.Decide.{ℕ-discrete}

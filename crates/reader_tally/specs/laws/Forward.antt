@@ -1,4 +1,8 @@
 -- A tally brought forward by one step, document 01, "Corners and walks", and when the step is declined: 6.
+--     past-steps, past-overs, past-unders, past-length    6, for each field that would pass 32 bits
+--     brought                                             the tally brought forward
+--     bit-most, lap-most                                  the lap, as the code has it, is at most 320
+--     tally-forward, brought-is                           what the code adds is the step's tally
 use Prim.Native.Nat.{ℕ, _+_, _-_, _*_, _%_, _<_, _≤_}
 use native.Mathlib.Omega.{arith}
 use mathlib.Core.Path.{_≡_, refl, _∙_}

@@ -1,4 +1,8 @@
 -- Why the job program may read its input in blocks: what it prints for a block and then for the bytes that are left is what it prints for all.
+--     left-none, left-some, left-few    the bytes left of a block: none after a bad mark; fewer than the longest record
+--     reading-left, left-again          they are read again, before those that come
+--     lines-blocks, run-blocks          the lines and the table are those of all bytes
+--     printed-bad, run-bad              after a bad mark nothing is read
 use Prim.Native.Nat.{ℕ, _+_, _<_}
 use native.Mathlib.Omega.{arith}
 use mathlib.Core.Path.{_≡_, sym, _∙_, ap}

@@ -1,4 +1,10 @@
 -- Job records, as the code decodes them: each end of its functions.
+--     signed-low, signed-fits, signed-high                          a word as a signed number
+--     size-known                                                    the size of a record by its mark
+--     insert-made, add-made, remove-made, delete-made, turn-made    the edit of a record, from the words that were read
+--     plain-made, long-made                                         an insertion with the length 16; with its own
+--     known-cut, known-whole                                        a record with a known mark: cut, or whole
+--     first-nothing, first-lone, first-marked                       the first record of no byte, of one, of more
 use Prim.Native.Nat.{ℕ, zero, suc, _-_, _≤_, _<_, _^_}
 use native.Mathlib.Omega.{arith}
 use native.Mathlib.Nat.{zero-add}

@@ -1,4 +1,7 @@
 -- The lines for records that are declined, document 01, "The job program".
+--     lines-append, lines-one    the lines of a run that goes on; of one edit
+--     lines-few, stop-few        a line has at most 27 bytes
+--     refused-few, line-few      the same of one refusal, of one edit
 use Prim.Native.Nat.{ℕ, suc, _+_, _*_, _≤_, _<_, _^_}
 use native.Mathlib.Omega.{arith}
 use native.Mathlib.Nat.{add-zero}

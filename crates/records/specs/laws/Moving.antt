@@ -1,4 +1,9 @@
 -- A block of a job's bytes, as the code takes it: what is left of it is moved to the front.
+--     blockOf                                 what the code answers for a block
+--     BlockFits, block-fits                   few bytes are left, the records are few, the lines have room
+--     Moving                                  the loop that moves bytes to the front
+--     moving-none, moving-more, moving-all    it begins, goes on, ends
+--     block-bad, taken-there, block-more      the ends: after a bad mark; where more is read
 use Prim.Native.Nat.{ℕ, zero, suc, _+_, _-_, _≤_, _<_}
 use native.Mathlib.Omega.{arith}
 use native.Mathlib.Numerals.{add-one}

@@ -1,7 +1,9 @@
 -- All records of some bytes, document 01, "The job program": the edits, the bytes that they took, and why the reading ended.
---     reading-stopped, reading-record                     what a reading is, by the first record
---     reading-blocks, reading-bad                         bytes that come in blocks
---     reading-bounds                                      how many bytes and edits
+--     reading-stopped, reading-record                    what a reading is, by the first record
+--     First, first-view, Sized, record-sized             what can stand first; a record has at least four bytes, which are there
+--     joined, joined-none, joined-after, joined-ended    a reading that goes on where another left off
+--     reading-blocks, reading-bad                        bytes that come in blocks
+--     Bounds, reading-bounds                             how many bytes and edits
 use Prim.Native.Nat.{ℕ, zero, suc, _+_, _-_, _*_, _≤_, _<_}
 use native.Mathlib.Omega.{arith}
 use native.Mathlib.Nat.{zero-add, add-zero, add-assoc}

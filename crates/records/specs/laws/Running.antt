@@ -1,4 +1,10 @@
 -- Records run over a table, as the code does it: what its loop knows.
+--     Ready, ran                                             what the code asks; what it answers
+--     line-done, line-declined                               the line of one edit: none, or its refusal
+--     stop-none, stop-bad, stop-cut                          the line of a reading that ended
+--     Running                                                the loop: the edits of the first `at` bytes are done
+--     running-none, running-more, running-stopped            it begins, goes on, ends
+--     running-size, left-part, ReadWithin, running-within    the slice's size; the bytes left; a whole record is within bounds
 use Prim.Native.Nat.{ℕ, _+_, _-_, _*_, _≤_, _<_, _^_}
 use native.Mathlib.Omega.{arith}
 use mathlib.Core.Path.{_≡_, refl, sym, _∙_, ap}

@@ -1,4 +1,7 @@
 -- The bytes of a record are bytes: 16-bit arguments have high and low ones.
+--     job-bytes                        the bytes of a job are bytes
+--     record-bytes, insertion-bytes    those of a record; of an insertion
+--     word-bytes, signed-bytes         those of a 16-bit word; of a signed one
 use Prim.Native.Nat.{ℕ, zero, suc, _/_, _%_, _<_}
 use native.Mathlib.Omega.{arith}
 use mathlib.Core.List.{List, [], _∷_, _++_, flatMap}

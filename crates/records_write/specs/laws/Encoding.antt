@@ -1,4 +1,7 @@
 -- Why reading the bytes of some edits gives the edits back.
+--     mark-read, record-read    the first record that is read is the one that was written
+--     readAll, job-read         the reading of a job gives its edits, all bytes taken
+--     whole, complement-back    a word from its two bytes; two's complement and back
 use Prim.Native.Nat.{ℕ, _+_, _-_, _*_, _/_, _%_, _≤_}
 use native.Mathlib.Omega.{arith}
 use mathlib.Core.Path.{_≡_, refl, sym, _∙_, ap}

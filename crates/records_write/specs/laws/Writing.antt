@@ -1,4 +1,8 @@
 -- Records as the code writes them: two's complement without a branch, words one after the other, and the two ends of a call.
+--     same, widened, handed-complement         a 16-bit number that is handed on keeps its value
+--     raised-fits, raised-whole, raised-low    two's complement by adding 65,536
+--     word-done, then-more                     a word's two bytes; words after words
+--     record-short, record-done                the two ends of the call: 7, or the bytes written
 use Prim.Native.Nat.{ℕ, suc, _+_, _-_, _/_, _%_, _≤_, _<_, _^_}
 use native.Mathlib.Omega.{arith}
 use native.Mathlib.Numerals.{add-one}

@@ -1,7 +1,10 @@
 -- The lines of the parts, read off the rows that are written of them.
---     Sided            the letter of a mark
---     RowAt            the row of a part;     LineOf     the line that it gives
---     Parting          the loop over the rows
+--     Sided, sided-no, sided-yes                                             the letter of a mark
+--     RowAt, row-at, rows-few                                                the row of a part, and where it stands
+--     vertex-text, euler-text, mark-handed                                   what its words say
+--     LineOf                                                                 the line that it gives
+--     Parting                                                                the loop over the rows
+--     parting-none, parting-near, parting-room, parting-more, parting-all    it begins, is far from any limit, has a row, goes on, ends
 use Prim.Native.Nat.{ℕ, suc, _+_, _*_, _<_, _≤_}
 use native.Mathlib.Omega.{arith}
 use mathlib.Core.Path.{_≡_, refl, sym, _∙_, ap}

@@ -1,6 +1,9 @@
 -- The steps of a walk, as the code writes them.
---     Crossed              the letters of a step;     lettering-more, lettering-all     the loop that writes them
---     step-wrote           a step;     StepsWriting     the loop over the walk
+--     Crossed, edge-crossed                                        a step on a live edge, whose letters are few
+--     lettering-more, lettering-all                                the loop that writes them
+--     step-wrote                                                   a step
+--     StepsWriting                                                 the loop over the walk
+--     stepping-none, stepping-near, stepping-more, stepping-all    it begins, is far from any limit, goes on, ends
 use Prim.Native.Nat.{ℕ, zero, _+_, _*_, _/_, _%_, _<_, _≤_, _^_}
 use native.Mathlib.Omega.{arith}
 use native.Mathlib.Numerals.{add-one}

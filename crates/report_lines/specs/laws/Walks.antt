@@ -1,4 +1,14 @@
 -- The lines of the listed walks, one dart and then one vertex at a time.
+--     numbered-append                                                lines with indices, one list after another
+--     WalkAt, walk-wrote                                             the line of a walk with steps
+--     DartAt, LinePlaced                                             dart d, in range; the line of the walk that starts there, if any
+--     placed-none, placed-walk, placed-one                           no walk starts there, or one does
+--     Numbering, PlacedAll                                           the loop over the darts; the lines of all walks from darts
+--     numbering-none, numbering-at, numbering-more, numbering-all    it begins, is ready, goes on, ends
+--     loneText, lone-wrote                                           the line of an isolated vertex
+--     LoneAt, PlacedLone, lone-none, lone-one                        vertex v: it is not isolated, or its line is written
+--     loneLines, LonesWriting                                        the lines of isolated vertices; the loop over the vertices
+--     ending-none, ending-at, ending-more, ending-all                it begins, is ready, goes on, ends
 use Prim.Native.Nat.{ℕ, suc, _+_, _-_, _*_, _<_, _≤_, _^_}
 use native.Mathlib.Omega.{arith}
 use native.Mathlib.Numerals.{add-one}

@@ -1,4 +1,9 @@
 -- A piece of text that was written, with a bound on its length: places stay far below the limit of a machine word.
+--     Wrote                                                        a text stands from a place on; it has at most so many bytes
+--     wrote-none, wrote-then, wrote-as                             no text; one after another; in other words
+--     wrote-most, wrote-length                                     a wider bound; the slice keeps its size
+--     short, number-wrote, field-wrote, signed-wrote               a text of known length; a number; a space and a number
+--     parts-most, steps-most, walk-most, walks-most, lones-most    the bounds for parts, steps, walks and empty walks
 use Prim.Native.Nat.{ℕ, _+_, _*_, _<_, _≤_, _^_}
 use native.Mathlib.Omega.{arith}
 use mathlib.Core.Path.{_≡_, sym, ap}

@@ -1,5 +1,11 @@
 -- The third demand holds: for every list of edits, declined ones included, from every good table, and so from the empty mesh.
 -- The laws of one edit, by induction along the run; the laws of good tables, at the table after it.
+--     run-laws, empty-run-laws                     the third demand: from every good table; from the empty mesh
+--     edited-good, edited-count, answered-count    one edit: a good table, the face count as called for, and answered
+--     run-good, run-count                          the whole run: the table is good, the face count is what the rules call for
+--     tells-calls, told-called                     what the answers say is what the rules call for
+--     answered-rule                                the rule says how the answered number came of the one before
+--     edited-length, run-length                    the length of an edge after an edit; after the run
 use Prim.Native.Nat.{ℕ}
 use native.Mathlib.Omega.{arith}
 use mathlib.Core.Path.{_≡_, refl, sym, _∙_, ap, ap₂}

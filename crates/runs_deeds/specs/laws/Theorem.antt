@@ -1,4 +1,9 @@
 -- The third demand of a run that holds commits: each deed leaves the table of the plain edits that it counts as; then the laws of a run of edits.
+--     deed-laws, empty-deed-laws                                   the third demand: from every good table; from the empty mesh
+--     commit-good, commit-count, commit-run                        one commit: a good table, the face count, the plain edits
+--     commit-answered, commit-away                                 its answer; turned away, it leaves the table
+--     done-good, done-count, done-run, done-answered, done-away    the same of any deed
+--     ran-count, ran-counted                                       the whole run: the face count; the plain edits that it counts as
 use Prim.Native.Nat.{ℕ}
 use native.Mathlib.Omega.{arith}
 use mathlib.Core.Path.{_≡_, refl, sym, _∙_, ap}

@@ -1,5 +1,9 @@
 -- Runs of edits on sparse tables: as `run` and its answers on the table itself.
---     verdictOn, editedOn, answerOn, ruleOn, replyOn     one edit;     runOn, answersOn     a run
+--     verdictOn, editedOn, answerOn    one edit on a sparse table: its verdict, what it leaves, its answer
+--     ruleOn, replyOn                  its rule, and the answer with it
+--     runOn, answersOn                 a run, and its answers
+--     run-on, answers-on               they are those of the table itself
+--     verdictBy                        the verdict on a good table, from a function that reads its words
 use Prim.Native.Nat.{ℕ, _+_}
 use mathlib.Core.Path.{_≡_, refl, _∙_, ap, ap₂}
 use mathlib.Core.Bool.{not, Bool, _&&_}

@@ -1,8 +1,11 @@
 -- A mesh whose edges and vertices all have small names: what is counted and listed over every name is the same over these few,
 -- and computes.
---     Few                  no edge from m on is live, and no vertex from n on
---     facesFew, eulerFew, marksFew, lengthsFew      the same as the definitions without "Few", by the law of the like name
---     meetingFrom, sidesFrom                        how corners meet and sides lie, from the starts
+--     Few                                                         no edge from m on is live, and no vertex from n on
+--     facesFew, eulerFew, marksFew, lengthsFew                    F, Euler number, marks and steps, over the small names alone
+--     faces-few, euler-few, marks-few, lengths-few, starts-few    they are those of the mesh
+--     spotsFew, ownLabels                                         labels and marks by the first m edges; the vertices that are their own labels
+--     meetingFrom, sidesFrom, faceFrom, typeFrom                  how corners meet and sides lie, a corner's face and type, from the starts
+--     meeting-few, sides-few                                      they are those of the mesh
 use Prim.Native.Nat.{ℕ, zero, suc, _*_, _≤_}
 use native.Mathlib.Omega.{arith}
 use native.Mathlib.Decide.{ℕ-discrete}

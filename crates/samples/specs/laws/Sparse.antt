@@ -1,7 +1,8 @@
 -- A table as the words that were written over the empty mesh, the latest first: a place and its word. A read costs as many steps as
 -- there are writes, whatever the place.
---     tableOf                  the table;     read      what its words are
---     span                 how many names of a kind may be live
+--     Writes, tableOf               the writes; the table that they leave
+--     read, lookup, put-read        what its words are
+--     span, span-room, span-past    how many names of a kind may be live
 use Prim.Native.Nat.{ℕ, suc, _+_, _-_, _<_, _≤_, max}
 use native.Mathlib.Omega.{arith}
 use native.Mathlib.Decide.{ℕ-discrete, decLt}

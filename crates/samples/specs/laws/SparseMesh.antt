@@ -1,8 +1,10 @@
 -- The mesh of a sparse table, its words found by `read`.
---     rotationBy           a rotation system, from a table's words
---     few-read             only names up to the largest one written are live
---     facesOn, eulerOn, marksOn, lengthsOn, plainOn      what the samples say of a table;     faces-read .. plain-read    that they are so
---     meetingOn, sidesOn   what the rule of an edit is read from;     meeting-read, sides-read
+--     rotationBy, rotation-by                                         a rotation system, from a table's words
+--     plainBy                                                         is the weave plain, from the words
+--     few-read                                                        only names up to the largest one written are live
+--     facesOn, eulerOn, marksOn, lengthsOn, plainOn                   what the samples say of a table
+--     faces-read, euler-read, marks-read, lengths-read, plain-read    that they are so
+--     meetingOn, sidesOn, meeting-read, sides-read                    what the rule of an edit is read from
 use Prim.Native.Nat.{ℕ, _+_, _*_, _/_, _%_, _<_, _≤_}
 use native.Mathlib.Omega.{arith}
 use native.Mathlib.Decide.{decLt}

@@ -1,5 +1,8 @@
 -- Every sample of the list holds: document 01, "the P samples: proved together as one statement over a list".
 -- Each is computed on the few words that its edits write.
+--     samples-hold                every sample of the list holds
+--     found, has-found            a fact, with what is found in a sparse table in place of what it says
+--     computed, holds-computed    a sample, with what its edits give in place of what it says
 use Prim.Native.Nat.{_+_}
 use mathlib.Core.Path.{_≡_, refl, _∙_, ap}
 use mathlib.Core.List.{List, [], _∷_, map}

@@ -1,5 +1,8 @@
 -- The words that an edit writes, on sparse tables.
---     linkOn, unlinkOn, writtenOn      as `link`, `unlink`, `written` on the table itself;     link-on, unlink-on, written-on
+--     writtenOn, written-on         what an edit writes, as `written` on the table itself
+--     spliceOn, linkOn              a dart put between two others; put into a corner
+--     cutOn, refoundOn, unlinkOn    a dart taken out; the vertex word found anew; both
+--     seekBy                        the first of k darts that leaves v
 use Prim.Native.Nat.{ℕ, zero, suc, _+_, _-_, _*_}
 use native.Mathlib.Omega.{arith}
 use native.Mathlib.Decide.{ℕ-discrete, decLt}

@@ -1,9 +1,10 @@
 -- Connected parts and marks, document 01, "Counts", in its own words: a chain of live edges, and marks that exist.
---     Chain                chains of live edges;     chain-trans, chain-sym     they join into parts
---     chain-ind            what holds at u and goes along each live edge holds on the part of u
---     Fits, MarksOn        the marks agree with an edge; with each edge of a part
---     Orientable           such marks exist
---     orient-fits, fits-orient     the same with sums: the turns and the marks of the two ends add to an even number
+--     chain-trans, chain-sym      chains of live edges join into parts
+--     chain-edge, chain-back      one live edge, from either end
+--     chain-ind                   what holds at u and goes along each live edge holds on the part of u
+--     part-kept                   the ends of an edge of a part are both in it
+--     Fits, MarksOn               the marks agree with an edge; with each edge of a part
+--     orient-fits, fits-orient    orientable, with sums: the turns and the marks of the two ends add to an even number
 use Prim.Native.Nat.{ℕ, _+_, _%_}
 use native.Mathlib.Omega.{arith}
 use mathlib.Core.Path.{_≡_, _∙_}

@@ -1,10 +1,15 @@
 -- Labels and marks that keep to `Labelling`, and what they answer: two vertices have one label exactly if a chain joins them, the label
 -- is the smallest vertex of its part, and the part is orientable exactly if the marks found agree with each of its edges.
 -- So labels are the same however they are found, and so is the answer whether a part is orientable.
---     label-chain, chain-label     equal labels and chains
---     part-of                      the vertices labelled r are the part of r
---     agree-orient, orient-agree   marks that agree, and marks that exist
---     label, orientable            those of the fold over the live edges;     label-one    the only ones
+--     label-chain, chain-label, label-least       equal labels and chains; a label is the smallest vertex of its part
+--     joined-dec, chain-dec                       whether a chain joins two vertices is decided
+--     part-of, labelled-kept                      the vertices labelled r are the part of r
+--     agree-orient, orient-agree                  marks that agree, and marks that exist
+--     label-one, untwisted-one                    however labels and marks are found, the answers are one
+--     label-is, orientable-is                     they are those of the fold over the live edges
+--     same-label, label-smallest, label-joined    two vertices have one label exactly if a chain joins them; it is the smallest
+--     inPart-of, inPart-at, inPart-kept           the part labelled r is the part of r
+--     orientable-marks                            it is orientable exactly if its vertices can be marked so
 use Prim.Native.Nat.{ℕ, _+_, _*_, _/_, _%_, _≤_}
 use native.Mathlib.Omega.{arith}
 use native.Mathlib.Decide.{ℕ-discrete}

@@ -1,9 +1,12 @@
 -- The parts and their marks found: a fold over the live edges. Each edge links two labels, and a vertex follows the links made so far
 -- from itself to the label of its part. Two vertices have one label exactly if a chain joins them, and the label is the smallest of them.
---     Link, Spot, spot     a link; where a vertex has come to, and its mark there
---     links                one link for each edge of a list
---     Labelling            what labels and marks must keep to, however they are found
---     links-label          the fold over all live edges does
+--     Labelling, Sound, FitsAt                 what labels and marks must keep to, however they are found
+--     links-label                              the fold over all live edges does
+--     Moves, moves, moved-same, moved-sound    a vertex follows a link, or stays
+--     begin-sound                              before the first link each vertex is its own label
+--     Links, link-links, link-same             the link that an edge makes is between two labels that a chain joins
+--     live-edge-low, live-edge, Side, side     live darts and live edges
+--     edge-fits, edge-kept                     marks and tests at the two ends of an edge
 use Prim.Native.Nat.{ℕ, zero, suc, _+_, _*_, _/_, _%_, _<_, _≤_, min, max}
 use native.Mathlib.Omega.{arith}
 use native.Mathlib.Decide.{ℕ-discrete, decLe}

@@ -1,9 +1,9 @@
 -- The listed parts, document 01, "Counts": which vertices a part has, that every live vertex is in exactly one, and the name of each.
---     listed-root, root-listed     the listed parts are the live vertices that are their own labels
---     one-part             two live vertices are in one part exactly if a chain joins them
---     part-once            a live vertex is in exactly one listed part
---     part-named           a part is named by its smallest vertex;     part-alone     an isolated vertex is a part alone
---     walk-once            a listed walk is counted in exactly one listed part;     walk-part     and all its corners are in it
+--     listed-root, root-listed    the listed parts are the live vertices that are their own labels
+--     one-part                    two live vertices are in one part exactly if a chain joins them
+--     part-once                   a live vertex is in exactly one listed part
+--     part-named, part-alone      a part is named by its smallest vertex; an isolated vertex is a part alone
+--     walk-once, walk-part        a listed walk is counted in exactly one listed part, and all its corners are in it
 use Prim.Native.Nat.{ℕ, zero, suc, _<_, _≤_}
 use native.Mathlib.Omega.{arith}
 use native.Mathlib.Decide.{ℕ-discrete}

@@ -1,4 +1,8 @@
 -- A mesh without edges: each part is one isolated vertex with one face, so V-E+F is 2, and it is orientable.
+--     bare-laws                          the laws of V-E+F for such a part
+--     alone-part, one-vertex, no-edge    the part is its one vertex, and has no edge
+--     root-alone, one-face               the vertex is isolated, and has one face
+--     bare-orient                        the part is orientable
 use Prim.Native.Nat.{ℕ, _+_, _-_, _*_, _/_, _<_}
 use native.Mathlib.Omega.{arith}
 use native.Mathlib.Decide.{ℕ-discrete}

@@ -1,8 +1,8 @@
 -- The parts of a mesh, upward by their smallest vertices; V, E and F of the mesh are the sums of those of its parts, document 01, "Counts".
---     parts                the smallest vertices of the parts
---     additive             any count that adds up over exclusive parts is the sum over the parts
---     vertices-sum, edges-sum, faces-sum     V, E and F
---     empty-parts          "The empty mesh has no parts", and no vertex, edge or walk
+--     root-there, root-label, label-root                       a part is named by a live vertex that is its own label
+--     additive                                                 any count that adds up over exclusive parts is the sum over the parts
+--     vertices-sum, edges-sum, faces-sum                       V, E and F
+--     empty-parts, empty-vertices, empty-edges, empty-faces    "The empty mesh has no parts", and no vertex, edge or walk
 use Prim.Native.Nat.{ℕ, zero, suc, _+_, _*_, _/_, _<_}
 use native.Mathlib.Omega.{arith}
 use native.Mathlib.Decide.{ℕ-discrete, decLt}

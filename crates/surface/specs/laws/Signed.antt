@@ -1,7 +1,7 @@
 -- The Euler number, signed, document 01, "Counts": "The Euler number is V-E+F, signed, for each connected part and for the mesh."
---     eulerOf              V-E+F;     partEuler, meshEuler     of a part and of the mesh
---     PartLaws, part-laws      at most 2, even if the part is orientable, at most 1 if not
---     mesh-sum             the mesh's is the sum of its parts';     empty-euler     of the empty mesh 0
+--     part-laws                V-E+F of a part: at most 2, even if the part is orientable, at most 1 if not
+--     mesh-sum, empty-euler    the mesh's is the sum of its parts'; of the empty mesh 0
+--     euler-difference         V-E+F as a difference of two sums
 use Prim.Native.Nat.{ℕ, _+_, _-_, _%_, _≤_}
 use native.Mathlib.Omega.{arith}
 use mathlib.Core.Path.{_≡_, refl, _∙_, ap}

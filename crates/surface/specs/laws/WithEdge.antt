@@ -1,8 +1,9 @@
 -- A rotation system R and the same without one of its edges, R′: what the edge does to chains, marks and counts.
---     edge-step            a live dart is one of the edge's, or was there without it
---     weaken               chains without the edge are chains with it
---     marks-down, marks-up     marks of one and of the other
---     vertices-same, edges-one, edges-same     the counts
+--     EdgeStep, edge-step                                 a live dart is one of the edge's, or was there without it
+--     weaken, onward                                      chains without the edge are chains with it; a chain goes on along another edge
+--     ends-kept                                           both ends of the edge are in a part, or none
+--     marks-down, marks-up                                marks of one and of the other
+--     vertices-same, edges-one, edges-same, edge-fewer    the counts
 use Prim.Native.Nat.{ℕ, suc, _+_, _*_, _%_}
 use native.Mathlib.Omega.{arith}
 use native.Mathlib.Decide.{ℕ-discrete}

@@ -1,5 +1,8 @@
 -- What the calls for the counts answer, and what they leave in the slice, document 01, "Counts" and "When a call declines".
---     countsOf             the five words of the mesh;     partRows     six words for each part, upward
+--     five-stores                  five stores write the five words of the mesh
+--     counts-short, counts-done    the ends of the call for the mesh's counts: 7, or five words
+--     rows-size                    six words for each part
+--     parts-short, parts-done      the ends of the call for the parts' rows: 7, or all rows
 use Prim.Native.Nat.{ℕ, _*_, _<_, _≤_}
 use native.Mathlib.Omega.{arith}
 use mathlib.Core.Path.{_≡_, refl, sym, _∙_, ap}

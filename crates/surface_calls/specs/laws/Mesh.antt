@@ -1,7 +1,9 @@
 -- V, E, F, the number of parts and V-E+F of a mesh, as the code counts them.
---     AddedUp              a loop that adds up a test's answers;     counted-none, counted-more
---     parts-count, rows-length     the number of parts, and of the words that are written of them
---     MeshCounts           the five numbers
+--     AddedUp, counted-none, counted-more         a loop that adds up a test's answers
+--     vertex-yes, vertex-no, edge-yes, edge-no    the answers for a vertex and for an edge
+--     root-none, root-other, root-yes             those for a vertex that may name a part
+--     parts-count, rows-length, six-each          the number of parts, and of the words that are written of them
+--     MeshCounts, mesh-counts                     the five numbers
 use Prim.Native.Nat.{ℕ, zero, suc, _+_, _*_, _/_, _<_, _≤_}
 use native.Mathlib.Omega.{arith}
 use native.Mathlib.Numerals.{add-one}

@@ -1,6 +1,7 @@
 -- The code that writes the rows, one vertex at a time: what a turn is handed, and what it leaves.
---     RowReady, RowDone         one vertex;     turned-none, turned-other, turned-root     its cases
---     Rowing               the loop
+--     RowReady, RowDone                                  one vertex, before its turn and after it
+--     turned-none, turned-other, turned-root, is-root    its cases: not live, no name of a part, the name of one
+--     Rowing, rowing-none, rowing-turn, rowing-more      the loop
 use Prim.Native.Nat.{ℕ, _+_, _*_, _<_, _≤_}
 use native.Mathlib.Omega.{arith}
 use mathlib.Core.Path.{_≡_, sym, _∙_, ap}

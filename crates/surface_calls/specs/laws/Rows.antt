@@ -1,6 +1,8 @@
 -- What is written of the parts: for each, upward, six signed words: its smallest vertex, V, E, F, V-E+F, and 1 if it is orientable, else 0.
---     rows-all             the rows below the number of vertices are those of all parts
---     Written              the loop that writes them;     written-none, written-skip, written-more
+--     rows-all, rows-append                                the rows below the number of vertices are those of all parts
+--     Written, written-none, written-skip, written-more    the loop that writes them
+--     written-size, written-room                           the slice keeps its size; there is room for a row
+--     row-words, flag-fits                                 the six words of a row, as they are stored
 use Prim.Native.Nat.{ℕ, zero, suc, _+_, _<_, _≤_}
 use native.Mathlib.Omega.{arith}
 use native.Mathlib.Numerals.{add-one, towards-suc}

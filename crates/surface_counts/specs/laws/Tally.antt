@@ -1,8 +1,10 @@
 -- Counting by label in an array of 512 words: how many numbers below n pass a test, for each key. V, E, F and the twisted edges of each part
 -- are counted so, each with one word for a label.
---     Tally                the array, after the numbers below n;     tally-none, tally-begin, tally-more, tally-skip, tally-low
---     Keyed                the array of labels, as the counting code is handed it;     labelled-keyed
---     VertexTally, EdgeTally, TwistTally, WalkTally, LoneTally     what is counted
+--     Tally                                                         the array, after the numbers below n
+--     tally-none, tally-begin, tally-more, tally-skip, tally-low    it begins, at zeros or not; counts one, skips one; its words stay small
+--     Keyed, labelled-keyed                                         the array of labels, as the counting code is handed it
+--     VertexTally, EdgeTally, TwistTally, WalkTally, LoneTally      what is counted
+--     twistSum, startsIn                                            turns and marks at an edge, added; the walks that start in a part
 use Prim.Native.Nat.{ℕ, _+_, _*_, _%_, _<_, _≤_}
 use native.Mathlib.Omega.{arith}
 use native.Mathlib.Numerals.{add-one}

@@ -1,6 +1,15 @@
 -- The loops that count by label: over the vertices (V, and the empty walks of F), over the edges (E, and the twisted edges), and over the darts
 -- (the walks of F that have steps). Each is one record, with a lemma for each way through a turn; at the end the words are V, E, F.
---     Vertexing, Edging, Dartwise      the loops;     PartTally     the words of a part at the end
+--     bump                                                              one more at a label
+--     Vertexing, vertexing-none                                         the loop over the vertices
+--     vertex-none, vertex-joined, vertex-alone, vertex-low, lone-low    its turns: not live, joined, isolated; the words stay small
+--     Edging, edging-none                                               the loop over the edges
+--     edge-none, edge-plain, edge-twisted, EdgeWords, edge-near         its turns: not live, plain, twisted; the words of the edge
+--     Dartwise, dartwise-none                                           the loop over the darts
+--     walk-none, walk-more, walk-key, walk-low, start-low               its turns: no walk starts, or one does
+--     PartTally, tallied                                                the words of a part at the end: V, E, F, orientable
+--     Tallies                                                           a good table with its labels, and four arrays of zeros
+--     tallies-keyed, tallies-vertexing, tallies-edging                  the loops can begin on these
 use Prim.Native.Nat.{ℕ, _+_, _-_, _*_, _/_, _%_, _<_, _≤_}
 use native.Mathlib.Omega.{arith}
 use mathlib.Core.Path.{_≡_, sym, _∙_, ap, ap₂}

@@ -1,11 +1,14 @@
 -- Parts found in two arrays: each vertex points up to one that is not larger, its root in the end, with the parity of their marks beside it.
 -- A forest stands for labels and marks `s`: the root of a tree is the label of its vertices.
---     Shape                what the arrays must keep to, so that they can be read
---     Points, Forest       the arrays stand for s
---     Moved, moved-shape, moved-forest     one vertex points elsewhere
---     lift, liftTurn       a vertex points up to its parent's parent;     lift-shape, lift-forest     that changes nothing of s
---     RootFound, Finding       the root of a vertex, and the loop that climbs to it
---     FlatBelow, Flattening     each vertex points to its root, and the loop that makes it so
+--     Shape                                                    what the arrays must keep to, so that they can be read
+--     Points, Forest                                           the arrays stand for s
+--     Moved, moved-shape, moved-forest                         one vertex points elsewhere
+--     lift, liftTurn, grand, grandTurn                         a vertex points up to its parent's parent
+--     lift-shape, lift-forest, lift-up, lift-turn              that changes nothing of s; what it then points to
+--     RootFound, Finding                                       the root of a vertex, and the loop that climbs to it
+--     finding-none, finding-more, finding-less, finding-all    it begins, goes on, always down to a smaller vertex, ends
+--     FlatBelow, Flattening                                    each vertex points to its root, and the loop that makes it so
+--     flattening-none, flattening-more                         it begins, goes on
 use Prim.Native.Nat.{ℕ, _+_, _%_, _<_, _≤_}
 use native.Mathlib.Omega.{arith}
 use native.Mathlib.Decide.{ℕ-discrete}

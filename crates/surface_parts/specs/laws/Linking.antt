@@ -1,9 +1,12 @@
 -- One edge taken into the forest: the roots of its ends are found, and the larger points to the smaller, with the parity that makes the marks of
 -- the ends agree with the edge. Then all edges, and the labels and marks that come of it.
---     After, Taken         what taking in an edge makes of the labels and marks
---     taken-dead, taken-same, taken-up, taken-down     an edge that is not live, in one tree, and between two
---     Linking, linking-none, linking-more     the loop over the edges
---     Labelled, linked-flat     the end: labels and marks in the arrays
+--     After, Taken                                           what taking in an edge makes of the labels and marks
+--     Taking, edge-on, first-low, second-low                 a good table, arrays and an edge; its two ends
+--     taken-dead, taken-same, taken-up, taken-down           an edge that is not live, in one tree, and between two
+--     link-forest                                            a link between two roots, as a pointer
+--     Linking, linking-none, linking-taking, linking-more    the loop over the edges
+--     Fresh, fresh-none, fresh-more                          the loop that makes each vertex point to itself
+--     Labelled, linked-flat                                  the end: labels and marks in the arrays
 use Prim.Native.Nat.{ℕ, _+_, _*_, _/_, _%_, _<_, _≤_, min, max}
 use native.Mathlib.Omega.{arith}
 use native.Mathlib.Decide.{ℕ-discrete}

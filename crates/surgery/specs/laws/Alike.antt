@@ -1,6 +1,7 @@
 -- Two rotation systems with the same darts in the same order around each vertex. They have the same mirror, and the same
 -- tracing wherever the turns of the edge have the same parity.
---     Alike                the same order;     alike-around, alike-flip, alike-trace    and what follows
+--     alike-around, alike-flip    the same steps around a dart; the same mirror
+--     alike-trace                 the same tracing, where the turns have the same parity
 use mathlib.Core.Path.{_≡_, sym, _∙_, ap, fun-ext}
 use Prim.Native.Nat.{ℕ, _+_, _/_, _%_}
 use native.Mathlib.Omega.{arith}

@@ -1,7 +1,9 @@
 -- An edge between two places of the rotation system without it: what an induction over the edges asks. The places are at the edge's
 -- two ends, and their types add to an even number with its turns. So on two faces, on one walk or on mirror walks, the edge
 -- makes one face less, one more or as many, in each set of vertices that edges keep.
---     Between, between     the two places, and the four cases
+--     Between             the two places, and the four cases
+--     between             there are such places for every edge
+--     inserted-between    they are the places of the two corners, the second turned by the edge's parity
 use mathlib.Core.Path.{_≡_, sym, _∙_, ap}
 use mathlib.Core.Bool.{Bool, true, false}
 use Prim.Native.Nat.{ℕ, suc, _+_, _-_, _*_, _/_, _%_}

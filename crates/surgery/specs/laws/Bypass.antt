@@ -1,8 +1,8 @@
 -- A number taken out of its cycle: whoever led to it now leads to the one after it, and it leads to itself.
---     bypass              the map after it;     bypass-self, bypass-into, bypass-off    its values
---     bypass-inverse      the inverse of a bypass is the bypass of the inverse
---     skip-over           a step onto a number that is not marked, which is named by an equation
---     bypass-skip         with two numbers taken out, each other number leads to the first after it that is neither
+--     bypass-self, bypass-into, bypass-off    where each number leads after it
+--     bypass-inverse                          the inverse of a bypass is the bypass of the inverse
+--     skip-over                               a step onto a number that is not marked, which is named by an equation
+--     bypass-skip                             with two numbers taken out, each other number leads to the first after it that is neither
 use mathlib.Core.Path.{_≡_, refl, sym, _∙_, ap}
 use mathlib.Core.Logic.{_≢_}
 use mathlib.Core.Bool.{Bool, true, false}

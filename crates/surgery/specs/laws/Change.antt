@@ -1,8 +1,7 @@
 -- The change of the number of faces by each edit, in document 01's words, read on the table before the edit: "Edits".
---     Change, Changes      one less, as many, one more;     what that says of the numbers before and after
---     deletion, turning, insertion     the document's table of changes
---     delete-change, turn-change, insert-change     they hold in every part that has the edge
---     delete-count, turn-count, insert-count, add-count     they hold of the face count
+-- That it is as the table of changes says:
+--     delete-change, turn-change, insert-change                             in every part that has the edge
+--     delete-count, turn-count, turn-even-count, insert-count, add-count    of the face count
 use mathlib.Core.Path.{_≡_, _∙_}
 use mathlib.Core.Bool.{Bool}
 use Prim.Native.Nat.{ℕ, suc, _+_, _-_, _*_, _/_}

@@ -1,7 +1,7 @@
 -- An edge deleted. Its two sides on different faces: one face less. The far side on the walk of the near side, so that one walk
 -- passes by both darts: one face more. The far side on the mirror of that walk: as many faces.
---     delete-less, delete-more, delete-same     in a part that has the edge
---     delete-elsewhere     in any other part as many
+--     delete-less, delete-more, delete-same    in a part that has the edge
+--     delete-elsewhere                         in any other part as many
 use mathlib.Core.Path.{_≡_, _∙_}
 use mathlib.Core.Bool.{Bool}
 use Prim.Native.Nat.{ℕ, suc}

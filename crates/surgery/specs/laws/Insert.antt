@@ -1,9 +1,9 @@
 -- An edge inserted: the deletion, seen from the rotation system without the edge. The near side goes on, past the edge, to a
 -- place p of it, the second dart's step of type 0 to a place q. The far side goes on to q if the turns are even, and to the mirror of q if odd.
 -- On different faces: one face less. The far side's place on the walk of p: one face more. On its mirror: as many faces.
---     bend                 a place, or its mirror
---     Enters               where the edge's steps go on to
---     insert-less, insert-more, insert-same     in a part that has them
+--     bend, bend-zero, bend-one                a place, or its mirror
+--     Enters                                   where the edge's steps go on to
+--     insert-less, insert-more, insert-same    in a part that has them
 use mathlib.Core.Path.{_≡_, refl, sym, _∙_}
 use mathlib.Core.Logic.{_↔_}
 use mathlib.Core.Bool.{Bool, cond}

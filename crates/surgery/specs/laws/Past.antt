@@ -1,9 +1,11 @@
 -- Tracing past an edge has the faces of tracing without it, in the whole and in each part.
---     facesOf              the number of faces in a part of the places
---     Parts, whole-parts   a part with the edge, and the same part without it
---     Inside, Outside, Level     the edge's steps are in the part; none is; one of the two
---     through-mirror       tracing past the edge has the same mirror
---     past-faces           it has as many faces as tracing without the edge;     past-reach    and the same orbits
+--     facesOf                                         the number of faces in a part of the places
+--     Parts, whole-parts                              a part with the edge, and the same part without it
+--     Inside, Outside, Level                          the edge's steps are in the part; none is; one of the two
+--     inside-whole, level-in, level-out, own-level    they are in the whole; what the three say of each other and of its four steps
+--     near-on, far-on                                 its two sides are places of the part
+--     through-mirror                                  tracing past the edge has the same mirror
+--     past-follows, past-faces, past-reach            it has as many faces as tracing without the edge, and the same orbits
 use mathlib.Core.Path.{_≡_, sym, _∙_, ap}
 use mathlib.Core.Logic.{_↔_}
 use mathlib.Core.Bool.{Bool, true, false}

@@ -1,8 +1,10 @@
 -- The places of a set of vertices that edges keep: each edge has both its ends in the set, or none, as in a connected part. They are a part
 -- of the tracing. The same set of vertices is such a part before an edit and after it, and it has the edge exactly if it has the edge's first vertex.
---     placeVertex, placesIn   the vertex of a place; the places that are there at these vertices
---     EndsTogether, placesIn-part  edges keep the set: then its places are a part
---     without-kept, without-parts     with an edge and without it;     inside-of, outside-of    its steps are in the part, or none is
+--     placeVertex, vertex-step, vertex-still, vertex-flip    the vertex of a place
+--     placesIn, part-on, part-off, part-within               the places that are there at these vertices
+--     EndsTogether, placesIn-part                            edges keep the set: then its places are a part
+--     without-kept, without-parts, seat-vertex-at            with an edge and without it
+--     inside-of, outside-of                                  the edge's steps are in the part, or none is
 use mathlib.Core.Path.{_≡_, sym, _∙_, ap}
 use mathlib.Core.Bool.{Bool, true, false, _&&_, cond}
 use Prim.Native.Nat.{ℕ, _+_, _-_, _*_, _/_, _%_, _<_, _≤_}

@@ -1,9 +1,13 @@
 -- Where the places of a rotation system without an edge lie among those with it. A step stays where it is, and so does a vertex
 -- that is alone in both. A vertex that only the edge's darts left is alone without the edge: its two still places lie
 -- at the two steps of such a dart.
---     seat                 where a place lies;     Seated, seated    which of the three it is
---     past                 past the edge: what a step of its darts leads to
---     skip-around, reach-around, skip-bare     around a vertex past the edge's darts, where others are left, and where none is
+--     seat, seat-step, seat-vertex, seat-bare    where a place lies
+--     Seated, seated                             which of the three it is
+--     dartAt, dartAt-own, dartAt-from            the dart of the edge that leaves a vertex
+--     passedOver, taken-other, taken-bare        is something seated there
+--     past                                       past the edge: what a step of its darts leads to
+--     skip-around, reach-around, skip-bare       around a vertex past the edge's darts, where others are left, and where none is
+--     same-type                                  a step of another edge comes to the same type
 use mathlib.Core.Path.{_≡_, sym, _∙_, ap}
 use mathlib.Core.Logic.{_≢_}
 use mathlib.Core.Bool.{Bool, true, false, _&&_, _||_, or-true, cond}

@@ -1,9 +1,9 @@
 -- Where an inserted edge sits: each of its darts just before the dart that names its corner, or one after the other before it where
 -- the two corners are the same; at an isolated vertex's corner, alone at that vertex.
---     Sits, Inserted       a dart at its corner; both darts at theirs
---     sits-on, enters      past the edge, each dart goes on to the place of its corner
---     first-in, second-in  these places are in each part that has the edge
---     inserted-somewhere   each edge sits so: it could have been inserted
+--     place-live, live-low    the place of a live dart's corner
+--     sits-on, enters         past the edge, each dart goes on to the place of its corner
+--     first-in, second-in     these places are in each part that has the edge
+--     inserted-somewhere      each edge sits so: it could have been inserted
 use mathlib.Core.Path.{_≡_, refl, sym, _∙_, ap}
 use mathlib.Core.Logic.{_⊎_, inl, inr, ⊎-elim}
 use mathlib.Core.Bool.{Bool, true, false}

@@ -1,8 +1,10 @@
 -- Once around a vertex, in either sense: the dart after d for type 0, the one before it for type 1. What holds of both is said once.
---     spin                 the map;     around-spin    the step around a dart is the spun dart with that type
---     spin-inj, spin-live, spin-from     it is injective, and keeps live darts and the vertex
---     spin-reach           the live darts of a vertex are one cycle of it
---     trace-spin, flip-spin     tracing and the mirror, by the spin
+--     spin, spin-next, spin-prev        the map
+--     around-spin                       the step around a dart is the spun dart with that type
+--     spin-inj, spin-live, spin-from    it is injective, and keeps live darts and the vertex
+--     spin-reach                        the live darts of a vertex are one cycle of it
+--     trace-spin, flip-spin             tracing and the mirror, by the spin
+--     other-type, step-type?            a step's type and the other one are types
 use mathlib.Core.Path.{_≡_, sym, _∙_, ap, fun-ext}
 use mathlib.Core.Bool.{true, cond}
 use Prim.Native.Nat.{ℕ, _+_, _-_, _*_, _/_, _%_, _<_}

@@ -1,10 +1,12 @@
 -- Tracing past an edge: each of its four steps only goes on around its own vertex, as if the edge were cut. This is the mirrored
 -- exchange of tracing at the edge's two sides: the step by the first dart with type 0, and the step by the second dart that
 -- runs along the other side.
---     near, far            the two sides
---     through              tracing past the edge;     through-own, through-other    its values
---     trace-near, .., far-back-back     where tracing takes the four steps, and the opposites of these
---     through-exchanged    it is tracing, exchanged at the two sides
+--     parity-low, parity-type                                   the parity of the edge's turns is a type
+--     near, far, near-far, near-low, far-low                    the two sides
+--     through, through-own, through-other                       tracing past the edge, and its values
+--     trace-near, trace-far, trace-near-back, trace-far-back    where tracing takes the edge's four steps
+--     near-back, far-back, far-back-back, own-four              the opposites of these; they are all of its steps
+--     through-exchanged                                         it is tracing, exchanged at the two sides
 use mathlib.Core.Path.{_≡_, sym, _∙_, ap}
 use mathlib.Core.Logic.{_≢_}
 use mathlib.Core.Bool.{true, cond}

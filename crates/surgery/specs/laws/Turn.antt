@@ -1,8 +1,8 @@
 -- An edge turned. An even amount changes no walk. An odd amount exchanges where the edge's first dart leads with type 0 and with type 1.
 -- Its two sides on different faces: one face less. On one walk by the same dart twice, one face more. By both darts: as many faces.
---     Turned               the two rotation systems;     turned-on    the same places
---     turn-even            the same tracing, so the same faces
---     turn-less, turn-more, turn-same     an odd amount, in a part that has the edge
+--     turned-on                          the same places
+--     turn-even                          the same tracing, so the same faces
+--     turn-less, turn-more, turn-same    an odd amount, in a part that has the edge
 use mathlib.Core.Path.{_≡_, refl, sym, _∙_, ap, fun-ext}
 use mathlib.Core.Bool.{Bool, true}
 use Prim.Native.Nat.{ℕ, suc, _+_, _-_, _*_, _/_, _%_, _<_}

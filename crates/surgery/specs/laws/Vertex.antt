@@ -1,7 +1,7 @@
 -- An isolated vertex added: its empty walk is one face more. Removed, one face less.
---     Added                the two rotation systems
---     VertexParts          a part before, and the same part after it;     vertex-whole    the whole mesh
---     add-vertex           one face more in the part that has the vertex
+--     stillAt                      the first still place of a vertex
+--     VertexParts, vertex-whole    a part before, and the same part after it; the whole mesh
+--     add-vertex                   one face more in the part that has the vertex
 use mathlib.Core.Path.{_≡_, sym, _∙_, ap, fun-ext}
 use mathlib.Core.Logic.{_≢_}
 use mathlib.Core.Bool.{Bool, true, false}

@@ -1,8 +1,8 @@
 -- A rotation system with an edge, and the same without it: what deleting the edge leaves, and what inserting it began from.
---     Without              the two rotation systems, side by side
---     gone, kept, were     which darts are live
---     prev-bypass, spin-skip     around a vertex, the edge's darts are passed over
---     alone-stays, bare-edge, filled, bared     where the edge had the only darts of a vertex, that vertex is alone without it
+--     apart-own, apart-other                         the edge's darts, and the others
+--     here-both, gone, kept, not-own, were           which darts are live, with the edge and without it
+--     prev-bypass, spin-skip                         around a vertex, the edge's darts are passed over
+--     alone-stays, bare-edge, filled, bared, full    where the edge had the only darts of a vertex, that vertex is alone without it
 use mathlib.Core.Path.{_≡_, sym, _∙_, ap}
 use mathlib.Core.Logic.{_≢_}
 use mathlib.Core.Bool.{true, false, and-true, and-false}

@@ -1,4 +1,9 @@
 -- Tests one after the other; an answer is one of two; a refusal's number is small; a code that is handed on keeps its value.
+--     LetThrough, let-through              where tests let a call through, the first holds and the rest let it through
+--     done-declined                        an answer is not both a number and a refusal
+--     number-low                           a refusal's number is below 100
+--     handed-on                            a code of 64 bits keeps its value
+--     number-fits, minus-fits, minus-is    minus a refusal's number in the machine is the refusal's code
 use Prim.Native.Nat.{_<_, _^_, ℕ, zero, suc}
 use mathlib.Core.Path.{_≡_, _∙_, ap, refl}
 use mir.Syntax.{w64}

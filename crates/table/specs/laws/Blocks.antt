@@ -1,4 +1,13 @@
 -- Blocks of 32 names, whose words are or-ed or and-ed together: what the result has, all of them have.
+--     edgeBlocks, vertexBlocks                       how many blocks there are
+--     DeadBlock, IdleBlock, Blank                    no edge of the block is live; and its darts' words are 65,535; 64 such words
+--     LooseBlock                                     no vertex of the block leads a cycle
+--     Together                                       the loop over a block: P of the words put together says Q of each name
+--     together-none, together-more, together-case    its beginning, one name more, and what a test on it tells
+--     or-zero, and-nothing, and-isolated             what or-ed and and-ed words tell of each
+--     idle-blank, blank-idle                         an idle block is dead and its three kinds of words are blank
+--     dead-dart                                      the edge word of a dart in a dead block is 0
+--     block-on                                       from name to name, over n of them
 use Prim.Native.Nat.{ℕ, zero, suc, _+_, _*_, _/_, _<_, _≤_}
 use native.Mathlib.Omega.{arith}
 use native.Mathlib.Nat.{add-zero, add-assoc}

@@ -1,4 +1,14 @@
 -- "next" once every dart keeps its rules: a permutation whose orbits are the cycles, and how many darts a cycle has.
+--     next-live, prev-live                   next and previous of a live dart are live
+--     prev-next, next-prev, prev-undone      they undo each other
+--     live-next, leaves-next                 next keeps live darts and the vertex they leave
+--     next-inj                               next is one-to-one on the darts
+--     iter-live, iter-leaves, iter-word      the same after k steps
+--     orbit-size                             an orbit has as many points as steps round it
+--     Round                                  the walk round a cycle, n steps on, with no smaller dart so far
+--     CycleSays                              the number of darts on the cycle, or 0 where a smaller one is on it
+--     round-none, round-more, round-short    the walk begins, goes on, and stays below the number of darts
+--     round-all, round-lower                 what it answers where it ends
 use Prim.Native.Nat.{ℕ, zero, suc, _+_, _-_, _≤_, _<_}
 use native.Mathlib.Omega.{arith}
 use native.Mathlib.Nat.{lt-of-lt-of-le}

@@ -1,4 +1,13 @@
--- The rules that a dart's own words keep, as the check tests them: each follows from a good table, and together they make "next" a permutation of the live darts.
+-- The rules that a dart's own words keep, as the check tests them: each follows from a good table, and together they make "next"
+-- a permutation of the live darts.
+--     Linked, DartRule, Ruled                          the rules of a live dart; of any dart; of the darts below n
+--     DartsTo, DartsSay                                what the count of live darts answers: of those below n; of all
+--     good-ruled                                       every dart of a good table keeps its rules
+--     rule-dead, rule-live                             the rule of a dart from its tests
+--     RuledBelow                                       the loop over the darts: those so far keep their rules, n of them are live
+--     passed-none, passed-two-live, passed-two-dead    it begins; one edge more, live or not
+--     passed-few, passed-to, passed-broken             its count fits; what it answers, and where a dart breaks a rule
+--     passed-idle, passed-block, block-broken          the same block by block
 use Prim.Native.Nat.{ℕ, suc, _+_, _*_, _≤_, _<_}
 use native.Mathlib.Decide.{ℕ-discrete}
 use native.Mathlib.Numerals.{add-one}

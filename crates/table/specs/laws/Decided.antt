@@ -1,4 +1,9 @@
 -- Whether a table is good is decided: `good?` is the Boolean, and it is true exactly if the table is good.
+--     good-dec                                      whether a table is good is decided
+--     all-dec                                       whether all numbers below n have a decided property is decided
+--     least-all                                     no dart of the cycle is smaller, if none of the first 2,048 steps gives one
+--     bare-dec, linked-dec, rule-dec, length-dec    the rules of darts and of lengths, decided
+--     leads-dec, vertex-dec                         the rule of a vertex, decided
 use Prim.Native.Nat.{ℕ, _≤_, _<_}
 use native.Mathlib.Nat.{lt-of-lt-of-le}
 use native.Mathlib.Decide.{ℕ-discrete, decLe, decLt, map-dec}

@@ -1,4 +1,9 @@
 -- The empty mesh: no dart, no edge and no vertex is live. It is a good table.
+--     emptyWord, empty-word                                 word i of the empty mesh
+--     empty-dart, empty-edge, empty-vertex, empty-length    each kind of word
+--     empty-size, empty-good                                its size; it is a good table
+--     Filled                                                one word stands from an index up to n, the others are as before
+--     filled-none, filled-more, filled-all                  filling begins, goes on; the four fillings give the empty mesh
 use Prim.Native.Nat.{ℕ, _+_, _-_, _≤_, _<_}
 use native.Mathlib.Omega.{arith}
 use native.Mathlib.Decide.{decLt, ℕ-discrete}

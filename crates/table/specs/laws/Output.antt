@@ -1,5 +1,9 @@
 -- A call that writes an output to the front of a lent slice, document 01, "When a call declines": torn, then a slice shorter than
 -- "the output's exact size". The output may be of any kind of word.
+--     sets-append, sets-front                               text stored piece by piece; stored from 0 on, it is at the front
+--     output-torn, output-short, output-done                the three ends of such a call: 1, 7, or the output's size
+--     output-accepted, declined-accepted, sized-accepted    an accepted call wrote the text to the front, and answers its length
+--     done-same, done-declined                              two numbers answered are one; a refusal is no number
 use Prim.Native.Nat.{ℕ, suc, _+_, _<_, _≤_}
 use native.Mathlib.Omega.{arith}
 use native.Mathlib.Nat.{add-zero, zero-add}

@@ -1,5 +1,13 @@
--- A rotation system, with no words in it: tracing, surgery and surfaces are stated over it. `rotation t` reads one off a table, and a good table's is lawful.
--- A dart that is not live is its own next and its own previous, so that the laws hold for every number.
+-- What the tests of a table's rotation system tell: live darts, vertices that are there or isolated, next and previous as words.
+-- A test and what it says are kept together as one of two cases.
+--     Case                                            a Boolean that says whether P holds: yes with P, or no without
+--     eq-case, le-case, lt-case                       the tests of numbers
+--     case-yes, case-no, case-says, case-denies       from the Boolean to P and back
+--     case-map, same-case                             cases of equivalent properties
+--     live-yes, yes-live, live-case, not-live         the test of a live dart
+--     nextDart-live, prevDart-live                    next and previous of a live dart are its words
+--     nextDart-dead, prevDart-dead                    a dart that is not live is its own
+--     there-yes, there-word, alone-yes, alone-word    a live vertex, an isolated one, by its word
 use Prim.Native.Nat.{ℕ, _≤_, _<_}
 use mathlib.Core.Path.{_≡_, refl, sym, _∙_}
 use mathlib.Core.Bool.{Bool, true, false, not}

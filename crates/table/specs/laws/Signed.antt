@@ -1,7 +1,9 @@
 -- Signed sums and differences: how large they can be.
---     difference           a − b, below zero or not;     minus-sub     the difference of two naturals is one such
---     move, exchange       summands in another order
---     mag-sum, mag-minus   bounds on what a machine word is tested by;     size-sum, size-minus, size-twice     the absolute value
+--     handed                                      a number, as a word of 32 bits hands it on
+--     Difference, difference, minus-difference    a − b, below zero or not
+--     move, exchange                              summands in another order
+--     mag-sum, mag-minus                          bounds on what a machine word is tested by
+--     size-sum, size-minus, size-twice            the absolute value
 use Prim.Native.Nat.{ℕ, zero, suc, _+_, _-_, _*_, _≤_, _<_}
 use native.Mathlib.Omega.{arith}
 use native.Mathlib.Decide.{decLt}

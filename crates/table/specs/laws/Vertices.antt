@@ -1,4 +1,16 @@
 -- The rules that a vertex's word keeps, and the count that tells whether each vertex has one cycle.
+--     Leads, VertexRule                             w is the smallest dart on a cycle of v; the vertex's word leads so
+--     led?, ledAt, ledBelow                         is a dart on the cycle its vertex's word leads; at v; at the vertices below v
+--     VertexSays, VerticesTo, VerticesSay           what the count of led darts answers: at one vertex; below n; at all
+--     past-leads-none, led-none, led-cycle          how many are led: by a word past the darts, none; by a dart, its cycle
+--     Summed                                        the loop over the vertices: those so far keep their rule, n darts are led
+--     summed-none, summed-more, summed-few          it begins, goes on, and its count fits
+--     summed-all, summed-to, summed-broken          what it answers
+--     summed-loose, summed-block, block-broken      the same block by block
+--     counted-good, good-counted                    the table is good exactly if rules and count say so
+--     vertex-none, vertex-alone, vertex-astray      one vertex: not live, isolated, or with a word that leads nothing
+--     leaving-live, vertex-leads, vertex-follows    and one whose word leads a cycle, or follows a smaller dart
+--     one-more, spread                              Boolean laws of the count
 use Prim.Native.Nat.{ℕ, zero, suc, _+_, _*_, _/_, _≤_, _<_}
 use native.Mathlib.Omega.{arith}
 use mathlib.Core.Path.{_≡_, refl, sym, _∙_, ap}

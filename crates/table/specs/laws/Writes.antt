@@ -1,4 +1,10 @@
 -- A word of a table written: each kind of word reads back, and a write changes no other word.
+--     upd, upd-at, upd-off, upd-same                                 a function with one value changed
+--     next-next, prev-prev, leaves-leaves                            a dart's word written reads back, the others of its kind stay
+--     edge-edge, vertex-vertex, length-length                        the same for the words of edges and vertices
+--     next-prev, next-leaves, next-edge, next-vertex, next-length    "next" words stay where another kind is written
+--     prev-next, leaves-next, edge-next, vertex-next, length-next    and so on, the kind read first, the kind written second
+--     same-words                                                     tables of the same words are equal
 use Prim.Native.Nat.{ℕ, _+_, _-_, _≤_, _<_}
 use native.Mathlib.Omega.{arith}
 use native.Mathlib.Decide.{ℕ-discrete, decLt}

@@ -1,4 +1,9 @@
 -- Numbers as text: decimal digits in ASCII, from the highest on.
+--     decimal-low, decimal-high                   the text of a number of one digit; of more
+--     by-digits                                   a fact of every number, from one digit and from one digit more
+--     decimal-some, decimal-short, decimal-few    how many digits there are
+--     decimal-value                               the text says the number
+--     decimal-leads                               no zero in front, unless the number is 0
 use Prim.Native.Nat.{ℕ, zero, suc, _+_, _-_, _*_, _/_, _%_, _^_, _<_, _≤_}
 use native.Mathlib.Omega.{arith}
 use native.Mathlib.Decide.{decLt}

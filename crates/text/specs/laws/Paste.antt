@@ -1,4 +1,11 @@
--- A slice as a window on a text: `from` is the place in the text where the slice begins. What is written at a place that the slice does not show changes nothing.
+-- A slice as a window on a text: `from` is the place in the text where the slice begins.
+-- What is written at a place that the slice does not show changes nothing.
+--     put-before, put-in, put-past, put-length             one byte, before the window, in it, past it
+--     paste-none, paste-one, paste-append, paste-length    a text: no byte, one, two texts
+--     paste-sets                                           at the beginning of the text the stores are plain
+--     window-holds, window-keeps, window-shows             what a window shows after the whole text
+--     sets-front, front-text, sets-ahead                   a text at the front of a slice
+--     pasted-then, pasted-as, pasted-length                one text after another; in other words; the slice keeps its size
 use Prim.Native.Nat.{ℕ, suc, _+_, _-_, _<_, _≤_, min}
 use native.Mathlib.Omega.{arith}
 use native.Mathlib.Decide.{decLt, ℕ-discrete}

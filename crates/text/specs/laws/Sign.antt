@@ -1,4 +1,9 @@
 -- The sign and the size of a number in a signed word of 32 bits, as the code finds them.
+--     negative-text, positive-text                              the text of a number below zero; of another
+--     integer-few                                               at most ten digits and a sign
+--     widened, negated-fits                                     the number, and 0 less it, fit 64 bits
+--     negated-ready, negated-is, positive-ready, positive-is    the size that the code finds is the number's
+--     signed-negative, signed-positive                          the text as it is written
 use Prim.Native.Nat.{ℕ, zero, suc, _<_, _≤_, _^_}
 use native.Mathlib.Omega.{arith}
 use mathlib.Core.Path.{_≡_, refl, sym, _∙_, ap}

@@ -1,4 +1,9 @@
 -- What the code that writes knows in its loops.
+--     Copying                                                      the loop that writes the bytes of a text
+--     copying-none, copying-more, copying-all                      it begins, goes on, ends
+--     Spelled, spelled-part                                        the digits of a number at the end of the array
+--     Spelling                                                     the loop that finds them, from the last on
+--     spelling-none, spelling-room, spelling-more, spelling-all    it begins, has room, goes on, ends
 use Prim.Native.Nat.{ℕ, suc, _+_, _-_, _/_, _%_, _^_, _<_, _≤_}
 use native.Mathlib.Omega.{arith}
 use native.Mathlib.Numerals.{add-one}

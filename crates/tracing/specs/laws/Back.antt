@@ -1,4 +1,8 @@
 -- The walk in the other sense goes back along the same edges, in reverse order.
+--     walk-mirror                                the walk from a step's mirror: the ways back of the steps, in reverse order
+--     run-first                                  a run of steps is its first one and the run from the next
+--     step-mirror, iter-mirror, period-mirror    steps and periods seen from the other sense
+--     run-back                                   a run of steps in the other sense
 use Prim.Native.Nat.{ℕ, zero, suc, _<_}
 use mathlib.Core.Path.{_≡_, refl, sym, _∙_, ap}
 use mathlib.Core.List.{[], _∷_, _++_, map, reverse, reverse-append, map-append}

@@ -1,5 +1,14 @@
 -- Corner words, the face that a corner is on and its type there, document 01, "Corners and walks" and "Counts".
 -- Two corners are on one face exactly if their places are on one orbit of tracing or on mirror orbits; their types agree in the first case alone.
+--     Typed, typed                                 a corner's type, by the sense in which its listed walk meets it
+--     MeetingCase, meeting-case                    two corners: same type, other type, or apart, by the orbits of their places
+--     present-dart, present-lone, present-means    when a corner is there
+--     faceOf-lone, typeOf-lone                     the corner of an isolated vertex is its own face, of type 0
+--     place-on                                     the place of a corner that is there is there
+--     both-ways                                    a place and its mirror are not on one orbit
+--     corner-met                                   every corner of a live dart is met by a listed walk
+--     face-by                                      a listed walk's step at a corner tells its face and its type
+--     Home, Compared, TypeAt                       the listed walk a corner is on; two types compared; the first step at a corner
 use Prim.Native.Nat.{ℕ, _+_, _-_, _*_, _/_, _%_, _<_, _≤_}
 use native.Mathlib.Omega.{arith}
 use native.Mathlib.Decide.{ℕ-discrete, decLt}

@@ -1,4 +1,8 @@
 -- Which listed walk a corner is on: one of them meets it, and no two starts are on one face.
+--     Covered, covered           the listed walk that meets the corner of a live dart
+--     starts-one                 two starts on one face are one
+--     lone-apart, lones-apart    an isolated vertex's face has no dart, and no other such vertex
+--     corner-face                a step is on the face of its corner
 use Prim.Native.Nat.{ℕ, _*_, _<_, _≤_}
 use native.Mathlib.Omega.{arith}
 use native.Mathlib.Decide.{ℕ-discrete, decLt}

@@ -1,4 +1,10 @@
 -- The four steps on an edge: a step s, its way back, the step by the same dart with the other type (`otherType s`, as a word), and the way back of that.
+--     FourCase, four           two steps on one edge: which of the four the second is, seen from the first
+--     rev-back                 the other type of a way back
+--     back-flip, back-reach    ways back are on the mirror of the orbit, and run along as steps do
+--     of-all                   what passes to the way back and to the other type holds of all four
+--     Again, again-all         the walk passes the same dart again, with the other type
+--     Across, across-all       the walk passes the other dart, not on its way back
 use Prim.Native.Nat.{ℕ, _+_, _-_, _/_, _%_, _<_}
 use native.Mathlib.Omega.{arith}
 use native.Mathlib.Decide.{ℕ-discrete}

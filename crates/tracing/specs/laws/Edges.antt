@@ -1,4 +1,8 @@
 -- Each live edge has exactly two listed steps on it, its sides.
+--     edge-twice               exactly two listed steps are on a live edge
+--     back-edge                the way back from an edge's first dart
+--     OfEdge, of-edge          which of an edge's four steps a step is, or none
+--     edge-more, edge-times    the steps on an edge counted, by these four
 use Prim.Native.Nat.{ℕ, _+_, _-_, _*_, _/_, _%_, _<_}
 use native.Mathlib.Omega.{arith}
 use native.Mathlib.Nat.{add-zero}

@@ -1,5 +1,11 @@
 -- The listed walks are the faces: each corner that is there lies on the face of exactly one of them.
 -- So the face count is the number of classes of places under tracing and mirroring, in the whole and in each part.
+--     placeOf, place-dart, place-lone    the place at which a corner has type 0
+--     facesIn, faces-part                the listed walks in a part of the places, and that they are its faces
+--     face-count                         F is the number of faces
+--     listed-on                          the place of a listed face is there
+--     faces-low                          there are no more faces than places
+--     named, NamesWalk                   which numbers name a listed walk in a part
 use Prim.Native.Nat.{ℕ, _+_, _-_, _*_, _/_, _<_, _≤_}
 use native.Mathlib.Omega.{arith}
 use native.Mathlib.Decide.{decLt}

@@ -1,4 +1,11 @@
 -- Membership in a list of numbers, as a Boolean, and in what is gathered from a list.
+--     has-empty, Cons, has-cons, has-head, has-tail    a member of x ∷ l
+--     Either, has-parts, has-left, has-right           a member of two lists, one after the other
+--     Source, has-gathered, has-gather                 a member of what is gathered comes from a member
+--     Image, has-mapped, has-map                       a member of what a function makes of each
+--     countIn-append, countIn-map, countIn-few         how many members pass a test
+--     times-none, times-gather, times-gather-none      how often a number is gathered
+--     count-single                                     a test that exactly one number passes counts 1
 use Prim.Native.Nat.{ℕ, suc, _+_, _<_, _≤_}
 use native.Mathlib.Omega.{arith}
 use native.Mathlib.Decide.{ℕ-discrete}

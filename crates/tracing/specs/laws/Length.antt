@@ -1,5 +1,9 @@
 -- The number of steps of a walk: it is back at its start, dart and type, then and not before,
 -- "within twice as many steps as edges".
+--     ClosedWalk, walk-closed      the walk is back at its start after its steps, and not before
+--     walk-bound                   it has at most twice as many steps as there are edges
+--     liveStep, live-step-count    the steps on live darts: four for each live edge
+--     walk-length                  the walk's number of steps is its start's period
 use Prim.Native.Nat.{ℕ, zero, suc, _*_, _/_, _<_, _≤_}
 use native.Mathlib.Omega.{arith}
 use mathlib.Core.Path.{_≡_, refl, sym, _∙_, ap}

@@ -1,5 +1,11 @@
--- The listed walks, the listing and the face count, document 01, "Corners and walks" and "Counts".
+-- How the listing is put together, dart by dart and vertex by vertex, as its definitions say.
 -- A listed face is named by the corner that its walk starts at: a dart, or 32,768+v for an isolated vertex v.
+--     gather-none, gather-one, gather-append        what is gathered from no member, from one, from two lists
+--     has-here, has-there                           a list has its first member; another number is sought in the rest
+--     starts-zero, starts-suc                       the starts below 0, and below one dart more
+--     fresh-dead, fresh-met, fresh-start            a dart is no start if not live or met already, else it is one
+--     alones-zero, alones-suc, lone-yes, lone-no    the isolated vertices in the same way
+--     written-walk, written-lone, written-some      the words of a walk; of an empty one; there is always one
 use Prim.Native.Nat.{ℕ, zero, suc, _*_, _<_}
 use native.Mathlib.Omega.{arith}
 use mathlib.Core.Path.{_≡_, refl, sym}

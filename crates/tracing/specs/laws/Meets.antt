@@ -1,4 +1,9 @@
 -- Which corners a walk meets: those whose places are on its orbit or on the mirror of it.
+--     has-run, run-has                                 the points of a run of steps
+--     AtCorner, at-corner, corner-of                   the two steps at a corner: (c, 0) and its mirror
+--     Stepped, step-reach, trace-reach, still-reach    stepping and tracing agree on step words
+--     has-walk, walk-has                               the steps of a walk are its orbit
+--     has-corners, corners-has                         the corners of a walk are those of its face
 use Prim.Native.Nat.{ℕ, zero, suc, _*_, _/_, _<_, _≤_}
 use native.Mathlib.Omega.{arith}
 use native.Mathlib.Decide.{ℕ-discrete}

@@ -1,4 +1,11 @@
 -- The listed walks meet every corner exactly once. A walk passes no step twice, and never a step and its mirror.
+--     dart-corner-once, lone-corner-once             the listed walks meet each corner exactly once
+--     walk-once, corners-once                        a walk passes a step at most once, and meets a corner at most once
+--     Listed, listed-face                            a listed face is a start or an isolated vertex
+--     cornersOf-dart, cornersOf-lone, corners-low    the corners of a listed face
+--     step-on, start-step                            a step on a live dart is a place that is there; a start's step is on one
+--     run-count                                      how many steps of a run pass a test
+--     start-once, lone-once                          a start is listed once, and so is an isolated vertex
 use Prim.Native.Nat.{ℕ, zero, suc, _+_, _*_, _/_, _<_, _≤_}
 use native.Mathlib.Omega.{arith}
 use mathlib.Core.Path.{_≡_, refl, sym, _∙_, ap, ap₂}

@@ -1,5 +1,12 @@
 -- The places of a tracing: the step words, and for each isolated vertex two still places, one for each type.
 -- Tracing permutes the places that are there, and the mirror at each corner undoes it: what the counts of faces rest on.
+--     places, Place, place                              how many there are; step words and still places
+--     trace, trace-step, trace-still                    one step on, or no move at a still place
+--     flip, flip-step, flip-still                       the other sense at the same corner
+--     on, on-step, on-still                             is the place there: a live dart, or an isolated vertex
+--     rev-still, rev-vertex                             the two still places of a vertex
+--     trace-low, flip-low, on-trace, on-flip            both stay among the places that are there
+--     flip-flip, flip-other, trace-other, trace-turn    the laws of a mirror
 use Prim.Native.Nat.{ℕ, _+_, _-_, _*_, _/_, _<_, _≤_}
 use native.Mathlib.Omega.{arith}
 use mathlib.Core.Path.{_≡_, _∙_, ap}

@@ -1,5 +1,13 @@
 -- How the two sides of an edge lie: on different faces, on one walk by both darts, or by the same dart twice, document 01, "Edits".
 -- With x = (2e, 0) and y = (2e+1, the turns' parity): by both darts exactly if y is on the orbit of x, by the same dart exactly if its mirror is.
+--     across                                                  y, the step by the second dart, of the turns' parity
+--     SidesCase, sides-case                                   the three ways, with where y lies from x
+--     sides-both, sides-same, sides-two                       and back: where y lies tells the way
+--     sidesMet, sides-met                                     the same from how the corners of x and y meet, and from y's type
+--     again-flip, flip-again                                  passing the same dart again is reaching the mirror of y
+--     TwoSides, two-sides                                     the two listed steps on a live edge
+--     listed-once, reach-times                                a step is listed at most once; along a walk all are listed alike
+--     keep-yes, keep-no, keep-length, keep-times, keep-has    the members of a list that pass a test
 use Prim.Native.Nat.{ℕ, zero, suc, _+_, _*_, _/_, _%_, _<_, _≤_}
 use native.Mathlib.Omega.{arith}
 use native.Mathlib.Decide.{ℕ-discrete}

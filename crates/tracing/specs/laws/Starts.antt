@@ -1,4 +1,9 @@
 -- The starts of the listed walks: which darts they are, and how many of them pass a test.
+--     start?                                  is dart d the start of a listed walk
+--     starts-more, start-live, start-unmet    one dart more; a start is live, and no walk before meets its corner
+--     StartBelow, has-start, start-has        the starts below n are those darts
+--     starts-count, alones-count              how many starts, how many isolated vertices pass a test
+--     only-has, one-more, lone-there          members that are listed if a test holds
 use Prim.Native.Nat.{ℕ, zero, suc, _+_, _<_}
 use native.Mathlib.Omega.{arith}
 use native.Mathlib.Decide.{ℕ-discrete}

@@ -1,5 +1,14 @@
 -- One step of a walk, its mirror and its corner, document 01, "Corners and walks", over a rotation system.
 -- A step is the word 2d+t of the listing: dart d with trace type t. The laws hold for every word, also of a dart that is not live.
+--     Type?, type-of, type?                                   a type is 0 or 1
+--     around-next, around-prev, around-type                   the step around a dart, by its type
+--     step-low, step-type, step-live, step-word               a step's type, and that it stays among live darts
+--     step-back, step-turn, step-other                        a step is the way back, mirrored; what undoes it; it is not its mirror
+--     mirror-zero, mirror-one, mirror-type, mirror-other      the mirror of a step, by its type
+--     mirror-mirror, mirror-step, mirror-live, mirror-word    mirrored twice; the mirror of the step after
+--     back-dart, back-type, back-other, back-back             the way back along the edge
+--     corner-zero, corner-one, corner-mirror                  the corner of a step, by its type, and of its mirror
+--     corner-live, corner-dart, next-dart, prev-dart          corners, next and previous stay darts
 use Prim.Native.Nat.{ℕ, zero, suc, _+_, _-_, _*_, _/_, _%_, _<_}
 use native.Mathlib.Omega.{arith}
 use mathlib.Core.Path.{_≡_, refl, sym, _∙_, ap}

@@ -1,4 +1,9 @@
 -- What is summed over a walk: the same whichever step names the walk, and the same in the other sense if each step has as much as the way back along its edge.
+--     total-named                 any step of the walk may name it
+--     total-mirror                and either sense may
+--     total-append, total-last    the sum over two lists; over a run of one step more
+--     total-most                  where each has at most m, the sum has at most m times the length
+--     period-next                 a step and the next one come back after as many steps
 use Prim.Native.Nat.{ℕ, zero, suc, _+_, _*_, _<_, _≤_}
 use native.Mathlib.Omega.{arith}
 use mathlib.Core.Path.{_≡_, refl, sym, _∙_, ap}

@@ -1,5 +1,10 @@
 -- The listed walks pass every live edge exactly twice: of a step and its way back, one is listed.
 -- "A step is on its dart's edge; the two listed steps on an edge are its sides."
+--     Passage, passed        a listed walk that passes a step, in one sense or the other
+--     Sense, sense           of a step and its mirror, which is listed
+--     step-times             with a step, the step after it is listed
+--     one-way                of a step and its way back exactly one is listed
+--     on-times, off-times    a step on a listed walk is listed once; one whose mirror is on it is not
 use Prim.Native.Nat.{ℕ, _+_, _*_, _/_, _<_}
 use native.Mathlib.Omega.{arith}
 use mathlib.Core.Path.{_≡_, refl, sym, _∙_, ap, ap₂}

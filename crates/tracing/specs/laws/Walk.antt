@@ -1,5 +1,10 @@
 -- A walk: the steps from a start up to the first return to it, dart and type, document 01, "Corners and walks".
 -- The definition computes; `walk-run` says that it is the run of as many steps as its start's period under `step`.
+--     iterates, run-suc, run-length    the first n steps of f from s
+--     onward-rest, onward-run          going on to the first return gives that run
+--     walk-run                         a walk is the run of its start's period
+--     step-inj                         no two steps lead to one
+--     walk-period, walk-period-le      each walk comes back to its start, within the number of step words
 use Prim.Native.Nat.{ℕ, zero, suc, _+_, _<_, _≤_}
 use native.Mathlib.Omega.{arith}
 use native.Mathlib.Decide.{ℕ-discrete}

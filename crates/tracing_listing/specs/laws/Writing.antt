@@ -1,4 +1,16 @@
 -- What the code that writes the listing promises, and the invariants of its loops: the words so far stand at the front of the slice.
+--     Stepping                                                       the loop that writes a walk
+--     stepping-none, stepping-within, stepping-more, stepping-all    it begins, has room, goes on, ends
+--     RoomAt, Entered                                                room for the walk that starts at dart d; it is written
+--     entered-none, entered-walk, walk-room                          no walk starts there, or one does
+--     RoomLone, EnteredLone                                          the same of the empty walk of vertex v
+--     entered-blank, entered-lone, lone-room                         v is not isolated, or it is
+--     walksText, lonesText                                           the words of the walks from darts; of the empty walks
+--     Writing, WroteWalks                                            the loop over the darts; what it leaves
+--     writing-none, writing-room, writing-more, writing-all          it begins, has room, goes on, ends
+--     Ending                                                         the loop over the vertices
+--     ending-none, ending-room, ending-more                          it begins, has room, goes on
+--     listed-parts, walks-room, lones-room                           both together are the listing; there is room for both
 use Prim.Native.Nat.{ℕ, zero, suc, _+_, _-_, _*_, _<_, _≤_}
 use native.Mathlib.Omega.{arith}
 use native.Mathlib.Numerals.{add-one}

@@ -1,4 +1,12 @@
 -- What the tags of one trace tell of two corners, and of the two sides of an edge.
+--     Corners, corner-word              two corners of a good table; one that is below 32,768 is a dart
+--     TagRead, read-dart, read-lone     r is the tag of corner c, of whatever table has these tags
+--     corners-meet                      the tags of two corners tell how they meet
+--     same-tags, one-face, two-faces    equal tags; tags of one face; tags of two
+--     LiveEdge, EdgeNear, edge-near     a live edge of a good table, and where its word is
+--     side-stands, side-low             the step of the other side, and its corner
+--     sides-read                        the tags of both sides tell how they lie
+--     other-side, one-more              the sides by the parity of the edge word
 use Prim.Native.Nat.{ℕ, zero, suc, _+_, _-_, _*_, _/_, _%_, _<_, _≤_}
 use native.Mathlib.Omega.{arith}
 use mathlib.Core.Path.{_≡_, refl, sym, _∙_, ap, ap₂}

@@ -1,8 +1,11 @@
 -- The tags that one trace of the faces writes: twice the face of a corner plus its type there.
---     tagged, Wrote            the tags of some steps of a walk;     what a tag is after them
---     Tagging                  a walk under way
---     TagOf, Tagged            the tag of a corner once the walks that start below d are traced;     of all corners
---     Tags                     all walks are traced
+--     tagged, Wrote, untagged                                     the tags of some steps of a walk; what a tag is after them; no tag yet
+--     Tagging                                                     a walk under way
+--     tagging-none, tagging-corner, tagging-more, tagging-all     it begins, has a tag to write, goes on, ends
+--     TagOf, Tagged, tagged-none                                  the tag of a corner once the walks from below d are traced; of all
+--     TaggedFrom, look-ready, from-dead, from-met, from-start     the walk that starts at dart d, if one does
+--     TagCounting, counting-none, counting-more, counting-dead    the loop over the darts, with the walks counted
+--     Tags, tags-all, count-all                                   all walks are traced; the number of faces
 use Prim.Native.Nat.{ℕ, zero, _+_, _*_, _%_, _<_, _≤_}
 use native.Mathlib.Omega.{arith}
 use native.Mathlib.Nat.{add-zero}

@@ -1,4 +1,11 @@
 -- A walk under way: n steps from s, none of which led back to s. What a loop over a walk knows at its head.
+--     Along, along-none, along-more              n steps of f from s, not back at s yet
+--     along-period, along-few                    a step that leads back gives the period; before it fewer steps are taken
+--     Walking                                    the same over a table, on live darts
+--     walking-none, walking-more, walking-few    the walk begins, goes on, and stays below the number of step words
+--     walking-all                                where it leads back, the steps taken are the walk
+--     left, walking-less                         how many steps are left; each step leaves fewer
+--     walk-stands                                every step of a walk stands on a live dart
 use Prim.Native.Nat.{ℕ, zero, suc, _+_, _<_, _≤_}
 use native.Mathlib.Omega.{arith}
 use native.Mathlib.Numerals.{add-one}

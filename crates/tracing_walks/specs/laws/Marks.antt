@@ -1,4 +1,8 @@
 -- The marks of the corners that have been met: one for each dart, 0 or 1.
+--     mark, unmarked              the marks with some corners marked too; no mark yet
+--     mark-append, mark-length    corners marked in two goes; as many marks as before
+--     mark-has, mark-reads        a corner is marked exactly if it is among them
+--     mark-step                   the corners of some steps marked, and of one more
 use Prim.Native.Nat.{ℕ, _+_, _<_}
 use native.Mathlib.Numerals.{add-one}
 use native.Mathlib.Decide.{ℕ-discrete}

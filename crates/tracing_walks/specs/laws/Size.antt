@@ -1,4 +1,15 @@
 -- What the code that counts the listed walks promises, and the invariants of its loops.
+--     Marked                                                       the walk from s has n steps, and its corners are marked
+--     Marking                                                      the loop that marks a walk
+--     marking-none, marking-more, marking-all, marking-corner      it begins, goes on, ends; the present corner has a mark
+--     LookReady, Looked                                            what the look at dart d asks; what it leaves
+--     unmet, Unmet, unmet-case, unmet-fresh                        dart d, if a walk starts there, as the marks tell
+--     looked-dead, looked-met, looked-walk, looked-begins          the ways through the look
+--     start-stands, Begins                                         the first step of a walk that starts at d; its words
+--     Seen, seen-none, seen-range, seen-more                       the loop over the darts: the corners of walks so far are marked
+--     WalkCounting, counting-none, counting-more, counting-dead    the same with walks and words counted; a block without live edge
+--     Lone, lone-none, lone-more, lone-skip                        the loop that counts the isolated vertices
+--     Measured, measured                                           F, and the number of words of the listing
 use Prim.Native.Nat.{ℕ, zero, suc, _+_, _*_, _/_, _<_, _≤_, _-_}
 use native.Mathlib.Omega.{arith}
 use native.Mathlib.Nat.{add-zero}

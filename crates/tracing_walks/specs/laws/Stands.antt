@@ -1,4 +1,10 @@
 -- A good table with a live dart, or with a step on one: what the code that walks it is handed, and what it may then read.
+--     LiveDart, Stands                          a good table with a live dart; with a step on one
+--     Near, near                                the words of a live dart are in range
+--     stands-dart, stands-rev                   its dart and the reverse are live
+--     stands-low, stands-step, stands-corner    it is a step word; the next step stands too; its corner is a dart
+--     around-next-word, around-prev-word        the step around a dart, from the table's words
+--     corner-next-word                          the corner of a step of type 1, from the table's words
 use Prim.Native.Nat.{ℕ, _+_, _*_, _/_, _%_, _<_, _≤_}
 use native.Mathlib.Omega.{arith}
 use mathlib.Core.Path.{_≡_, sym, _∙_}

@@ -1,4 +1,11 @@
 -- Why the trial program makes what its arguments ask for: the ends of their reading, the job, the line, and what of a slice is handed over.
+--     count-wrong, start-wrong, edges-wrong, both-right    the four ends of the reading of the arguments
+--     decimals-job                                         the decimal texts of two numbers ask for their job
+--     outcome-few, few-as                                  a job that is asked for has few edges
+--     job-laid, job-taken                                  the call that writes it goes through
+--     laid-none, laid-pasted, laid-as                      a text at the front of a slice
+--     laid-room, laid-handed                               all of it is handed over, and no more
+--     one-empty                                            either the output or the message is empty
 use Prim.Native.Nat.{ℕ, _+_, _≤_}
 use native.Mathlib.Omega.{arith}
 use mathlib.Core.Path.{_≡_, refl, sym, _∙_, ap}

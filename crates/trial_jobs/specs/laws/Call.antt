@@ -1,4 +1,7 @@
 -- What the call for a trial job answers, and that each answer says why.
+--     answer-many, answer-short, answer-done    13; 7; or the size
+--     trial-many, trial-short, trial-never      13 and 7 exactly then; never anything else
+--     Why, why                                  one of the three holds
 use Prim.Native.Nat.{ℕ, _<_, _≤_}
 use native.Mathlib.Omega.{arith}
 use native.Mathlib.Decide.{decLt}

@@ -1,6 +1,7 @@
 -- An edge of a trial job on the mesh before it: the insertion is accepted, and the corners of the vertices after it.
---     insertion-passes, insertion-numbered     it goes through, and there is one edge more
---     stays, takes-first, takes-second, untouched     the corner of a vertex after it: its own, or a dart of the new edge
+--     Planned, corner-there                          edge e is to go between two vertices; their corners are there
+--     insertion-passes, insertion-numbered           it goes through, and there is one edge more
+--     stays, takes-first, takes-second, untouched    the corner of a vertex after it: its own, or a dart of the new edge
 use Prim.Native.Nat.{ℕ, suc, _+_, _*_, _<_, _≤_}
 use native.Mathlib.Omega.{arith}
 use native.Mathlib.Decide.{ℕ-discrete}

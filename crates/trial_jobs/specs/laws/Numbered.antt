@@ -1,4 +1,8 @@
 -- The mesh while a trial job is run: vertices 0 to v-1 and edges 0 to e-1, and no others. A vertex more is accepted.
+--     Numbered, numbered-empty                the mesh has these vertices and edges; the empty mesh has none
+--     numbered-vertex, numbered-dart, free    its vertices are live; its darts are below 2e; the next edge is free
+--     vertex-passes, vertex-numbered          a vertex more is accepted, and leaves such a mesh
+--     numbered-vertices, numbered-edges       V and E
 use Prim.Native.Nat.{ℕ, suc, _+_, _*_, _<_, _≤_}
 use native.Mathlib.Omega.{arith}
 use native.Mathlib.Decide.{ℕ-discrete}

@@ -1,4 +1,10 @@
 -- What holds of every trial job, by the mesh that its edits leave one after the other.
+--     trial-laws                     what holds of every trial job
+--     SoFar, made                    the mesh after n edges, and that every record was accepted
+--     ready                          the next edge can be inserted
+--     run-last                       one edit more
+--     Added, added                   the mesh after the vertices
+--     whole-read, nothing-printed    the job's bytes are read whole, and no line is printed
 use Prim.Native.Nat.{ℕ, zero, suc, _+_, _*_, _<_, _≤_}
 use native.Mathlib.Omega.{arith}
 use mathlib.Core.Path.{_≡_, refl, sym, _∙_, ap, subst}

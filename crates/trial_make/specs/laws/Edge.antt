@@ -1,4 +1,8 @@
 -- One edge, as the code draws it from the state and eight corners; and that the corners then are those of the table after it.
+--     edgeDrawn, cornersAfter                          the edge drawn from a state and the corners; the corners after it
+--     giveDart, give-none, give-lone, give-length      a vertex without a dart gets dart d
+--     Corners, corners-next                            the corners of the eight vertices; once the edge is in
+--     Drawn, drawn-state, drawn-edge, drawn-corners    the same from what the code has drawn
 use Prim.Native.Nat.{ℕ, _+_, _*_, _<_, _≤_}
 use native.Mathlib.Omega.{arith}
 use native.Mathlib.Decide.{ℕ-discrete, decLt}

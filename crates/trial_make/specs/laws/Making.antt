@@ -1,4 +1,9 @@
 -- A trial job as the code writes it: what its two loops know.
+--     Vertices                                             the loop that writes the vertices
+--     vertices-none, vertices-more, vertices-all           it begins, goes on, ends
+--     Begun, Underway                                      the vertices are written; the next loop, whatever was there before
+--     Making                                               the loop over the edges: records, state and corners
+--     making-none, making-room, making-more, making-all    it begins, has room, goes on, ends
 use Prim.Native.Nat.{ℕ, suc, _+_, _*_, _<_, _≤_}
 use native.Mathlib.Omega.{arith}
 use native.Mathlib.Numerals.{add-one}

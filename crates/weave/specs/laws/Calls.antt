@@ -1,5 +1,11 @@
 -- What the calls answer, and what the call for the letters leaves in the slice, document 01, "When a call declines":
 -- torn, then no such name, then absent, then a slice shorter than "the output's exact size".
+--     named-torn, named-past, named-type, named-dead           the refusals of a step's name: 1, 2, 2, 4
+--     named-there, NamedThere, there-steps                     a step that is there, on a live dart
+--     alternates-refused, alternates-done                      the ends of the call that asks whether a ribbon alternates
+--     letters-refused, letters-short, letters-done             the ends of the call for the letters
+--     plain-torn, plain-done                                   the ends of the call that asks whether the weave is plain
+--     letters-accepted, alternates-accepted, plain-accepted    what the calls answered, where accepted
 use Prim.Native.Nat.{ℕ, _+_, _*_, _/_, _<_, _≤_}
 use native.Mathlib.Omega.{arith}
 use mathlib.Core.Path.{_≡_, refl, sym, _∙_, ap}

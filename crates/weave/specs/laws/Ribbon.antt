@@ -1,4 +1,12 @@
 -- A ribbon's letters are those of one strand, which closes: their number is even, and a ribbon alternates exactly if its turned edges turn the same way.
+--     letters-even                                                      a ribbon has an even number of letters
+--     alternates-iff, alternates-same, same-alternates                  it alternates exactly if its turned edges turn the same way
+--     alternates-hands                                                  or: if it does not have edges of both hands
+--     crossings-parity                                                  an edge word has the parity of its crossings
+--     some-append, SomePasses, some-passes, passes-some, none-passes    whether some member of a list passes a test
+--     handsOn, handsAlong                                               the hands of an edge's crossings; of those along some steps
+--     Strung, strung                                                    the letters of the first n steps are those of one strand
+--     walk-strand, walk-closes                                          so are the ribbon's, and the strand closes
 use Prim.Native.Nat.{ℕ, zero, suc, _+_, _-_, _%_, _<_}
 use native.Mathlib.Omega.{arith}
 use native.Mathlib.Decide.{ℕ-discrete}

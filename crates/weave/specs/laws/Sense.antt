@@ -1,5 +1,8 @@
 -- Alternating belongs to the face: it depends neither on the step that names the ribbon nor on the sense in which the face is traced.
 -- So a weave is plain exactly if the ribbon through every live step alternates.
+--     alternates-named, alternates-mirror, alternates-face    any step, either sense, any step of the face may name the ribbon
+--     plain-iff, plain-same                                   plain exactly if every ribbon alternates; if its edges turn the same way
+--     SameLetters, named-alike, mirror-alike                  a step of one walk has one on the other whose edge word is the same
 use Prim.Native.Nat.{ℕ, _*_, _/_, _<_}
 use native.Mathlib.Omega.{arith}
 use mathlib.Core.Path.{_≡_, refl, sym, _∙_, ap}

@@ -1,5 +1,11 @@
 -- A strand: crossings of given hands, over which the type flips from one to the next. If their number is even, so that the strand closes,
 -- its letters alternate exactly if the hands are all the same.
+--     strand, among                                  the letters of crossings of these hands; is a hand among them
+--     strand-alternates                              closed, it alternates exactly if not both hands are among them
+--     strand-parity, strand-append, strand-length    from the same type; one strand after another; as many letters as hands
+--     crossed-strand                                 the crossings of one edge are a strand of one hand
+--     among-append                                   the hands of two strands
+--     unanimous, apart-hands                         all hands agree; neighbours' letters differ exactly then
 use Prim.Native.Nat.{ℕ, zero, suc, _+_, _-_, _%_}
 use native.Mathlib.Omega.{arith}
 use mathlib.Core.Path.{_≡_, refl, sym, _∙_, ap, ap₂}

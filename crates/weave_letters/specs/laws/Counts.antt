@@ -1,4 +1,11 @@
 -- How many of a step's letters are O and U: every other one.
+--     overs-positive, overs-negative    how many letters of a step are O, by hand, type and crossings
+--     unders-left                       the letters that are not O are U
+--     crossings-most                    the crossings of a 16-bit edge word
+--     letters-few                       a step has at most 99 letters of either kind
+--     overs-step                        the O's counted by the edge word are those of the step
+--     overs-back                        as many O's on the way back along an edge
+--     Halves, halves                    n crossings from either type, of either hand: half of them O
 use Prim.Native.Nat.{ℕ, zero, suc, _+_, _-_, _/_, _%_, _<_, _≤_}
 use native.Mathlib.Omega.{arith}
 use mathlib.Core.Path.{_≡_, refl, sym}

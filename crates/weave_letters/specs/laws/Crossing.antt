@@ -1,4 +1,11 @@
 -- The crossings of one step, as the code writes them: the letter at each, and those before it.
+--     EdgeWord, edge-read                                            r is the word of the edge that a step is on
+--     crossings-few, crossings-low, crossings-high                   the crossings of a live edge: at most 99, by its hand
+--     rising-over, rising-under, falling-under, falling-over         the four ways to cross
+--     letters-at, letters-length, crossed-length                     letter j of a step; how many there are
+--     LetterRoom, Lettered                                           room for a step's letters; they are written
+--     Crossing                                                       the loop that writes them
+--     crossing-none, crossing-more, crossing-within, crossing-all    it begins, goes on, has room, ends
 use Prim.Native.Nat.{ℕ, zero, suc, _+_, _-_, _/_, _%_, _<_, _≤_}
 use native.Mathlib.Omega.{arith}
 use native.Mathlib.Numerals.{add-one}

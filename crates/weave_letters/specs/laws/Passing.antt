@@ -1,4 +1,10 @@
 -- The letters along a walk, as the code counts and writes them: what its loops know.
+--     lettersBefore, before-suc                                the letters of the first n steps; of one step more
+--     LetterCount, LetterCounting                              a ribbon's letters are so many; the loop that counts them
+--     counting-none, counting-more, counting-all, count-few    it begins, goes on, ends; the count stays small
+--     Lettering                                                the loop that writes them
+--     lettering-none, lettering-more, lettering-all            it begins, goes on, ends
+--     lettering-room, lettering-size                           the present step has room; the slice keeps its size
 use Prim.Native.Nat.{ℕ, zero, suc, _+_, _*_, _%_, _<_, _≤_}
 use native.Mathlib.Omega.{arith}
 use native.Mathlib.Numerals.{add-one}

@@ -1,4 +1,9 @@
 -- The hands of the edges along a walk, as the code gathers them, and the loop that does.
+--     handsWith, handsAmong                          these hands and that of one edge more; those of some steps
+--     with-positive, with-negative, with-unturned    the three kinds of edge words
+--     Seeing                                         the loop over the walk
+--     seeing-none, seeing-more, seeing-all           it begins, goes on, ends
+--     tell-positive, tell-none                       what the hands tell: whether the ribbon alternates
 use Prim.Native.Nat.{ℕ, zero, _+_, _<_, _≤_}
 use native.Mathlib.Omega.{arith}
 use native.Mathlib.Numerals.{add-one}

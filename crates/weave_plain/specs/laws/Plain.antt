@@ -1,4 +1,9 @@
 -- The listed ribbons, judged one after the other: what the loop over the darts knows.
+--     allAlternate                       do the ribbons from these darts on alternate
+--     Judged, judged-none, judged-one    the ribbon listed from dart d on is judged: there is none, or one
+--     Judging                            the loop over the darts: the ribbons listed so far alternate
+--     judging-none, judging-more         it begins, goes on
+--     judging-no, judging-all            it ends with a mixed weave; with a plain one
 use Prim.Native.Nat.{ℕ, zero, suc, _+_, _*_, _<_, _≤_}
 use native.Mathlib.Omega.{arith}
 use native.Mathlib.Numerals.{add-one}

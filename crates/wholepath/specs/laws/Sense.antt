@@ -1,4 +1,8 @@
 -- What the call answers belongs to the face: it depends neither on the step that names the ribbon nor on the sense in which the face is traced.
+--     whole-named                 any step of the ribbon may name it
+--     whole-mirror                and either sense may
+--     along-sized, along-alike    the answer, by the number of pieces and whether a word is far
+--     far-back, spots-back        the way back along an edge is far alike, and has as many pieces
 use Prim.Native.Nat.{ℕ, _+_, _*_}
 use mathlib.Core.Path.{_≡_, sym, _∙_, ap, ap₂}
 use mathlib.Core.Bool.{Bool, true, not}

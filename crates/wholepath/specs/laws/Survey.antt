@@ -1,4 +1,10 @@
 -- What the walk of a ribbon shows before its whole path is written: the number of its pieces, and whether a word is out of range. The loop that gathers it.
+--     surveyOf, surveyWith                             the survey of some steps; with one step more
+--     with-far, with-near                              a step that is far, or not
+--     mostBefore                                       the most pieces before the last step
+--     Surveying                                        the loop over the walk
+--     surveying-none, surveying-more, surveying-all    it begins, goes on, ends
+--     surveying-lent, surveying-most                   the present step's words are there; there are few pieces
 use Prim.Native.Nat.{ℕ, zero, _+_, _*_, _≤_}
 use native.Mathlib.Omega.{arith}
 use native.Mathlib.Numerals.{add-one}

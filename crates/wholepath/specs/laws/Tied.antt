@@ -1,4 +1,11 @@
 -- The pieces of an accepted path: their words are small, and where the float path is accepted too, the two agree.
+--     whole-near, whole-count          an accepted path: its words are small; its number of pieces
+--     float-whole, float-tied          where the float path is accepted, so is this one, and the two agree
+--     never-eight                      the call never declines with 8
+--     Accepted, accepted               what an accepted call has found out
+--     FloatAccepted, float-accepted    the same of the float path
+--     one-spot, spot-is, step-tied     an edge of at most one turn: one piece, at the float path's point
+--     as-many, whole-along             then both paths have as many pieces
 use Prim.Native.Nat.{ℕ, _+_, _*_, _/_, _%_, _≤_, _<_}
 use native.Mathlib.Omega.{arith}
 use native.Mathlib.Decide.{ℕ-discrete}

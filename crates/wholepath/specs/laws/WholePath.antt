@@ -1,4 +1,10 @@
 -- What the call for the whole path answers, and what it leaves in the three slices: the ends of its functions.
+--     short-points, short-lifts                 7, for the lent points and lifts
+--     short-kinds, short-coords, short-rests    7, for the three slices of the output
+--     far-away, path-sized                      9; or the number of pieces
+--     survey-few, along-room                    there are few pieces; an accepted path has room, and words in range
+--     Left, left-declined, left-done            what is answered and left for the path from a step
+--     path-refused, path-left, Ended            the two ends of the call
 use Prim.Native.Nat.{ℕ, _+_, _*_, _<_, _≤_}
 use native.Mathlib.Omega.{arith}
 use mathlib.Core.Path.{_≡_, refl, sym, _∙_, ap}

@@ -1,5 +1,10 @@
--- "Travelled from the second end, crossings come in falling j": the way back along an edge gives the same pieces in reverse order, and so does the ribbon in
--- the other sense.
+-- "Travelled from the second end, crossings come in falling j": the way back along an edge gives the same pieces in reverse order,
+-- and so does the ribbon in the other sense.
+--     pieces-back                              the pieces of the way back along an edge
+--     pieces-mirror                            the pieces of the ribbon in the other sense
+--     same-edge                                a step and its way back are on one edge
+--     counted-back, letter-back, piece-back    the crossings counted from the other end; their letters; their pieces
+--     up-first, up-same, up-reverse            f 0, f 1 and so on, from the other end
 use Prim.Native.Nat.{ℕ, zero, suc, _+_, _-_, _/_, _%_, _<_}
 use native.Mathlib.Omega.{arith}
 use native.Mathlib.Decide.{ℕ-discrete}

@@ -1,4 +1,13 @@
 -- The pieces of a step, as the code makes them.
+--     spots-flat, spots-turned, spots-few             how many pieces an edge gives
+--     letter-none, letter-there                       their letters
+--     counted-rising, counted-falling, counted-low    their order along a dart
+--     SpotRead, crossing-read, spot-made              a spot's words are there and in range; it is what the code makes
+--     for-over, for-under, for-flat                   a piece by its letter
+--     PieceRead, spot-read, piece-is                  the i-th piece of a step
+--     zeros                                           zeros for Close
+--     up-length, flat-length, step-length             how many there are in a list that is made so
+--     pieces-total, pieces-most                       the pieces of some steps; of a ribbon, at most 202,752
 use Prim.Native.Nat.{ℕ, zero, suc, _+_, _-_, _*_, _/_, _%_, _≤_, _<_}
 use native.Mathlib.Omega.{arith}
 use native.Mathlib.Nat.{mul-suc}

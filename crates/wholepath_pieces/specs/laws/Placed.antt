@@ -1,4 +1,9 @@
 -- The spots of a whole path are where document 02 has them; on an edge of one turn or none, where the float path has them.
+--     spotHere, spot-here    the spot of a piece
+--     spot-placed            it is where document 02 has it
+--     middle-lifted          on an edge of one turn or none, twice the coordinate and its remainder is the float path's number
+--     Whole, whole           a division that rounds down, taken back
+--     unlifted-lifted        the lift, taken back
 use Prim.Native.Nat.{ℕ, suc, _+_, _-_, _*_, _/_, _%_, _≤_, _<_}
 use native.Mathlib.Omega.{arith}
 use native.Mathlib.Nat.{mul-add, div-add-mod, mod-lt}

@@ -1,4 +1,16 @@
 -- Where a crossing sits: the code's division, of numbers that are not negative, is the one that rounds down.
+--     Raised, raised-fits, raised-whole, raised-made                   a coordinate, counted from the lowest
+--     Between, remains-low                                             crossing j of n between two points in range; its remainder is small
+--     first-raised, second-raised                                      its ends, raised
+--     Weights, weights                                                 the bounds of what is divided: n, j and both ends raised
+--     first-fits, second-fits, sum-fits, quotient-fits, word-fits      products, sum, quotient and place fit 32 bits
+--     product-low, product-fits, rest-fits                             the remainder, by a product; it fits 16 bits
+--     place-made                                                       the quotient and the remainder are those of document 02
+--     NearLift, farthestSpot                                           a place and a lift in range; as far as a crossing can lie
+--     over-fits, under-fits, lifted-over, lifted-under, lifted-flat    the lift added, taken off, or none
+--     Crossing, crossing-few                                           crossing j of n with its lift; it is near
+--     lift-near, lifted-made, coordinate-word, coordinate-rest         the same of the words as the machine has them
+--     Divided, divided                                                 the division that rounds down, whichever end is higher
 use Prim.Native.Nat.{ℕ, suc, _+_, _-_, _*_, _/_, _%_, _≤_, _<_}
 use native.Mathlib.Omega.{arith}
 use native.Mathlib.Nat.{mul-le-mul-left, mul-add, add-mul, mul-add-div, mul-add-mod-self-left, div-eq-of-lt, mod-eq-of-lt}

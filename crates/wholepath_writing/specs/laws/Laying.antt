@@ -1,4 +1,14 @@
 -- The loops that write a whole path: the pieces of one step, and of the walk's steps so far.
+--     StepRoom, Stepped                                              room for the pieces of one step; they are written
+--     Stepping                                                       the loop over them
+--     stepping-none, stepping-more, stepping-all                     it begins, goes on, ends
+--     stepping-few, stepping-piece, stepping-room, stepping-sizes    few pieces, readable words, room; the slices' sizes
+--     PathRoom, Laid                                                 room for the path of a ribbon; the pieces of its steps are written
+--     Laying                                                         the loop over the walk
+--     laying-none, laying-step, laying-more, laying-all              it begins, has room for a step, goes on, ends
+--     laying-sizes                                                   the slices keep their sizes
+--     closing-room, closed                                           then Close: the whole path is written
+--     path-length, path-room                                         how many pieces it has; there is room for them
 use Prim.Native.Nat.{ℕ, zero, suc, _+_, _<_, _≤_}
 use native.Mathlib.Omega.{arith}
 use native.Mathlib.Numerals.{add-one}

@@ -1,4 +1,12 @@
 -- Pieces written one after the other to three slices.
+--     Out, out                                     the three slices
+--     Room, room-kept                              room for n pieces
+--     Written                                      some pieces stand in the slices from piece `start` on, all else is as it was
+--     written-none, written-join, written-sizes    no piece; pieces after pieces; the slices keep their sizes
+--     SameSizes                                    the slices have the sizes of before
+--     kinds-length, words-length, rests-length     how many words some pieces take in each slice
+--     kinds-front, coords-front, rests-front       all that is written stands at the front
+--     Machine, piece-written                       the words of a spot fit; one piece is written
 use Prim.Native.Nat.{ℕ, suc, _+_, _*_, _≤_, _<_, _^_}
 use native.Mathlib.Omega.{arith}
 use native.Mathlib.Numerals.{add-one}

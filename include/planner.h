@@ -229,12 +229,12 @@ int64_t planner_letters(const uint16_t *table, size_t words, uint16_t dart, uint
 int64_t planner_cut_length(const uint16_t *table, size_t words, uint16_t dart, uint16_t type);
 
 /*
- * The float path of the ribbon through the step: one piece for each step, then Close. kinds[i] is one of the four below;
+ * The float path of the ribbon through the step: one piece for each step, then Close. forms[i] is one of the four below;
  * coords has three floats for each piece, in millimetres, zeros for Close. With the coordinates a and b of the edge's two
  * ends and its lift l, all in sixteenths, a coordinate times 32 is exactly a+b+2l over, a+b-2l under, a+b flat.
  * Lent: three words for each vertex in `points`, within 65,536 either way; three for each edge in `lifts`, within 4,096.
- * Answers the number of pieces, p. Writes p words to the front of `kinds` and 3p floats to the front of `coords`.
- * Declines besides: PLANNER_SHORT_SLICE (points fewer than 1,536, lifts fewer than 3,072, kinds fewer than p, coords fewer
+ * Answers the number of pieces, p. Writes p words to the front of `forms` and 3p floats to the front of `coords`.
+ * Declines besides: PLANNER_SHORT_SLICE (points fewer than 1,536, lifts fewer than 3,072, forms fewer than p, coords fewer
  * than 3p); PLANNER_MANY_TURNS (an edge on the ribbon with more than one turn, of either hand); PLANNER_FAR (a point or
  * lift out of range at an edge on the ribbon).
  */
@@ -243,12 +243,12 @@ int64_t planner_cut_length(const uint16_t *table, size_t words, uint16_t dart, u
 #define PLANNER_UNDER 2
 #define PLANNER_CLOSE 3
 int64_t planner_float_path(const uint16_t *table, size_t words, uint16_t dart, uint16_t type, const int32_t *points,
-                           size_t n_points, const int32_t *lifts, size_t n_lifts, uint16_t *kinds, size_t n_kinds,
+                           size_t n_points, const int32_t *lifts, size_t n_lifts, uint16_t *forms, size_t n_forms,
                            float *coords, size_t n_coords);
 
 /*
  * The whole path of the ribbon through the step, in whole sixteenths, over edges of any turns: one piece for each crossing and
- * one for each step on an edge without turns, in the order of travel, then Close. kinds[i] is one of the four above; coords has
+ * one for each step on an edge without turns, in the order of travel, then Close. forms[i] is one of the four above; coords has
  * three words for each piece and remainders three, one beside each word of coords; zeros for Close in both.
  * On edge e with n crossings, crossing j (0 to n-1, counted from the first end, which dart 2e leaves) sits, per coordinate with
  * a at the first end and b at the second, at a + (2j+1)(b-a)/(2n), rounded towards minus infinity; its remainder, from 0 to 2n-1,
@@ -256,16 +256,16 @@ int64_t planner_float_path(const uint16_t *table, size_t words, uint16_t dart, u
  * under. A step by dart 2e meets the crossings with j rising, a step by dart 2e+1 with j falling; its letters are those of
  * planner_letters, in that order. An edge without turns has one flat point, with n = 1 and j = 0, and no lift.
  * Lent: points and lifts as for the float path. Answers the number of pieces, p: the sum of the crossings of each step, 1 for a
- * step without any, and 1 for Close. Writes p words to the front of `kinds`, 3p to the front of `coords` and 3p to the front of
+ * step without any, and 1 for Close. Writes p words to the front of `forms`, 3p to the front of `coords` and 3p to the front of
  * `remainders`. 202,753 pieces (2,048 steps of 99 crossings, and Close) are enough for every ribbon, so 608,259 coords and as
  * many remainders.
- * Where the float path is accepted, the kinds are the same, and its coordinate times 32 is twice the word and the remainder.
- * Declines besides: PLANNER_SHORT_SLICE (points fewer than 1,536, lifts fewer than 3,072, kinds fewer than p, coords or
+ * Where the float path is accepted, the forms are the same, and its coordinate times 32 is twice the word and the remainder.
+ * Declines besides: PLANNER_SHORT_SLICE (points fewer than 1,536, lifts fewer than 3,072, forms fewer than p, coords or
  * remainders fewer than 3p); PLANNER_FAR (a point or lift out of range at an edge on the ribbon, the lift of an edge without
  * turns too). Never PLANNER_MANY_TURNS.
  */
 int64_t planner_whole_path(const uint16_t *table, size_t words, uint16_t dart, uint16_t type, const int32_t *points,
-                           size_t n_points, const int32_t *lifts, size_t n_lifts, uint16_t *kinds, size_t n_kinds,
+                           size_t n_points, const int32_t *lifts, size_t n_lifts, uint16_t *forms, size_t n_forms,
                            int32_t *coords, size_t n_coords, uint16_t *remainders, size_t n_remainders);
 
 /*

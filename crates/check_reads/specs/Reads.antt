@@ -1,7 +1,7 @@
 -- How many words of the table one check reads, document 02, request c. A read is a read of a lent word, and a word that is read again counts again.
 -- The check makes its tests in a fixed order, and ends with the first that fails.
 --     checkReads                                      the words that the whole check reads
---     Test, reading                                   so many words are read, and then the check goes on or ends
+--     Test, testOf                                    so many words are read, and then the check goes on or ends
 --     readsOf, passAll                                tests in a row: the words that are read; whether all pass
 --     together                                        such a row as one test
 --     readsBelow, allBelow                            the same of a test for each number below n, upward
@@ -23,8 +23,8 @@ pub record Test : Type 0 where
   pub reads : ℕ
   pub passes : Bool
 
-abbrev pub reading : ℕ → Bool → Test
-reading n b = record { reads = n; passes = b }
+abbrev pub testOf : ℕ → Bool → Test
+testOf n b = record { reads = n; passes = b }
 
 unfoldable pub readsOf : List Test → ℕ
 readsOf [] = 0
@@ -35,7 +35,7 @@ passAll [] = true
 passAll (x ∷ l) = x .passes && passAll l
 
 abbrev pub together : List Test → Test
-together l = reading (readsOf l) (passAll l)
+together l = testOf (readsOf l) (passAll l)
 
 unfoldable pub allBelow : (ℕ → Bool) → ℕ → Bool
 allBelow q zero = true
@@ -48,30 +48,30 @@ readsBelow f (suc n) = readsBelow f n + elim (allBelow (λ i. f i .passes) n) [ 
 -- a dart that is not live: its three words
 abbrev pub bareTests : List ℕ → ℕ → List Test
 bareTests t d =
-    reading 1 (eqb (nextWord t d) nothing)
-    ∷ reading 1 (eqb (prevWord t d) nothing)
-    ∷ reading 1 (eqb (leaves t d) nothing)
+    testOf 1 (eqb (nextWord t d) nothing)
+    ∷ testOf 1 (eqb (prevWord t d) nothing)
+    ∷ testOf 1 (eqb (leaves t d) nothing)
     ∷ []
 
 -- a live dart: where it leaves, and the dart after it, which must lead back and leave there too
 abbrev pub linkedTests : List ℕ → ℕ → List Test
 linkedTests t d =
-    reading 1 (ltb (leaves t d) vertices)
-    ∷ reading 1 (ltb (nextWord t d) darts)
-    ∷ reading 1 (eqb (prevWord t (nextWord t d)) d)
-    ∷ reading 1 (eqb (leaves t (nextWord t d)) (leaves t d))
+    testOf 1 (ltb (leaves t d) vertices)
+    ∷ testOf 1 (ltb (nextWord t d) darts)
+    ∷ testOf 1 (eqb (prevWord t (nextWord t d)) d)
+    ∷ testOf 1 (eqb (leaves t (nextWord t d)) (leaves t d))
     ∷ []
 
 -- a dart, by what its edge's word says
 unfoldable pub dartTests : List ℕ → ℕ → List Test
 dartTests t d = elim (eqb (edgeWord t (edgeOf d)) 0) [
   | true ↦ bareTests t d
-  | false ↦ reading 0 (leb (edgeWord t (edgeOf d)) edgeWordMost) ∷ linkedTests t d
+  | false ↦ testOf 0 (leb (edgeWord t (edgeOf d)) edgeWordMost) ∷ linkedTests t d
 ]
 
 -- an edge: its word, and its two darts
 abbrev pub edgeTests : List ℕ → ℕ → List Test
-edgeTests t e = reading 1 true ∷ together (dartTests t (2 * e)) ∷ together (dartTests t (2 * e + 1)) ∷ []
+edgeTests t e = testOf 1 true ∷ together (dartTests t (2 * e)) ∷ together (dartTests t (2 * e + 1)) ∷ []
 
 -- A block of 32 edges, and of their 64 darts. If none of the edges is live, and all words of the darts, kind by kind, are 65,535, this is all that is
 -- read of it; else it is read edge by edge.
@@ -83,10 +83,10 @@ blank t from = allBelow (λ i. eqb (getD t (from + i) 0) nothing) 64
 
 abbrev pub idleTests : List ℕ → ℕ → List Test
 idleTests t b =
-    reading 32 (deadBlock t b)
-    ∷ reading 64 (blank t (64 * b))
-    ∷ reading 64 (blank t (prevAt + 64 * b))
-    ∷ reading 64 (blank t (leavesAt + 64 * b))
+    testOf 32 (deadBlock t b)
+    ∷ testOf 64 (blank t (64 * b))
+    ∷ testOf 64 (blank t (prevAt + 64 * b))
+    ∷ testOf 64 (blank t (leavesAt + 64 * b))
     ∷ []
 
 abbrev pub edgeIn : List ℕ → ℕ → ℕ → Test
@@ -101,7 +101,7 @@ edgeBlock t b = record {
 -- the cycle of dart w, as long as the darts that come up are past w; it passes if none of them is below w
 abbrev pub cycleTest : List ℕ → ℕ → Test
 cycleTest t w = record {
-  reads = readsBelow (λ k. reading 1 (ltb w (iter (nextWord t) (suc k) w))) darts;
+  reads = readsBelow (λ k. testOf 1 (ltb w (iter (nextWord t) (suc k) w))) darts;
   passes = allBelow (λ k. leb w (iter (nextWord t) (suc k) w)) darts;
 }
 
@@ -112,13 +112,13 @@ leadsNone t v = eqb (vertexWord t v) nothing || eqb (vertexWord t v) isolated
 -- a vertex whose word names a dart: the word, whether that dart leaves the vertex, and its cycle
 abbrev pub leadTests : List ℕ → ℕ → List Test
 leadTests t v =
-    reading 1 (ltb (vertexWord t v) darts)
-    ∷ reading 1 (eqb (leaves t (vertexWord t v)) v)
+    testOf 1 (ltb (vertexWord t v) darts)
+    ∷ testOf 1 (eqb (leaves t (vertexWord t v)) v)
     ∷ cycleTest t (vertexWord t v)
     ∷ []
 
 unfoldable pub vertexTests : List ℕ → ℕ → List Test
-vertexTests t v = elim (leadsNone t v) [ true ↦ reading 1 true ∷ [] | false ↦ leadTests t v ]
+vertexTests t v = elim (leadsNone t v) [ true ↦ testOf 1 true ∷ [] | false ↦ leadTests t v ]
 
 abbrev pub vertexIn : List ℕ → ℕ → ℕ → Test
 vertexIn t b i = together (vertexTests t (32 * b + i))
@@ -139,8 +139,8 @@ lengthFits t e = cond (eqb (edgeWord t e) 0) (eqb (lengthWord t e) 0) (ltb 0 (le
 unfoldable pub checkReads : List ℕ → ℕ
 checkReads t =
     readsOf
-    (reading 0 (eqb (length t) words)
-    ∷ reading (2 * edges) (allBelow (lengthFits t) edges)
-    ∷ reading (readsBelow (edgeBlock t) 32) (allBelow (λ b. edgeBlock t b .passes) 32)
-    ∷ reading (readsBelow (vertexBlock t) 16) true
+    (testOf 0 (eqb (length t) words)
+    ∷ testOf (2 * edges) (allBelow (lengthFits t) edges)
+    ∷ testOf (readsBelow (edgeBlock t) 32) (allBelow (λ b. edgeBlock t b .passes) 32)
+    ∷ testOf (readsBelow (vertexBlock t) 16) true
     ∷ [])

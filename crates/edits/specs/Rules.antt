@@ -1,10 +1,10 @@
 -- Which rule an edit falls under, document 02, request a, read on the table just before it; and what an edit answers with it.
 --     ruleFor, turnRule, ruleOf         the rule, from how the corners or the sides lie
---     ruleChange                        what a rule says of the number of faces
+--     ruleChange, facesAfter            what a rule says of the number of faces; the face count after it
 --     reply, withRule                   the answer with its rule
 --     replyCode, ruleNumber             as a host gets it; the numbers of the rules
 --     facesRead, ruleRead, numberMet    what the host reads in that; the number of the rule met, 0 for none
-use Prim.Native.Nat.{ℕ, zero, suc, _+_, _*_, _/_, _%_}
+use Prim.Native.Nat.{ℕ, zero, suc, _+_, _-_, _*_, _/_, _%_}
 use mathlib.Core.List.{List}
 use mathlib.Core.Option.{Option, none, some}
 use lib.IntN.{ℤ, pos}
@@ -49,6 +49,13 @@ ruleChange rule.A = less
 ruleChange rule.B1 = more
 ruleChange rule.B2 = as-many
 ruleChange rule.E = as-many
+
+-- the face count after an edit of this rule, before which it was n
+abbrev pub facesAfter : ℕ → Rule → ℕ
+facesAfter n rule.A = n - 1
+facesAfter n rule.B1 = n + 1
+facesAfter n rule.B2 = n
+facesAfter n rule.E = n
 
 -- "besides the new face count, the rule met"; a declined edit answers its number alone
 abbrev pub withRule : Answer → Option Rule → Reply

@@ -9,6 +9,9 @@ pub enum Rule {
     E,
 }
 
+// A host gets a rule's number above the 16 bits of a face count.
+pub const RULE_PLACE: u64 = 65536;
+
 // The new face count: alone for a vertex, for an edge with the rule met; or the refusal alone.
 pub enum Reply {
     Faces(u32),

@@ -13,6 +13,7 @@ use edits_write::splice::link;
 use edits_write::splice::unlink;
 use table::layout::EDGE;
 use table::layout::LENGTH;
+use table::layout::UNTURNED;
 ghost use mathlib.Core.Path.{_≡_};
 ghost use Prim.Native.Nat.{_*_, _+_, _<_};
 ghost use Rattle.edits.specs.Edge.{firstCorner, inserted, deleted};
@@ -52,7 +53,7 @@ pub fn insert_edge(t: &mut [u16], e: u16, c1: u16, c2: u16, k: i16, length: u16)
     match insert_verdict(t, e, c1, c2, k, length) {
         Verdict::Declines(r) => Reply::Refused(r),
         Verdict::Passes => {
-            let w = turned_word(100, k);
+            let w = turned_word(UNTURNED, k);
             let ruling = insert_rule(t, c1, c2, w);
             insert(t, e as usize, c1 as usize, c2 as usize, w, length);
             by_rule(ruling)

@@ -1,5 +1,6 @@
 // What an edit answers, with its rule and as C gets it.
 use crate::ruling::Ruling;
+use edits::rule::RULE_PLACE;
 use edits::rule::Reply;
 use edits::rule::Rule;
 use table::answer::Answer;
@@ -9,8 +10,8 @@ ghost use mathlib.Core.Option.{none};
 ghost use Prim.Native.Nat.{_≤_};
 ghost use Rattle.tracing.specs.laws.Place.{places};
 ghost use Rattle.edits.specs.declared.rule.Reply.the-variants.{ByRule};
-ghost use Rattle.edits_rule.specs.laws.Rule.{Allowed, facesAfter};
-ghost use Rattle.edits.specs.Rules.{withRule, ruleNumber, replyCode};
+ghost use Rattle.edits_rule.specs.laws.Rule.{Allowed};
+ghost use Rattle.edits.specs.Rules.{facesAfter, withRule, ruleNumber, replyCode};
 
 // The answer of an edit that meets no rule.
 pub fn without_rule(a: Answer) -> Reply
@@ -55,7 +56,7 @@ pub fn reply_code(reply: Reply) -> i64
 {
     match reply {
         Reply::Faces(n) => n as i64,
-        Reply::ByRule(n, rule) => (n as u64 + 65536 * rule_number(rule)) as i64,
+        Reply::ByRule(n, rule) => (n as u64 + RULE_PLACE * rule_number(rule)) as i64,
         Reply::Refused(r) => refusal_code(r),
     }
 }

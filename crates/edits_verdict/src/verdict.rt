@@ -7,6 +7,7 @@ use table::layout::EDGE;
 use table::layout::EDGES;
 use table::layout::ISOLATED;
 use table::layout::NOTHING;
+use table::layout::UNTURNED;
 use table::layout::VERTEX;
 use table::layout::VERTICES;
 use tracing_walks::corner::is_corner;
@@ -178,7 +179,7 @@ pub fn insert_verdict(t: &[u16], e: u16, c1: u16, c2: u16, k: i16, length: u16) 
 {
     match new_edge(t, e, c1, c2) {
         Verdict::Declines(r) => Verdict::Declines(r),
-        Verdict::Passes => strip_for(turned_word(100, k), length),
+        Verdict::Passes => strip_for(turned_word(UNTURNED, k), length),
     }
 }
 

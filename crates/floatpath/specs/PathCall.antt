@@ -16,7 +16,7 @@ use Rattle.weave.specs.declared.named.Named.{Named}
 use Rattle.weave.specs.declared.named.Named.the-variants.{There, Refused}
 use Rattle.weave.specs.Calls.{namedStep}
 use Rattle.weave.specs.Ribbon.{some}
-use Rattle.floatpath_pieces.specs.Path.{pointWords, liftWords, pathFrom, kindsOf, floatsOf, text, manyTurns, farStep}
+use Rattle.floatpath_pieces.specs.Path.{pointWords, liftWords, pathFrom, formsOf, floatsOf, text, manyTurns, farStep}
 use Rattle.table.specs.Output.{front}
 use Rattle.table.specs.Answers.{unless, ifDone}
 
@@ -28,7 +28,7 @@ pathAlong t points lifts m c s =
     let steps = walk (rotation t) s in
     unless (leb pointWords (length points)) (Declined ShortSlice)
     (unless (leb liftWords (length lifts)) (Declined ShortSlice)
-    (unless (leb (length (text kindsOf path)) m) (Declined ShortSlice)
+    (unless (leb (length (text formsOf path)) m) (Declined ShortSlice)
     (unless (leb (length (text floatsOf path)) c) (Declined ShortSlice)
     (unless (not (some (manyTurns t) steps)) (Declined ManyTurns)
     (unless (not (some (farStep t points lifts) steps)) (Declined Far)
@@ -43,8 +43,8 @@ abbrev pub pathAnswer : List ℕ → ℕ → ℕ → List ℤ → List ℤ → �
 pathAnswer t d k points lifts m c = pathBy t points lifts m c (namedStep t d k)
 
 -- "Written out it is two lent slices: a word per piece .. and three floats per piece"
-abbrev pub kindsOut : List ℕ → ℕ → ℕ → List ℤ → List ℤ → List ℕ → List Float → List ℕ
-kindsOut t d k points lifts kinds coords = ifDone (pathAnswer t d k points lifts (length kinds) (length coords)) (front (text kindsOf (pathFrom t points lifts (2 * d + k))) kinds) kinds
+abbrev pub formsOut : List ℕ → ℕ → ℕ → List ℤ → List ℤ → List ℕ → List Float → List ℕ
+formsOut t d k points lifts forms coords = ifDone (pathAnswer t d k points lifts (length forms) (length coords)) (front (text formsOf (pathFrom t points lifts (2 * d + k))) forms) forms
 
 abbrev pub coordsOut : List ℕ → ℕ → ℕ → List ℤ → List ℤ → List ℕ → List Float → List Float
-coordsOut t d k points lifts kinds coords = ifDone (pathAnswer t d k points lifts (length kinds) (length coords)) (front (text floatsOf (pathFrom t points lifts (2 * d + k))) coords) coords
+coordsOut t d k points lifts forms coords = ifDone (pathAnswer t d k points lifts (length forms) (length coords)) (front (text floatsOf (pathFrom t points lifts (2 * d + k))) coords) coords

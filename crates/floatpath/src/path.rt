@@ -4,11 +4,11 @@ use crate::writing::write_path;
 use table::answer::Answer;
 use table::answer::Refusal;
 use weave::named::Named;
-use weave_letters::call::named_step;
+use weave_letters::named::named_step;
 ghost use mathlib.Core.Path.{_≡_};
 ghost use lib.ListN.{length};
 ghost use Rattle.tracing_walks.specs.laws.Stands.{Stands};
-ghost use Rattle.floatpath.specs.PathCall.{pathAlong, pathAnswer, kindsOut, coordsOut};
+ghost use Rattle.floatpath.specs.PathCall.{pathAlong, pathAnswer, formsOut, coordsOut};
 ghost use Rattle.floatpath.specs.laws.PathCall.{Left};
 
 // Three words for each vertex, and three for each edge.
@@ -21,12 +21,12 @@ fn path_size(
     t: &[u16],
     points: &[i32],
     lifts: &[i32],
-    kinds: usize,
+    forms: usize,
     coords: usize,
     s: u16,
 ) -> Answer
     requires { ⌜ Stands (now t) s ⌝ }
-    ensures { λ r. ⌜ r ≡ pathAlong (now (t .entry)) (now (points .entry)) (now (lifts .entry)) kinds coords s ⌝ }
+    ensures { λ r. ⌜ r ≡ pathAlong (now (t .entry)) (now (points .entry)) (now (lifts .entry)) forms coords s ⌝ }
 {
     if points.len() < POINTS {
         return Answer::Declined(Refusal::ShortSlice);
@@ -36,7 +36,7 @@ fn path_size(
     }
     let seen = survey_from(t, points, lifts, s);
     let pieces = seen.steps + 1;
-    if kinds < pieces {
+    if forms < pieces {
         return Answer::Declined(Refusal::ShortSlice);
     }
     if coords < 3 * pieces {
@@ -56,18 +56,18 @@ fn path_from(
     t: &[u16],
     points: &[i32],
     lifts: &[i32],
-    kinds: &mut [u16],
+    forms: &mut [u16],
     coords: &mut [f32],
     s: u16,
 ) -> Answer
     requires { ⌜ Stands (now t) s ⌝ }
-    ensures { λ r. ⌜ Left (now (t .entry)) (now (points .entry)) (now (lifts .entry)) s (now (kinds .entry)) (now (coords .entry)) r (now (kinds .exit)) (now (coords .exit)) ⌝ }
+    ensures { λ r. ⌜ Left (now (t .entry)) (now (points .entry)) (now (lifts .entry)) s (now (forms .entry)) (now (coords .entry)) r (now (forms .exit)) (now (coords .exit)) ⌝ }
 {
-    let a = path_size(t, points, lifts, kinds.len(), coords.len(), s);
+    let a = path_size(t, points, lifts, forms.len(), coords.len(), s);
     match a {
         Answer::Declined(r) => Answer::Declined(r),
         Answer::Done(n) => {
-            write_path(t, points, lifts, kinds, coords, s);
+            write_path(t, points, lifts, forms, coords, s);
             Answer::Done(n)
         }
     }
@@ -80,16 +80,16 @@ pub fn float_path(
     kind: u16,
     points: &[i32],
     lifts: &[i32],
-    kinds: &mut [u16],
+    forms: &mut [u16],
     coords: &mut [f32],
 ) -> Answer
-    ensures { λ r. ⌜ (r ≡ pathAnswer (now (t .entry)) dart kind (now (points .entry)) (now (lifts .entry)) (length (now (kinds .entry))) (length (now (coords .entry))))
-        × (now (kinds .exit) ≡ kindsOut (now (t .entry)) dart kind (now (points .entry)) (now (lifts .entry)) (now (kinds .entry)) (now (coords .entry)))
-        × (now (coords .exit) ≡ coordsOut (now (t .entry)) dart kind (now (points .entry)) (now (lifts .entry)) (now (kinds .entry)) (now (coords .entry))) ⌝ }
+    ensures { λ r. ⌜ (r ≡ pathAnswer (now (t .entry)) dart kind (now (points .entry)) (now (lifts .entry)) (length (now (forms .entry))) (length (now (coords .entry))))
+        × (now (forms .exit) ≡ formsOut (now (t .entry)) dart kind (now (points .entry)) (now (lifts .entry)) (now (forms .entry)) (now (coords .entry)))
+        × (now (coords .exit) ≡ coordsOut (now (t .entry)) dart kind (now (points .entry)) (now (lifts .entry)) (now (forms .entry)) (now (coords .entry))) ⌝ }
 {
     let n = named_step(t, dart, kind);
     match n {
         Named::Refused(r) => Answer::Declined(r),
-        Named::There(s) => path_from(t, points, lifts, kinds, coords, s),
+        Named::There(s) => path_from(t, points, lifts, forms, coords, s),
     }
 }

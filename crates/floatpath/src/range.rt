@@ -1,15 +1,12 @@
 // Whether lent words are in range.
+use floatpath_pieces::place::FARTHEST_LIFT;
+use floatpath_pieces::place::FARTHEST_POINT;
 use floatpath_pieces::place::places_of;
 ghost use Prim.Native.Nat.{_+_, _≤_, _<_};
 ghost use mathlib.Core.Path.{_≡_};
 ghost use lib.ListN.{length};
 ghost use Rattle.floatpath_pieces.specs.Path.{farthestPoint, past, farThree, farStep};
 ghost use Rattle.floatpath_pieces.specs.laws.Places.{Lent};
-
-// In sixteenths of a millimetre.
-pub const FARTHEST_POINT: u32 = 65536;
-
-pub const FARTHEST_LIFT: u32 = 4096;
 
 // Is z more than `most` from zero, either way.
 fn is_past(z: i32, most: u32) -> bool

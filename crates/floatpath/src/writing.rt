@@ -1,6 +1,6 @@
 // The pieces of a float path, written to two lent slices that are long enough.
 use floatpath_pieces::piece::Piece;
-use floatpath_pieces::piece::kind_word;
+use floatpath_pieces::piece::form_word;
 use floatpath_pieces::piece::piece_on;
 use floatpath_pieces::piece::point_of;
 use tracing_walks::step::step;
@@ -8,15 +8,15 @@ ghost use Prim.Native.Nat.{_+_, _*_, _<_};
 ghost use mathlib.Core.Path.{_≡_};
 ghost use lib.ListN.{length};
 ghost use Rattle.table.specs.Output.{front};
-ghost use Rattle.floatpath_pieces.specs.Path.{kindsOf, floatsOf, text, pathFrom};
+ghost use Rattle.floatpath_pieces.specs.Path.{formsOf, floatsOf, text, pathFrom};
 ghost use Rattle.floatpath.specs.laws.Laying.{PieceWritten, PathRoom, Laid};
 
 // Piece n of a path.
-fn write_piece(kinds: &mut [u16], coords: &mut [f32], n: usize, p: Piece)
-    requires { ⌜ (n < length (now kinds)) × (3 * n + 2 < length (now coords)) ⌝ }
-    ensures { λ _. ⌜ PieceWritten n p (now (kinds .entry)) (now (coords .entry)) (now (kinds .exit)) (now (coords .exit)) ⌝ }
+fn write_piece(forms: &mut [u16], coords: &mut [f32], n: usize, p: Piece)
+    requires { ⌜ (n < length (now forms)) × (3 * n + 2 < length (now coords)) ⌝ }
+    ensures { λ _. ⌜ PieceWritten n p (now (forms .entry)) (now (coords .entry)) (now (forms .exit)) (now (coords .exit)) ⌝ }
 {
-    kinds[n] = kind_word(p);
+    forms[n] = form_word(p);
     let q = point_of(p);
     coords[3 * n] = q.x;
     coords[3 * n + 1] = q.y;
@@ -28,18 +28,18 @@ fn write_pieces(
     t: &[u16],
     points: &[i32],
     lifts: &[i32],
-    kinds: &mut [u16],
+    forms: &mut [u16],
     coords: &mut [f32],
     s: u16,
 ) -> usize
-    requires { ⌜ PathRoom (now t) (now points) (now lifts) s (length (now kinds)) (length (now coords)) ⌝ }
-    ensures { λ r. ⌜ Laid (now (t .entry)) (now (points .entry)) (now (lifts .entry)) s (now (kinds .entry)) (now (coords .entry)) r (now (kinds .exit)) (now (coords .exit)) ⌝ }
+    requires { ⌜ PathRoom (now t) (now points) (now lifts) s (length (now forms)) (length (now coords)) ⌝ }
+    ensures { λ r. ⌜ Laid (now (t .entry)) (now (points .entry)) (now (lifts .entry)) s (now (forms .entry)) (now (coords .entry)) r (now (forms .exit)) (now (coords .exit)) ⌝ }
 {
     let mut at = s;
     let mut n: usize = 0;
     loop {
         let p = piece_on(t, points, lifts, at);
-        write_piece(kinds, coords, n, p);
+        write_piece(forms, coords, n, p);
         n += 1;
         at = step(t, at);
         if at == s {
@@ -53,14 +53,14 @@ pub fn write_path(
     t: &[u16],
     points: &[i32],
     lifts: &[i32],
-    kinds: &mut [u16],
+    forms: &mut [u16],
     coords: &mut [f32],
     s: u16,
 )
-    requires { ⌜ PathRoom (now t) (now points) (now lifts) s (length (now kinds)) (length (now coords)) ⌝ }
-    ensures { λ _. ⌜ (now (kinds .exit) ≡ front (text kindsOf (pathFrom (now (t .entry)) (now (points .entry)) (now (lifts .entry)) s)) (now (kinds .entry)))
+    requires { ⌜ PathRoom (now t) (now points) (now lifts) s (length (now forms)) (length (now coords)) ⌝ }
+    ensures { λ _. ⌜ (now (forms .exit) ≡ front (text formsOf (pathFrom (now (t .entry)) (now (points .entry)) (now (lifts .entry)) s)) (now (forms .entry)))
         × (now (coords .exit) ≡ front (text floatsOf (pathFrom (now (t .entry)) (now (points .entry)) (now (lifts .entry)) s)) (now (coords .entry))) ⌝ }
 {
-    let n = write_pieces(t, points, lifts, kinds, coords, s);
-    write_piece(kinds, coords, n, Piece::Close);
+    let n = write_pieces(t, points, lifts, forms, coords, s);
+    write_piece(forms, coords, n, Piece::Close);
 }

@@ -4,8 +4,8 @@
 --     thirtySeconds                              a coordinate times 32
 --     letterOf, firstOf                          the letter of a step with one turn, 0 without turns
 --     sixteenths, firstEnd, secondEnd, liftAt    a lent word; where a step's two ends and its lift begin
---     kindOf, pointOf, positiveZero              the word of a piece; its point; the zero of Close
---     kindsOf, floatsOf, text                    what is written for a piece; for all pieces
+--     formOf, pointOf, positiveZero              the word of a piece; its point; the zero of Close
+--     formsOf, floatsOf, text                    what is written for a piece; for all pieces
 --     manyTurns, farStep, farThree, past         8, more than one turn; 9, out of range: of a step, of three words, of one
 --     pointWords, liftWords                      the sizes of the lent slices
 --     farthestPoint, farthestLift                how far a point and a lift may be
@@ -85,11 +85,11 @@ unfoldable pub pathFrom : List ℕ → List ℤ → List ℤ → ℕ → List Pi
 pathFrom t points lifts s = map (pieceOn t points lifts) (walk (rotation t) s) ++ (Close ∷ [])
 
 -- "a word per piece (0 Flat, 1 Over, 2 Under, 3 Close)"
-abbrev pub kindOf : Piece → ℕ
-kindOf (Flat p) = 0
-kindOf (Over p) = 1
-kindOf (Under p) = 2
-kindOf Close = 3
+abbrev pub formOf : Piece → ℕ
+formOf (Flat p) = 0
+formOf (Over p) = 1
+formOf (Under p) = 2
+formOf Close = 3
 
 -- "zero is positive zero"
 abbrev pub positiveZero : Float
@@ -105,8 +105,8 @@ pointOf Close = record { x = positiveZero; y = positiveZero; z = positiveZero }
 abbrev pub floatsOf : Piece → List Float
 floatsOf p = let q = pointOf p in q .x ∷ q .y ∷ q .z ∷ []
 
-abbrev pub kindsOf : Piece → List ℕ
-kindsOf p = kindOf p ∷ []
+abbrev pub formsOf : Piece → List ℕ
+formsOf p = formOf p ∷ []
 
 -- what is written for each piece, one after the other
 unfoldable pub text : {A : Type 0} → (Piece → List A) → List Piece → List A

@@ -1,4 +1,4 @@
-// The piece of a float path that one step gives, its places and its kind.
+// The piece of a float path that one step gives, its places and its form.
 pub mod exact;
 pub mod piece;
 pub mod place;

@@ -1,16 +1,16 @@
 // The pieces of a float path: how a strand passes at a step, and where.
 use crate::exact::over_32;
 use crate::place::places_of;
+use table::layout::UNTURNED;
 use weave_letters::letter::OVER;
 use weave_letters::letter::UNDER;
-use weave_letters::letter::UNTURNED;
 use weave_letters::letter::edge_word;
 use weave_letters::letter::letter;
 ghost use mathlib.Core.Path.{_≡_};
 ghost use mathlib.Core.Bool.{false};
 ghost use Rattle.tracing_walks.specs.laws.Stands.{Stands};
 ghost use Rattle.floatpath_pieces.specs.Exact.{over32};
-ghost use Rattle.floatpath_pieces.specs.Path.{thirtySeconds, pointAt, letterOf, pieceFor, pieceOn, kindOf, pointOf, farStep};
+ghost use Rattle.floatpath_pieces.specs.Path.{thirtySeconds, pointAt, letterOf, pieceFor, pieceOn, formOf, pointOf, farStep};
 ghost use Rattle.floatpath_pieces.specs.laws.Places.{Lent};
 ghost use Rattle.floatpath_pieces.specs.laws.Coordinate.{NearEnds, Readable};
 
@@ -91,8 +91,8 @@ pub fn piece_on(t: &[u16], points: &[i32], lifts: &[i32], s: u16) -> Piece
 }
 
 // The word of a piece.
-pub fn kind_word(p: Piece) -> u16
-    ensures { λ r. ⌜ r ≡ kindOf p ⌝ }
+pub fn form_word(p: Piece) -> u16
+    ensures { λ r. ⌜ r ≡ formOf p ⌝ }
 {
     match p {
         Piece::Flat(_) => 0,

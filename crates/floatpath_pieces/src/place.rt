@@ -1,8 +1,13 @@
-// Where the lent words of a step begin.
+// Where the lent words of a step begin, and how far they may lie.
 use table::layout::LEAVES;
 ghost use mathlib.Core.Path.{_≡_};
 ghost use Rattle.tracing_walks.specs.laws.Stands.{Stands};
 ghost use Rattle.floatpath_pieces.specs.laws.Places.{placesOf};
+
+// How far points and lifts may lie from zero, in sixteenths of a millimetre.
+pub const FARTHEST_POINT: u32 = 65536;
+
+pub const FARTHEST_LIFT: u32 = 4096;
 
 // Three words each: the points of the two ends of the step's edge, and the lift of the edge.
 pub struct Places {

@@ -13,6 +13,7 @@ use edits_verdict::verdict::turn_verdict;
 use forecasts::forecast::Asked;
 use forecasts::forecast::Forecast;
 use table::layout::EDGE;
+use table::layout::UNTURNED;
 ghost use mathlib.Core.Path.{_≡_};
 ghost use Rattle.edits.specs.declared.edit.Edit.the-variants.{InsertEdge, DeleteEdge, TurnEdge};
 ghost use Rattle.forecasts.specs.Forecast.{ask};
@@ -44,7 +45,7 @@ pub fn ask_insert_edge(t: &[u16], e: u16, c1: u16, c2: u16, k: i16, length: u16)
     match insert_verdict(t, e, c1, c2, k, length) {
         Verdict::Declines(r) => Asked::Refused(r),
         Verdict::Passes => {
-            let w = turned_word(100, k);
+            let w = turned_word(UNTURNED, k);
             let ruling = insert_rule(t, c1, c2, w);
             let before = ruling.faces;
             foretell(before, by_rule(ruling))

@@ -11,6 +11,7 @@ use forecasts_ask::ask::ask_insert_edge;
 use forecasts_ask::ask::ask_turn_edge;
 use forecasts_number::compare::commit_verdict;
 use table::layout::EDGE;
+use table::layout::UNTURNED;
 ghost use mathlib.Core.Path.{_≡_};
 ghost use Rattle.edits.specs.declared.edit.Edit.the-variants.{InsertEdge, DeleteEdge, TurnEdge};
 ghost use Rattle.forecasts.specs.Forecast.{commitReply, committed};
@@ -48,7 +49,7 @@ pub fn commit_insert_edge(
     match commit_verdict(forecast, ask_insert_edge(t, e, c1, c2, k, length)) {
         Verdict::Declines(r) => Reply::Refused(r),
         Verdict::Passes => {
-            let w = turned_word(100, k);
+            let w = turned_word(UNTURNED, k);
             insert(t, e as usize, c1 as usize, c2 as usize, w, length);
             told(forecast)
         }

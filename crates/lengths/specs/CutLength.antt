@@ -18,9 +18,9 @@ abbrev pub lengthOf : List ℕ → ℕ → ℕ
 lengthOf t s = lengthWord t (edgeOf (s / 2))
 
 -- "the sum of edge lengths", one for each of these steps: document 01's cut length, which the saw's rule adds to
-unfoldable pub cutLength : List ℕ → List ℕ → ℕ
-cutLength t [] = 0
-cutLength t (s ∷ l) = lengthOf t s + cutLength t l
+unfoldable pub stripLength : List ℕ → List ℕ → ℕ
+stripLength t [] = 0
+stripLength t (s ∷ l) = lengthOf t s + stripLength t l
 
 -- "8 sixteenths for each O": what these letters take up
 abbrev pub overAllowance : List ℕ → ℕ
@@ -35,11 +35,11 @@ abbrev pub lap : ℕ
 lap = 320
 
 -- "cut length is the sum of edge lengths, plus 8 sixteenths for each O on the ribbon, plus 320 for the lap": of the ribbon through step s
-unfoldable pub sawLength : List ℕ → ℕ → ℕ
-sawLength t s = cutLength t (walk (rotation t) s) + overAllowance (letters t s) + lap
+unfoldable pub cutLength : List ℕ → ℕ → ℕ
+cutLength t s = stripLength t (walk (rotation t) s) + overAllowance (letters t s) + lap
 
 abbrev pub cutLengthBy : List ℕ → Named → Answer
-cutLengthBy t (There s) = Done (sawLength t s)
+cutLengthBy t (There s) = Done (cutLength t s)
 cutLengthBy t (Refused r) = Declined r
 
 -- "Cut length of a ribbon, named by any step on it"

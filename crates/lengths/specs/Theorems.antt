@@ -13,29 +13,29 @@ use Rattle.tracing.specs.Walk.{walk}
 use Rattle.tracing.specs.Listing.{has, loneCorner}
 use Rattle.weave.specs.declared.named.Named.the-variants.{There}
 use Rattle.weave.specs.Calls.{namedStep}
-use Rattle.lengths.specs.CutLength.{sawLength, cutLengthOf}
+use Rattle.lengths.specs.CutLength.{cutLength, cutLengthOf}
 use Rattle.lengths.specs.laws.Sense as sense
 
 -- the cut length does not depend on the step that names the ribbon
-pub saw-named : (t : List ℕ) (g : Good t) (s x : ℕ) → s < steps → has x (walk (rotation t) s) ≡ true → sawLength t s ≡ sawLength t x
-saw-named = sense.saw-named
-
--- nor on the sense in which its face is traced: over stays over when it is travelled back
-pub saw-mirror : (t : List ℕ) (g : Good t) (s : ℕ) → s < steps → sawLength t s ≡ sawLength t (mirror (rotation t) s)
-saw-mirror = sense.saw-mirror
-
--- nor does the call's answer: of two names of one ribbon, and of two names of its face, one in each sense
-pub cut-named : (t : List ℕ) (d k d′ k′ : ℕ) {s x : ℕ} → namedStep t d k ≡ There s → namedStep t d′ k′ ≡ There x
-    → has x (walk (rotation t) s) ≡ true → cutLengthOf t d k ≡ cutLengthOf t d′ k′
+pub cut-named : (t : List ℕ) (g : Good t) (s x : ℕ) → s < steps → has x (walk (rotation t) s) ≡ true → cutLength t s ≡ cutLength t x
 cut-named = sense.cut-named
 
-pub cut-mirror : (t : List ℕ) (d k d′ k′ : ℕ) {s x : ℕ} → namedStep t d k ≡ There s → namedStep t d′ k′ ≡ There x
-    → x ≡ mirror (rotation t) s → cutLengthOf t d k ≡ cutLengthOf t d′ k′
+-- nor on the sense in which its face is traced: over stays over when it is travelled back
+pub cut-mirror : (t : List ℕ) (g : Good t) (s : ℕ) → s < steps → cutLength t s ≡ cutLength t (mirror (rotation t) s)
 cut-mirror = sense.cut-mirror
 
+-- nor does the call's answer: of two names of one ribbon, and of two names of its face, one in each sense
+pub answer-named : (t : List ℕ) (d k d′ k′ : ℕ) {s x : ℕ} → namedStep t d k ≡ There s → namedStep t d′ k′ ≡ There x
+    → has x (walk (rotation t) s) ≡ true → cutLengthOf t d k ≡ cutLengthOf t d′ k′
+answer-named = sense.answer-named
+
+pub answer-mirror : (t : List ℕ) (d k d′ k′ : ℕ) {s x : ℕ} → namedStep t d k ≡ There s → namedStep t d′ k′ ≡ There x
+    → x ≡ mirror (rotation t) s → cutLengthOf t d k ≡ cutLengthOf t d′ k′
+answer-mirror = sense.answer-mirror
+
 -- "any cut length" fits 32 bits: it is at most 135,838,016
-pub saw-most : (t : List ℕ) (g : Good t) (s : ℕ) → live? t (s / 2) ≡ true → sawLength t s ≤ 135838016
-saw-most = sense.saw-most
+pub cut-most : (t : List ℕ) (g : Good t) (s : ℕ) → live? t (s / 2) ≡ true → cutLength t s ≤ 135838016
+cut-most = sense.cut-most
 
 -- "An isolated vertex still yields no ribbon": a dart that has a cut length does not leave one, and is not the corner of one
 pub lone-none : (t : List ℕ) (d k n : ℕ) → cutLengthOf t d k ≡ Done n → (v : ℕ) → alone? t v ≡ true → (leaves t d ≢ v) × (d ≢ loneCorner v)

@@ -3,12 +3,12 @@ use table::answer::Answer;
 use table::layout::LENGTH;
 use tracing_walks::step::step;
 use weave::named::Named;
-use weave_letters::call::named_step;
 use weave_letters::letter::edge_word;
 use weave_letters::letter::overs;
+use weave_letters::named::named_step;
 ghost use mathlib.Core.Path.{_≡_};
 ghost use Rattle.tracing_walks.specs.laws.Stands.{Stands};
-ghost use Rattle.lengths.specs.CutLength.{lengthOf, sawLength, cutLengthOf};
+ghost use Rattle.lengths.specs.CutLength.{lengthOf, cutLength, cutLengthOf};
 
 // What a strand that rides over takes up, and the lap that closes a ribbon, in sixteenths of a millimetre.
 pub const OVER_ALLOWANCE: u32 = 8;
@@ -26,7 +26,7 @@ pub fn edge_length(t: &[u16], s: u16) -> u16
 // The cut length of the ribbon through step s.
 fn length_along(t: &[u16], s: u16) -> u32
     requires { ⌜ Stands (now t) s ⌝ }
-    ensures { λ r. ⌜ r ≡ sawLength (now (t .entry)) s ⌝ }
+    ensures { λ r. ⌜ r ≡ cutLength (now (t .entry)) s ⌝ }
 {
     let mut at = s;
     let mut sum: u32 = 0;

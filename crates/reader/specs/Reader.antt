@@ -3,7 +3,7 @@
 --     placed, isStep               where the reader stands, or its refusal; is it a dart and a type
 --     stepOf, stepBy, steppedBy    what a step leaves; once its place is known; once its tally is known
 --     tallyAt                      the tally with this step more
---     goesOn, stays                the reader goes on to the next step; it does not move
+--     movedTo, stays               the reader goes on to the next step; it does not move
 --     endsAt                       does the walk end there
 --     wordAt, stepAt               the step word 2d+t of a step; the step of a step word
 --     EachStep                     what holds of every step, wherever the reader stands
@@ -68,8 +68,8 @@ abbrev pub endsAt : ℕ → Step → Bool
 endsAt next first = eqb next (wordAt first)
 
 -- the reader goes on to step `next`. "With each step it says whether the walk ends there": 1 if it does, else 0
-abbrev pub goesOn : ℕ → Step → Tally → Stepped
-goesOn next first z = record {
+abbrev pub movedTo : ℕ → Step → Tally → Stepped
+movedTo next first z = record {
   answer = Done (bit (endsAt next first));
   at = stepAt next;
   tally = z;
@@ -77,7 +77,7 @@ goesOn next first z = record {
 
 -- the step s, once its tally is known
 abbrev pub steppedBy : List ℕ → Step → Step → Tally → ℕ → Tallied → Stepped
-steppedBy t at first y s (Brought z) = goesOn (step (rotation t) s) first z
+steppedBy t at first y s (Brought z) = movedTo (step (rotation t) s) first z
 steppedBy t at first y s (Kept r) = stays at y r
 
 -- the tally with step s more, which is "the walk's last step" if the walk ends there

@@ -21,9 +21,9 @@ abbrev pub standsAt : Step → Standing → Standing
 standsAt s r = record { dart = s .dart; kind = s .kind; «start_dart» = r .«start_dart»; «start_kind» = r .«start_kind» }
 
 -- what a step q of the reader r leaves, with the answer as C gets it
-abbrev pub called : Standing → Stepped → Called
-called r q = record { code = codeOf (q .answer); reader = standsAt (q .at) r; tally = q .tally }
+abbrev pub calledBy : Standing → Stepped → Called
+calledBy r q = record { code = codeOf (q .answer); reader = standsAt (q .at) r; tally = q .tally }
 
 -- one call; "after a declined step the reader has not moved" (`stays`)
 abbrev pub calledOf : List ℕ → Standing → Tally → Called
-calledOf t r y = called r (stepOf t (atOf r) (startOf r) y)
+calledOf t r y = calledBy r (stepOf t (atOf r) (startOf r) y)

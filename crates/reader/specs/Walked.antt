@@ -10,7 +10,7 @@ use Rattle.table.specs.declared.answer.Answer.the-variants.{Done}
 use Rattle.tracing.specs.Walk.{walk}
 use Rattle.tracing.specs.Listing.{bit}
 use Rattle.weave.specs.Letters.{over, under, letters}
-use Rattle.lengths.specs.CutLength.{sawLength}
+use Rattle.lengths.specs.CutLength.{cutLength}
 use Rattle.reader.specs.declared.place.Step.{Step}
 use Rattle.reader_tally.specs.declared.tally.Tally.{Tally}
 use Rattle.reader.specs.declared.walk.Stepped.{Stepped}
@@ -41,7 +41,7 @@ ribbonTally t s = record {
   steps = length (walk (rotation t) s);
   overs = times over (letters t s);
   unders = times under (letters t s);
-  length = sawLength t s;
+  length = cutLength t s;
 }
 
 -- a reader made at `first`, over one walk

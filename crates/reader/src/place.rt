@@ -5,7 +5,7 @@ use table::answer::Refusal;
 use table::layout::DARTS;
 use table::layout::EDGE;
 use weave::named::Named;
-use weave_letters::call::named_step;
+use weave_letters::named::named_step;
 ghost use mathlib.Core.Path.{_≡_};
 ghost use Rattle.reader.specs.Reader.{beginOf, placed as placedAt};
 

@@ -11,7 +11,7 @@ use weave::named::Named;
 ghost use mathlib.Core.Path.{_≡_};
 ghost use Prim.Native.Nat.{_<_};
 ghost use Rattle.table.specs.Layout.{darts};
-ghost use Rattle.reader.specs.Reader.{endsAt, goesOn as movedTo, stays as staysAt, stepOf};
+ghost use Rattle.reader.specs.Reader.{endsAt, movedTo, stays as staysAt, stepOf};
 
 // The step handed out is the one that the reader stood at, and the answer is 1 where the walk ends there, else 0. `at` is where
 // the reader then stands. A declined step leaves it and the tally as they were.

@@ -9,9 +9,8 @@ ghost use lib.Seq.{sets};
 ghost use Rattle.runs.specs.Run.{run};
 ghost use Rattle.records.specs.Reading.{reading};
 ghost use Rattle.records.specs.Lines.{lines};
-ghost use Rattle.records.specs.Blocks.{left};
+ghost use Rattle.records.specs.Blocks.{left, blockOf};
 ghost use Rattle.records.specs.laws.Running.{Ready};
-ghost use Rattle.records.specs.laws.Moving.{blockOf};
 
 // What became of a block.
 pub struct Block {
@@ -47,22 +46,22 @@ pub fn run_block(t: &mut [u16], buf: &mut [u8], n: usize, number: u64, out: &mut
         × (now (buf .exit) ≡ sets (now (buf .entry)) 0 (left (take n (now (buf .entry)))))
         × (now (out .exit) ≡ sets (now (out .entry)) 0 (lines (now (t .entry)) number (reading (take n (now (buf .entry))) .edits))) ⌝ }
 {
-    let ran = run_records(t, &buf[..n], number, out);
-    let taken = ran.taken;
-    let stop = ran.stop;
+    let ranOf = run_records(t, &buf[..n], number, out);
+    let taken = ranOf.taken;
+    let stop = ranOf.stop;
     if !reads_on(stop) {
         return Block {
             left: 0,
-            next: ran.next,
-            written: ran.written,
+            next: ranOf.next,
+            written: ranOf.written,
             stop,
         };
     }
     move_front(buf, taken, n);
     Block {
         left: n - taken,
-        next: ran.next,
-        written: ran.written,
+        next: ranOf.next,
+        written: ranOf.written,
         stop,
     }
 }

@@ -99,17 +99,26 @@ pub fn mark_of(w: u16) -> Marked
     Marked::Unknown
 }
 
-// The number of bytes of a record, its mark included.
+// The number of bytes of a record, its mark included: with a name alone, of a turn, of an insertion without its length and with it.
+pub const NAME_BYTES: usize = 4;
+
+pub const TURN_BYTES: usize = 6;
+
+pub const PLAIN_BYTES: usize = 10;
+
+pub const LONG_BYTES: usize = 12;
+
+// The number of bytes of a record by its mark.
 fn size_of(m: Mark) -> usize
     ensures { λ r. ⌜ r ≡ sizeOf m ⌝ }
 {
     match m {
-        Mark::AV => 4,
-        Mark::RV => 4,
-        Mark::IE => 10,
-        Mark::IL => 12,
-        Mark::DE => 4,
-        Mark::TW => 6,
+        Mark::AV => NAME_BYTES,
+        Mark::RV => NAME_BYTES,
+        Mark::IE => PLAIN_BYTES,
+        Mark::IL => LONG_BYTES,
+        Mark::DE => NAME_BYTES,
+        Mark::TW => TURN_BYTES,
     }
 }
 

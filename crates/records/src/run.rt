@@ -14,7 +14,8 @@ ghost use Rattle.edits.specs.Edits.{edited};
 ghost use Rattle.runs.specs.Run.{run};
 ghost use Rattle.records.specs.Reading.{reading};
 ghost use Rattle.records.specs.Lines.{editLine, lines};
-ghost use Rattle.records.specs.laws.Running.{Ready, ran};
+ghost use Rattle.records.specs.Blocks.{ranOf};
+ghost use Rattle.records.specs.laws.Running.{Ready};
 ghost use Rattle.text.specs.Paste.{Pasted};
 
 // What became of some bytes.
@@ -44,7 +45,7 @@ fn run_record(t: &mut [u16], edit: Edit, n: u64, out: &mut [u8], at: usize) -> u
 // Runs the whole records of some bytes, the first of which is record `number`, and writes the lines of those that are declined to the front of `out`.
 pub fn run_records(t: &mut [u16], bytes: &[u8], number: u64, out: &mut [u8]) -> Ran
     requires { ⌜ Ready number (now bytes) (now out) ⌝ }
-    ensures { λ r. ⌜ (r ≡ ran (now (t .entry)) number (now (bytes .entry)))
+    ensures { λ r. ⌜ (r ≡ ranOf (now (t .entry)) number (now (bytes .entry)))
         × (now (t .exit) ≡ run (now (t .entry)) (reading (now (bytes .entry)) .edits))
         × (now (out .exit) ≡ sets (now (out .entry)) 0 (lines (now (t .entry)) number (reading (now (bytes .entry)) .edits))) ⌝ }
 {

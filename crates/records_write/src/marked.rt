@@ -3,12 +3,16 @@ use crate::record::write_ends;
 use crate::record::write_long;
 use crate::record::write_turn;
 use crate::record::write_words;
+use records::records::LONG_BYTES;
 use records::records::MARK_AV;
 use records::records::MARK_DE;
 use records::records::MARK_IE;
 use records::records::MARK_RV;
 use records::records::Mark;
 use records::records::Marked;
+use records::records::NAME_BYTES;
+use records::records::PLAIN_BYTES;
+use records::records::TURN_BYTES;
 use records::records::mark_of;
 use table::answer::Answer;
 use table::answer::Refusal;
@@ -25,11 +29,11 @@ fn encode_name(mark: u16, name: u16, out: &mut [u8]) -> Answer
     ensures { λ r. ⌜ (r ≡ recordAnswer (bytesOf mark ++ bytesOf name) (length (now (out .entry))))
         × (now (out .exit) ≡ recordOut (bytesOf mark ++ bytesOf name) (now (out .entry))) ⌝ }
 {
-    if out.len() < 4 {
+    if out.len() < NAME_BYTES {
         return Answer::Declined(Refusal::ShortSlice);
     }
     write_words(out, 0, mark, name);
-    Answer::Done(4)
+    Answer::Done(NAME_BYTES as u32)
 }
 
 // That of a turn.
@@ -37,11 +41,11 @@ fn encode_turn(edge: u16, amount: i16, out: &mut [u8]) -> Answer
     ensures { λ r. ⌜ (r ≡ recordAnswer (recordBy TW edge 0 0 amount 0) (length (now (out .entry))))
         × (now (out .exit) ≡ recordOut (recordBy TW edge 0 0 amount 0) (now (out .entry))) ⌝ }
 {
-    if out.len() < 6 {
+    if out.len() < TURN_BYTES {
         return Answer::Declined(Refusal::ShortSlice);
     }
     write_turn(out, 0, edge, amount);
-    Answer::Done(6)
+    Answer::Done(TURN_BYTES as u32)
 }
 
 // That of an insertion, without its length.
@@ -49,11 +53,11 @@ fn encode_plain(edge: u16, first: u16, second: u16, turns: i16, out: &mut [u8]) 
     ensures { λ r. ⌜ (r ≡ recordAnswer (recordBy IE edge first second turns 0) (length (now (out .entry))))
         × (now (out .exit) ≡ recordOut (recordBy IE edge first second turns 0) (now (out .entry))) ⌝ }
 {
-    if out.len() < 10 {
+    if out.len() < PLAIN_BYTES {
         return Answer::Declined(Refusal::ShortSlice);
     }
     write_ends(out, 0, MARK_IE, edge, first, second, turns);
-    Answer::Done(10)
+    Answer::Done(PLAIN_BYTES as u32)
 }
 
 // That of an insertion with its length.
@@ -61,11 +65,11 @@ fn encode_long(edge: u16, first: u16, second: u16, turns: i16, strip: u16, out: 
     ensures { λ r. ⌜ (r ≡ recordAnswer (recordBy IL edge first second turns strip) (length (now (out .entry))))
         × (now (out .exit) ≡ recordOut (recordBy IL edge first second turns strip) (now (out .entry))) ⌝ }
 {
-    if out.len() < 12 {
+    if out.len() < LONG_BYTES {
         return Answer::Declined(Refusal::ShortSlice);
     }
     write_long(out, 0, edge, first, second, turns, strip);
-    Answer::Done(12)
+    Answer::Done(LONG_BYTES as u32)
 }
 
 // Writes the record of a mark that there is to the front of `out`, and answers its number of bytes.

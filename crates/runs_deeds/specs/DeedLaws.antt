@@ -18,7 +18,7 @@ use Rattle.forecasts.specs.declared.forecast.Asked.the-variants.{Foretold}
 use Rattle.forecasts.specs.Forecast.{ask, commitVerdict}
 use Rattle.runs.specs.Run.{run, faceNumber}
 use Rattle.runs.specs.RunLaws.{RunLaws}
-use Rattle.runs_deeds.specs.Deeds.{Deed, commit, done, answers, editIn, ran, dueIn, counted}
+use Rattle.runs_deeds.specs.Deeds.{Deed, commit, done, deedReply, editIn, ran, dueIn, counted}
 
 module _ (t : List ℕ) (Ds : List Deed) where
   pub record DeedLaws : Type 0 where
@@ -29,11 +29,11 @@ module _ (t : List ℕ) (Ds : List Deed) where
     pub count : faceNumber (ran t Ds) ≡ faceNumber t +ℤ dueIn t Ds
     -- "and every accepted edit answered it", and the rule that its places just before call for: a commit too, wherever in the run it stands
     pub answered : (front : List Deed) (D : Deed) (back : List Deed) → Ds ≡ front ++ D ∷ back
-        → (n : ℕ) (m : Option Rule) → answers (ran t front) D ≡ withRule (Done n) m
+        → (n : ℕ) (m : Option Rule) → deedReply (ran t front) D ≡ withRule (Done n) m
         → (pos n ≡ faceNumber t +ℤ dueIn t (front ++ (D ∷ []))) × (m ≡ ruleOf (ran t front) (editIn D))
     -- "does the edit exactly if the table as it now is would give the same three"
     pub exactly : (front : List Deed) (E : Edit) (f : Forecast) (back : List Deed) → Ds ≡ front ++ commit E f ∷ back
         → (commitVerdict (ran t front) E f ≡ Passes) ↔ (ask (ran t front) E ≡ Foretold f)
     -- what is turned away, by the edit's own number or as stale, has changed nothing
     pub turned-away : (front : List Deed) (D : Deed) (back : List Deed) → Ds ≡ front ++ D ∷ back
-        → (r : Refusal) → answers (ran t front) D ≡ Refused r → done (ran t front) D ≡ ran t front
+        → (r : Refusal) → deedReply (ran t front) D ≡ Refused r → done (ran t front) D ≡ ran t front

@@ -1,6 +1,6 @@
 -- Runs that hold commits beside plain edits, document 02, request b: any list of them, with any forecasts, over one table.
 --     Deed                           a plain edit, or a commit with its three answers
---     done, answers, editIn          the table that a deed leaves; its answer; its edit
+--     done, deedReply, editIn        the table that a deed leaves; its answer; its edit
 --     ran                            the table after the run
 --     due, dueIn                     what the rules call for, of a deed; in the whole run
 --     countsAs, countsBy, counted    the plain edits that a deed counts as; and the run
@@ -27,9 +27,9 @@ abbrev pub done : List ℕ → Deed → List ℕ
 done t (plain E) = edited t E
 done t (commit E f) = committed t E f
 
-abbrev pub answers : List ℕ → Deed → Reply
-answers t (plain E) = reply t E
-answers t (commit E f) = commitReply t E f
+abbrev pub deedReply : List ℕ → Deed → Reply
+deedReply t (plain E) = reply t E
+deedReply t (commit E f) = commitReply t E f
 
 abbrev pub editIn : Deed → Edit
 editIn (plain E) = E

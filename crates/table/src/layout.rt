@@ -23,7 +23,11 @@ pub const NOTHING: u16 = 65535;
 
 pub const ISOLATED: u16 = 65534;
 
-// The largest edge word: 99 turns, plus 100.
+// The word of an edge without turns, and the largest edge word: its turns plus 100, of which there are at most 99 either way.
+pub const UNTURNED: u16 = 100;
+
+pub const MOST_TURNS: u16 = 99;
+
 pub const EDGE_WORD_MAX: u16 = 199;
 
 // Where the corner words of isolated vertices begin.

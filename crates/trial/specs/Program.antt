@@ -44,11 +44,11 @@ unfoldable pub outcome : ℕ → List ℕ → List ℕ → Outcome
 outcome count first second = cond (eqb count arguments) (withStart (numberIn first startMost) (numberIn second edges)) Usage
 
 -- the job's bytes, and nothing where an argument is bad
-abbrev pub output : Outcome → List ℕ
-output Usage = []
-output BadStart = []
-output BadEdges = []
-output (Job start n) = trialBytes start n
+abbrev pub outputOf : Outcome → List ℕ
+outputOf Usage = []
+outputOf BadStart = []
+outputOf BadEdges = []
+outputOf (Job start n) = trialBytes start n
 
 -- " is not a number from 0 to "
 abbrev pub not-a-number : List ℕ

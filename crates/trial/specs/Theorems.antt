@@ -7,7 +7,7 @@ use Rattle.table.specs.Layout.{edges}
 use Rattle.text.specs.Decimal.{decimal}
 use Rattle.trial.specs.declared.Outcome.{Outcome}
 use Rattle.trial.specs.declared.Outcome.the-variants.{Job}
-use Rattle.trial.specs.Program.{startMost, arguments, outcome, output, message}
+use Rattle.trial.specs.Program.{startMost, arguments, outcome, outputOf, message}
 use Rattle.trial.specs.laws.Program as program
 
 -- the decimal texts of a 32-bit number and of one up to 1,024 ask for their job
@@ -15,5 +15,5 @@ pub decimals-job : (start n : ℕ) → start ≤ startMost → n ≤ edges → o
 decimals-job = program.decimals-job
 
 -- either nothing goes to standard output, or nothing to standard error
-pub one-empty : (o : Outcome) → (output o ≡ []) ⊎ (message o ≡ [])
+pub one-empty : (o : Outcome) → (outputOf o ≡ []) ⊎ (message o ≡ [])
 one-empty = program.one-empty

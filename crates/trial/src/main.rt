@@ -15,7 +15,7 @@ ghost use mathlib.Core.Path.{_≡_};
 ghost use lib.ListN.{length};
 ghost use Rattle.table.specs.Layout.{edges as edgesMost};
 ghost use Rattle.trial_jobs.specs.Trial.{trialSize, trialBytes};
-ghost use Rattle.trial.specs.Program.{outcome, output, message, Laid, Few};
+ghost use Rattle.trial.specs.Program.{outcome, outputOf, message, Laid, Few};
 
 // What the arguments ask for.
 enum Outcome {
@@ -79,7 +79,7 @@ fn write_job(start: u32, edges: u32, out: &mut [u8]) -> usize
 // Writes what goes to standard output to the front of `out`. The number of bytes.
 fn write_output(asked: Outcome, out: &mut [u8]) -> usize
     requires { ⌜ Few asked × (trialSize edgesMost ≤ length (now out)) ⌝ }
-    ensures { λ r. ⌜ Laid (output asked) (now (out .entry)) r (now (out .exit)) ⌝ }
+    ensures { λ r. ⌜ Laid (outputOf asked) (now (out .entry)) r (now (out .exit)) ⌝ }
 {
     match asked {
         Outcome::Usage => 0,
@@ -110,7 +110,7 @@ fn write_message(asked: Outcome, line: &mut [u8]) -> usize
 // Makes what the arguments ask for: the job at the front of `out`, or a line at the front of `line`.
 fn make(count: usize, first: &[u8], second: &[u8], out: &mut [u8], line: &mut [u8]) -> Made
     requires { ⌜ (trialSize edgesMost ≤ length (now out)) × (64 ≤ length (now line)) ⌝ }
-    ensures { λ r. ⌜ Laid (output (outcome count (now (first .entry)) (now (second .entry)))) (now (out .entry)) (r .output) (now (out .exit))
+    ensures { λ r. ⌜ Laid (outputOf (outcome count (now (first .entry)) (now (second .entry)))) (now (out .entry)) (r .output) (now (out .exit))
         × Laid (message (outcome count (now (first .entry)) (now (second .entry)))) (now (line .entry)) (r .message) (now (line .exit)) ⌝ }
 {
     let asked = read_arguments(count, first, second);
@@ -143,7 +143,7 @@ fn hand_over(message: &[u8], output: &[u8]) -> Printed
 
 // Runs the program on its arguments.
 fn run(count: usize, first: &[u8], second: &[u8]) -> Printed
-    ensures { λ r. ⌜ (r .output ≡ length (output (outcome count (now (first .entry)) (now (second .entry)))))
+    ensures { λ r. ⌜ (r .output ≡ length (outputOf (outcome count (now (first .entry)) (now (second .entry)))))
         × (r .message ≡ length (message (outcome count (now (first .entry)) (now (second .entry))))) ⌝ }
 {
     let mut out = io::large_buffer();

@@ -6,7 +6,7 @@
 --     letter, letterAt, crossed          the letter from a type; that of crossing j; those of n crossings
 --     wordOf                             the word of a step's edge
 --     lettersOn, stepLetters, letters    the letters of a step on an edge; of a step; of the ribbon through a step
---     alternating, alternates, apart     cyclic neighbours differ; the ribbon alternates; each differs from the one after it
+--     alternating, alternates, neighboursDiffer  cyclic neighbours differ; the ribbon alternates; each differs from the one after it
 --     plain, every                       all ribbons alternate; a test holds of each
 use Prim.Native.Nat.{ℕ, zero, suc, _+_, _-_, _*_, _/_, _%_}
 use mathlib.Core.Bool.{Bool, true, not, _&&_, cond}
@@ -68,14 +68,14 @@ unfoldable pub letters : List ℕ → ℕ → List ℕ
 letters t s = gather (stepLetters t) (walk (rotation t) s)
 
 -- x, then these letters, then the last one: each differs from the one after it
-unfoldable pub apart : ℕ → ℕ → List ℕ → Bool
-apart last x [] = not (eqb x last)
-apart last x (y ∷ l) = not (eqb x y) && apart last y l
+unfoldable pub neighboursDiffer : ℕ → ℕ → List ℕ → Bool
+neighboursDiffer last x [] = not (eqb x last)
+neighboursDiffer last x (y ∷ l) = not (eqb x y) && neighboursDiffer last y l
 
 -- "It alternates if cyclic neighbours among its letters differ; none counts as alternating."
 unfoldable pub alternating : List ℕ → Bool
 alternating [] = true
-alternating (x ∷ l) = apart x x l
+alternating (x ∷ l) = neighboursDiffer x x l
 
 unfoldable pub alternates : List ℕ → ℕ → Bool
 alternates t s = alternating (letters t s)

@@ -6,14 +6,12 @@ ghost use Rattle.tracing_walks.specs.laws.Stands.{Stands};
 ghost use Rattle.weave.specs.Letters.{over, crossings as crossingsOf, letterAt, lettersOn};
 ghost use Rattle.weave_letters.specs.laws.Crossing.{EdgeWord};
 use table::layout::EDGE;
+use table::layout::UNTURNED;
 
 // The letters, as they are written.
 pub const OVER: u8 = 79;
 
 pub const UNDER: u8 = 85;
-
-// The word of an edge without turns.
-pub const UNTURNED: u16 = 100;
 
 // The word of the edge that step s is on.
 pub fn edge_word(t: &[u16], s: u16) -> u16

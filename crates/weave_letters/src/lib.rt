@@ -1,4 +1,5 @@
-// The letters of one step, and of a whole ribbon.
+// The step that a call names; the letters of one step, and of a whole ribbon.
 pub mod call;
 pub mod letter;
+pub mod named;
 pub mod ribbon;

@@ -5,7 +5,7 @@ use check_table::whole::is_good;
 use table::answer::Answer;
 use table::answer::Refusal;
 use weave::named::Named;
-use weave_letters::call::named_step;
+use weave_letters::named::named_step;
 ghost use mathlib.Core.Path.{_≡_};
 ghost use Rattle.weave.specs.Calls.{alternatesOf, plainOf};
 

@@ -1,6 +1,6 @@
 // The hands of a ribbon's edges: a ribbon alternates exactly if they do not include both.
+use table::layout::UNTURNED;
 use tracing_walks::step::step;
-use weave_letters::letter::UNTURNED;
 use weave_letters::letter::edge_word;
 ghost use mathlib.Core.Path.{_≡_};
 ghost use Rattle.table.specs.Rotation.{rotation};

@@ -9,7 +9,7 @@ ghost use Rattle.weave.specs.Letters.{plain};
 ghost use Rattle.weave_plain.specs.laws.Plain.{Judged};
 
 // Does the ribbon that is listed from dart d on alternate, if there is one. Marks its corners.
-fn alternates_from(t: &[u16], met: &mut [u8; 2048], d: usize) -> bool
+fn alternates_from(t: &[u16], met: &mut [u8; DARTS], d: usize) -> bool
     requires { ⌜ LookReady (now t) (now met) d ⌝ }
     ensures { λ r. ⌜ Judged (now (t .entry)) d (now (met .entry)) r (now (met .exit)) ⌝ }
 {
@@ -26,7 +26,7 @@ pub fn is_plain(t: &[u16]) -> bool
     requires { ⌜ Good (now t) ⌝ }
     ensures { λ r. ⌜ r ≡ plain (now (t .entry)) ⌝ }
 {
-    let mut met = [0u8; 2048];
+    let mut met = [0u8; DARTS];
     let mut d: usize = 0;
     while d < DARTS {
         if !alternates_from(t, &mut met, d) {

@@ -17,7 +17,7 @@ use Rattle.weave.specs.Calls.{namedStep}
 use Rattle.weave.specs.Ribbon.{some}
 use Rattle.floatpath_pieces.specs.Path.{pointWords, liftWords, farStep}
 use Rattle.wholepath_pieces.specs.declared.piece.Piece.{Piece}
-use Rattle.wholepath_pieces.specs.Pieces.{kindsOf, wordsOf, restsOf, wholePath}
+use Rattle.wholepath_pieces.specs.Pieces.{wholeFormsOf, wordsOf, restsOf, wholePath}
 use Rattle.table.specs.Output.{front}
 use Rattle.table.specs.Answers.{unless, ifDone}
 
@@ -28,7 +28,7 @@ wholeAlong t points lifts k c r s =
     let path = wholePath t points lifts s in
     unless (leb pointWords (length points)) (Declined ShortSlice)
     (unless (leb liftWords (length lifts)) (Declined ShortSlice)
-    (unless (leb (length (flatMap kindsOf path)) k) (Declined ShortSlice)
+    (unless (leb (length (flatMap wholeFormsOf path)) k) (Declined ShortSlice)
     (unless (leb (length (flatMap wordsOf path)) c) (Declined ShortSlice)
     (unless (leb (length (flatMap restsOf path)) r) (Declined ShortSlice)
     (unless (not (some (farStep t points lifts) (walk (rotation t) s))) (Declined Far)
@@ -43,14 +43,14 @@ abbrev pub wholeAnswer : List ℕ → ℕ → ℕ → List ℤ → List ℤ → 
 wholeAnswer t d y points lifts k c r = wholeBy t points lifts k c r (namedStep t d y)
 
 -- what is left in a slice, where f is what is written there for each piece
-abbrev pub leftBy : {A : Type 0} → (Piece → List A) → List ℕ → ℕ → ℕ → List ℤ → List ℤ → Answer → List A → List A
-leftBy f t d y points lifts a old = ifDone a (front (flatMap f (wholePath t points lifts (2 * d + y))) old) old
+abbrev pub wholeLeft : {A : Type 0} → (Piece → List A) → List ℕ → ℕ → ℕ → List ℤ → List ℤ → Answer → List A → List A
+wholeLeft f t d y points lifts a old = ifDone a (front (flatMap f (wholePath t points lifts (2 * d + y))) old) old
 
-abbrev pub wholeKindsOut : List ℕ → ℕ → ℕ → List ℤ → List ℤ → List ℕ → List ℤ → List ℕ → List ℕ
-wholeKindsOut t d y points lifts kinds coords rests = leftBy kindsOf t d y points lifts (wholeAnswer t d y points lifts (length kinds) (length coords) (length rests)) kinds
+abbrev pub wholeFormsOut : List ℕ → ℕ → ℕ → List ℤ → List ℤ → List ℕ → List ℤ → List ℕ → List ℕ
+wholeFormsOut t d y points lifts forms coords rests = wholeLeft wholeFormsOf t d y points lifts (wholeAnswer t d y points lifts (length forms) (length coords) (length rests)) forms
 
 abbrev pub wholeCoordsOut : List ℕ → ℕ → ℕ → List ℤ → List ℤ → List ℕ → List ℤ → List ℕ → List ℤ
-wholeCoordsOut t d y points lifts kinds coords rests = leftBy wordsOf t d y points lifts (wholeAnswer t d y points lifts (length kinds) (length coords) (length rests)) coords
+wholeCoordsOut t d y points lifts forms coords rests = wholeLeft wordsOf t d y points lifts (wholeAnswer t d y points lifts (length forms) (length coords) (length rests)) coords
 
 abbrev pub wholeRemaindersOut : List ℕ → ℕ → ℕ → List ℤ → List ℤ → List ℕ → List ℤ → List ℕ → List ℕ
-wholeRemaindersOut t d y points lifts kinds coords rests = leftBy restsOf t d y points lifts (wholeAnswer t d y points lifts (length kinds) (length coords) (length rests)) rests
+wholeRemaindersOut t d y points lifts forms coords rests = wholeLeft restsOf t d y points lifts (wholeAnswer t d y points lifts (length forms) (length coords) (length rests)) rests

@@ -1,11 +1,11 @@
 -- The pieces of a whole path, document 02, e: those of one step, and what is written for them.
 --     wholePath, piecesAlong          the pieces of the ribbon through a step, with Close; without it
---     stepPieces, pieceAt, pieceOn    the pieces of a step; the i-th of them, on the table; on an edge word
---     pieceFor, spotAt                the piece for a letter and a spot; three coordinates with their remainders
+--     stepPieces, pieceAt, wholePieceOn  the pieces of a step; the i-th of them, on the table; on an edge word
+--     wholePieceFor, spotAt           the piece for a letter and a spot; three coordinates with their remainders
 --     spotsOn, spotsOf                how many pieces an edge gives; how many a step gives
---     counted, letterOn               which crossing comes i-th on a step, counted from the first end; its letter
---     kindOf, spotOf                  the word of a piece; its spot, zeros for Close
---     kindsOf, wordsOf, restsOf       what is written for a piece: its word, its coordinates, its remainders
+--     crossingNumber, letterOn        which crossing comes i-th on a step, counted from the first end; its letter
+--     wholeFormOf, spotOf             the word of a piece; its spot, zeros for Close
+--     wholeFormsOf, wordsOf, restsOf  what is written for a piece: its word, its coordinates, its remainders
 --     upTo                            f 0, f 1 and so on, n of them
 use Prim.Native.Nat.{ℕ, zero, suc, _+_, _-_, _/_, _%_}
 use mathlib.Core.Bool.{cond}
@@ -32,8 +32,8 @@ spotsOf t s = spotsOn (wordOf t s)
 
 -- "crossing j (0 to n-1, counted from the first end)": which of n it is that comes as the i-th along dart d. The even dart leaves the first end.
 -- "Travelled from the second end, crossings come in falling j."
-abbrev pub counted : ℕ → ℕ → ℕ → ℕ
-counted n d i = cond (eqb (d % 2) 0) i (n - 1 - i)
+abbrev pub crossingNumber : ℕ → ℕ → ℕ → ℕ
+crossingNumber n d i = cond (eqb (d % 2) 0) i (n - 1 - i)
 
 -- the letter of the i-th crossing of a step, as it is travelled, and 0 where there is none
 abbrev pub letterOn : ℕ → ℕ → ℕ → ℕ
@@ -51,18 +51,18 @@ spotAt letter n j points lifts first second lift = record {
 }
 
 -- over, under or flat, as the float path has it
-unfoldable pub pieceFor : ℕ → Spot → Piece
-pieceFor letter p = cond (eqb letter over) (Over p) (cond (eqb letter under) (Under p) (Flat p))
+unfoldable pub wholePieceFor : ℕ → Spot → Piece
+wholePieceFor letter p = cond (eqb letter over) (Over p) (cond (eqb letter under) (Under p) (Flat p))
 
 -- the i-th piece of step s, on an edge of word w
-unfoldable pub pieceOn : ℕ → ℕ → ℕ → List ℤ → List ℤ → ℕ → ℕ → ℕ → Piece
-pieceOn w s i points lifts first second lift =
+unfoldable pub wholePieceOn : ℕ → ℕ → ℕ → List ℤ → List ℤ → ℕ → ℕ → ℕ → Piece
+wholePieceOn w s i points lifts first second lift =
     let n = spotsOn w in
     let letter = letterOn w (s % 2) i in
-    pieceFor letter (spotAt letter n (counted n (s / 2) i) points lifts first second lift)
+    wholePieceFor letter (spotAt letter n (crossingNumber n (s / 2) i) points lifts first second lift)
 
 unfoldable pub pieceAt : List ℕ → List ℤ → List ℤ → ℕ → ℕ → Piece
-pieceAt t points lifts s i = pieceOn (wordOf t s) s i points lifts (firstEnd t s) (secondEnd t s) (liftAt s)
+pieceAt t points lifts s i = wholePieceOn (wordOf t s) s i points lifts (firstEnd t s) (secondEnd t s) (liftAt s)
 
 -- f 0, f 1 and so on, n of them
 unfoldable pub upTo : {A : Type 0} → (ℕ → A) → ℕ → List A
@@ -81,11 +81,11 @@ abbrev pub wholePath : List ℕ → List ℤ → List ℤ → ℕ → List Piece
 wholePath t points lifts s = piecesAlong t points lifts s ++ (Close ∷ [])
 
 -- "written as the float path is": a word per piece
-abbrev pub kindOf : Piece → ℕ
-kindOf (Flat p) = 0
-kindOf (Over p) = 1
-kindOf (Under p) = 2
-kindOf Close = 3
+abbrev pub wholeFormOf : Piece → ℕ
+wholeFormOf (Flat p) = 0
+wholeFormOf (Over p) = 1
+wholeFormOf (Under p) = 2
+wholeFormOf Close = 3
 
 -- "zeros for Close"
 abbrev pub spotOf : Piece → Spot
@@ -94,8 +94,8 @@ spotOf (Over p) = p
 spotOf (Under p) = p
 spotOf Close = record { x = pos 0; y = pos 0; z = pos 0; xrest = 0; yrest = 0; zrest = 0 }
 
-abbrev pub kindsOf : Piece → List ℕ
-kindsOf p = kindOf p ∷ []
+abbrev pub wholeFormsOf : Piece → List ℕ
+wholeFormsOf p = wholeFormOf p ∷ []
 
 -- "with three signed 32-bit words in place of the floats"
 abbrev pub wordsOf : Piece → List ℤ

@@ -7,7 +7,7 @@ use lib.Dec.{eqb}
 use lib.IntN.{ℤ, pos, _+ℤ_, _-ℤ_, _*ℤ_}
 use Rattle.weave.specs.Letters.{over, under, wordOf}
 use Rattle.floatpath_pieces.specs.Path.{sixteenths, firstEnd, secondEnd, liftAt}
-use Rattle.wholepath_pieces.specs.Pieces.{spotsOf, counted, letterOn, pieceAt, spotOf}
+use Rattle.wholepath_pieces.specs.Pieces.{spotsOf, crossingNumber, letterOn, pieceAt, spotOf}
 
 -- a coordinate without its lift: less it over, plus it under
 unfoldable pub unlifted : ℕ → ℤ → ℤ → ℤ
@@ -20,7 +20,7 @@ pub record Placed (n j letter : ℕ) (a b l word : ℤ) (rest : ℕ) : Type 0 wh
 
 -- the crossing that the i-th piece of step s is at, and its letter
 abbrev pub crossingHere : List ℕ → ℕ → ℕ → ℕ
-crossingHere t s i = counted (spotsOf t s) (s / 2) i
+crossingHere t s i = crossingNumber (spotsOf t s) (s / 2) i
 
 abbrev pub letterHere : List ℕ → ℕ → ℕ → ℕ
 letterHere t s i = letterOn (wordOf t s) (s % 2) i

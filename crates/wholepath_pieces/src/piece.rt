@@ -1,13 +1,13 @@
 // The pieces of a whole path: how a strand passes at each crossing of a step, and where.
+use table::layout::UNTURNED;
 use weave_letters::letter::OVER;
 use weave_letters::letter::UNDER;
-use weave_letters::letter::UNTURNED;
 use weave_letters::letter::crossings;
 use weave_letters::letter::letter;
 use wholepath_places::between::coordinate;
 ghost use Prim.Native.Nat.{_<_};
 ghost use mathlib.Core.Path.{_≡_};
-ghost use Rattle.wholepath_pieces.specs.Pieces.{spotsOn, counted, letterOn, spotAt, pieceFor, pieceOn, kindOf, spotOf};
+ghost use Rattle.wholepath_pieces.specs.Pieces.{spotsOn, crossingNumber, letterOn, spotAt, wholePieceFor, wholePieceOn, wholeFormOf, spotOf};
 ghost use Rattle.wholepath_pieces.specs.laws.Pieces.{SpotRead, PieceRead};
 
 // In sixteenths of a millimetre: three whole words, and the remainder of each.
@@ -41,7 +41,7 @@ pub fn spots(w: u16) -> u16
 // The number, counted from the edge's first end, of the i-th of its n crossings on the way along a dart.
 fn crossing(n: u16, dart: u16, i: u16) -> u16
     requires { ⌜ i < n ⌝ }
-    ensures { λ r. ⌜ r ≡ counted n dart i ⌝ }
+    ensures { λ r. ⌜ r ≡ crossingNumber n dart i ⌝ }
 {
     if dart % 2 == 0 {
         return i;
@@ -103,7 +103,7 @@ fn spot_at(
 
 // The piece at a spot, by its letter.
 fn piece_for(letter: u8, q: Spot) -> Piece
-    ensures { λ r. ⌜ r ≡ pieceFor letter q ⌝ }
+    ensures { λ r. ⌜ r ≡ wholePieceFor letter q ⌝ }
 {
     if letter == OVER {
         return Piece::Over(q);
@@ -126,7 +126,7 @@ pub fn piece_on(
     lift: usize,
 ) -> Piece
     requires { ⌜ PieceRead w i (now points) (now lifts) first second lift ⌝ }
-    ensures { λ r. ⌜ r ≡ pieceOn w s i (now (points .entry)) (now (lifts .entry)) first second lift ⌝ }
+    ensures { λ r. ⌜ r ≡ wholePieceOn w s i (now (points .entry)) (now (lifts .entry)) first second lift ⌝ }
 {
     let n = spots(w);
     let l = letter_at(w, s % 2, i);
@@ -136,8 +136,8 @@ pub fn piece_on(
 }
 
 // The word of a piece.
-pub fn kind_word(p: Piece) -> u16
-    ensures { λ r. ⌜ r ≡ kindOf p ⌝ }
+pub fn form_word(p: Piece) -> u16
+    ensures { λ r. ⌜ r ≡ wholeFormOf p ⌝ }
 {
     match p {
         Piece::Flat(_) => 0,

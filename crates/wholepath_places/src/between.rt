@@ -1,4 +1,5 @@
 // Where a crossing sits between the ends of its edge: in whole sixteenths, and what the division leaves.
+use floatpath_pieces::place::FARTHEST_POINT;
 use weave_letters::letter::OVER;
 use weave_letters::letter::UNDER;
 ghost use Prim.Native.Nat.{_≤_};
@@ -15,7 +16,7 @@ pub struct Place {
 }
 
 // As far as a point can lie from zero.
-const FARTHEST: i32 = 65536;
+const FARTHEST: i32 = FARTHEST_POINT as i32;
 
 // A coordinate of a point, counted from the lowest that there can be: it is not negative then, and a division rounds it down.
 fn raised(a: i32) -> u32

@@ -3,7 +3,7 @@ use floatpath_pieces::place::places_of;
 use tracing_walks::step::step;
 use weave_letters::letter::edge_word;
 use wholepath_pieces::piece::Piece;
-use wholepath_pieces::piece::kind_word;
+use wholepath_pieces::piece::form_word;
 use wholepath_pieces::piece::piece_on;
 use wholepath_pieces::piece::spot_of;
 use wholepath_pieces::piece::spots;
@@ -11,16 +11,16 @@ ghost use Prim.Native.Nat.{_+_};
 ghost use mathlib.Core.Path.{_≡_};
 ghost use mathlib.Core.List.{_∷_, [], flatMap};
 ghost use Rattle.table.specs.Output.{front};
-ghost use Rattle.wholepath_pieces.specs.Pieces.{kindsOf, wordsOf, restsOf, wholePath};
+ghost use Rattle.wholepath_pieces.specs.Pieces.{wholeFormsOf, wordsOf, restsOf, wholePath};
 ghost use Rattle.wholepath_writing.specs.laws.Written.{out, Room, Written};
 ghost use Rattle.wholepath_writing.specs.laws.Laying.{StepRoom, Stepped, PathRoom, Laid};
 
 // Piece n of a path.
-fn write_piece(kinds: &mut [u16], coords: &mut [i32], remainders: &mut [u16], n: usize, p: Piece)
-    requires { ⌜ Room (n + 1) (out (now kinds) (now coords) (now remainders)) ⌝ }
-    ensures { λ _. ⌜ Written (p ∷ []) n (out (now (kinds .entry)) (now (coords .entry)) (now (remainders .entry))) (out (now (kinds .exit)) (now (coords .exit)) (now (remainders .exit))) ⌝ }
+fn write_piece(forms: &mut [u16], coords: &mut [i32], remainders: &mut [u16], n: usize, p: Piece)
+    requires { ⌜ Room (n + 1) (out (now forms) (now coords) (now remainders)) ⌝ }
+    ensures { λ _. ⌜ Written (p ∷ []) n (out (now (forms .entry)) (now (coords .entry)) (now (remainders .entry))) (out (now (forms .exit)) (now (coords .exit)) (now (remainders .exit))) ⌝ }
 {
-    kinds[n] = kind_word(p);
+    forms[n] = form_word(p);
     let q = spot_of(p);
     let x = q.x;
     let y = q.y;
@@ -38,15 +38,15 @@ fn write_step(
     t: &[u16],
     points: &[i32],
     lifts: &[i32],
-    kinds: &mut [u16],
+    forms: &mut [u16],
     coords: &mut [i32],
     remainders: &mut [u16],
     s: u16,
     start: usize,
 ) -> usize
-    requires { ⌜ StepRoom (now t) (now points) (now lifts) s start (out (now kinds) (now coords) (now remainders)) ⌝ }
+    requires { ⌜ StepRoom (now t) (now points) (now lifts) s start (out (now forms) (now coords) (now remainders)) ⌝ }
     ensures { λ r. ⌜ Stepped (now (t .entry)) (now (points .entry)) (now (lifts .entry)) s start
-        (out (now (kinds .entry)) (now (coords .entry)) (now (remainders .entry))) r (out (now (kinds .exit)) (now (coords .exit)) (now (remainders .exit))) ⌝ }
+        (out (now (forms .entry)) (now (coords .entry)) (now (remainders .entry))) r (out (now (forms .exit)) (now (coords .exit)) (now (remainders .exit))) ⌝ }
 {
     let w = edge_word(t, s);
     let n = spots(w);
@@ -57,7 +57,7 @@ fn write_step(
     let mut i: u16 = 0;
     while i < n {
         let p = piece_on(w, s, i, points, lifts, first, second, lift);
-        write_piece(kinds, coords, remainders, start + i as usize, p);
+        write_piece(forms, coords, remainders, start + i as usize, p);
         i += 1;
     }
     start + n as usize
@@ -68,19 +68,19 @@ fn write_pieces(
     t: &[u16],
     points: &[i32],
     lifts: &[i32],
-    kinds: &mut [u16],
+    forms: &mut [u16],
     coords: &mut [i32],
     remainders: &mut [u16],
     s: u16,
 ) -> usize
-    requires { ⌜ PathRoom (now t) (now points) (now lifts) s (out (now kinds) (now coords) (now remainders)) ⌝ }
+    requires { ⌜ PathRoom (now t) (now points) (now lifts) s (out (now forms) (now coords) (now remainders)) ⌝ }
     ensures { λ r. ⌜ Laid (now (t .entry)) (now (points .entry)) (now (lifts .entry)) s
-        (out (now (kinds .entry)) (now (coords .entry)) (now (remainders .entry))) r (out (now (kinds .exit)) (now (coords .exit)) (now (remainders .exit))) ⌝ }
+        (out (now (forms .entry)) (now (coords .entry)) (now (remainders .entry))) r (out (now (forms .exit)) (now (coords .exit)) (now (remainders .exit))) ⌝ }
 {
     let mut at = s;
     let mut n: usize = 0;
     loop {
-        n = write_step(t, points, lifts, kinds, coords, remainders, at, n);
+        n = write_step(t, points, lifts, forms, coords, remainders, at, n);
         at = step(t, at);
         if at == s {
             return n;
@@ -93,16 +93,16 @@ pub fn write_path(
     t: &[u16],
     points: &[i32],
     lifts: &[i32],
-    kinds: &mut [u16],
+    forms: &mut [u16],
     coords: &mut [i32],
     remainders: &mut [u16],
     s: u16,
 )
-    requires { ⌜ PathRoom (now t) (now points) (now lifts) s (out (now kinds) (now coords) (now remainders)) ⌝ }
-    ensures { λ _. ⌜ (now (kinds .exit) ≡ front (flatMap kindsOf (wholePath (now (t .entry)) (now (points .entry)) (now (lifts .entry)) s)) (now (kinds .entry)))
+    requires { ⌜ PathRoom (now t) (now points) (now lifts) s (out (now forms) (now coords) (now remainders)) ⌝ }
+    ensures { λ _. ⌜ (now (forms .exit) ≡ front (flatMap wholeFormsOf (wholePath (now (t .entry)) (now (points .entry)) (now (lifts .entry)) s)) (now (forms .entry)))
         × (now (coords .exit) ≡ front (flatMap wordsOf (wholePath (now (t .entry)) (now (points .entry)) (now (lifts .entry)) s)) (now (coords .entry)))
         × (now (remainders .exit) ≡ front (flatMap restsOf (wholePath (now (t .entry)) (now (points .entry)) (now (lifts .entry)) s)) (now (remainders .entry))) ⌝ }
 {
-    let n = write_pieces(t, points, lifts, kinds, coords, remainders, s);
-    write_piece(kinds, coords, remainders, n, Piece::Close);
+    let n = write_pieces(t, points, lifts, forms, coords, remainders, s);
+    write_piece(forms, coords, remainders, n, Piece::Close);
 }

@@ -30,7 +30,7 @@ use Rattle.table.specs.laws.Darts.{Ruled}
 use Rattle.table.specs.laws.Cycle.{next-inj, iter-live, iter-leaves, iter-word, orbit-size}
 use Rattle.table.specs.laws.Vertices.{leaving-live, one-more, spread}
 use Rattle.table.specs.laws.Blocks.{dead-dart}
-use Rattle.check_reads.specs.Reads.{reading, readsOf, passAll, allBelow, readsBelow, bareTests, dartTests, edgeTests, edgeIn, deadBlock, idleTests, edgeBlock}
+use Rattle.check_reads.specs.Reads.{testOf, readsOf, passAll, allBelow, readsBelow, bareTests, dartTests, edgeTests, edgeIn, deadBlock, idleTests, edgeBlock}
 use Rattle.check_reads.specs.Reads.{lengthFits, cycleTest, leadsNone, leadTests, vertexTests, vertexIn, vertexBlock, checkReads}
 use Rattle.check_reads.specs.laws.Tests.{total, reads-total, below-most, below-passed, below-any, below-until}
 use Rattle.check_reads.specs.laws.Darts.{tests-dead, tests-live, dead-case, idle-case, block-case, by-darts, blocks-case}
@@ -112,12 +112,12 @@ module _ (t : List ℕ) where
 
   -- crude bounds, for the room in the count
   cycle-crude : (w : ℕ) → cycleTest t w .reads ≤ 2048
-  cycle-crude w = below-most (λ k. reading 1 (ltb w (iter (nextWord t) (suc k) w))) 1 darts (λ k h. omega arith)
+  cycle-crude w = below-most (λ k. testOf 1 (ltb w (iter (nextWord t) (suc k) w))) 1 darts (λ k h. omega arith)
 
   pub vertex-crude : (v : ℕ) → readsOf (vertexTests t v) ≤ 2050
   unfolding total
   vertex-crude v = elim (truth (leadsNone t v)) [
-    | yes-true e ↦ rw (tests-none t v e) (let k = reads-total (reading 1 true ∷ []) in omega arith)
+    | yes-true e ↦ rw (tests-none t v e) (let k = reads-total (testOf 1 true ∷ []) in omega arith)
     | yes-false e ↦ rw (tests-leads t v e) (let c = cycle-crude (vertexWord t v) in let k = reads-total (leadTests t v) in omega (arith, c, k))
   ]
 
@@ -154,7 +154,7 @@ module _ (t : List ℕ) where
         let some = p .some in
         let q : suc (p .steps - 1) ≡ p .steps = omega arith in
         let back = sym (iter-word t r (p .steps) w l) ∙ p .back in
-        let until = below-until (λ k. reading 1 (ltb w (iter (nextWord t) (suc k) w))) (p .steps - 1) darts (λ k. omega arith)
+        let until = below-until (λ k. testOf 1 (ltb w (iter (nextWord t) (suc k) w))) (p .steps - 1) darts (λ k. omega arith)
         (le-ltb w (iter (nextWord t) (suc (p .steps - 1)) w) (rw (q, back) (omega arith))) in
         let size = orbit-size (next-inj t r) w (l .low) p in
         let fewer = count-fewer (reaches (nextDart t) darts w) (λ d. live? t d && eqb (leaves t d) v) darts (λ d h e.

@@ -24,7 +24,7 @@ use Rattle.table.specs.declared.counted.Counted.{Counted}
 use Rattle.table.specs.declared.counted.Counted.the-variants.{Broken, Of}
 use Rattle.table.specs.laws.Darts.{Linked, DartRule, Ruled, RuledBelow, DartsTo, rule-dead, rule-live}
 use Rattle.table.specs.laws.Blocks.{DeadBlock, Blank, IdleBlock, idle-blank, blank-idle, dead-dart}
-use Rattle.check_reads.specs.Reads.{reading, bareTests, linkedTests, dartTests, edgeTests, edgeIn, deadBlock, blank, idleTests, edgeBlock, passAll, allBelow, readsBelow}
+use Rattle.check_reads.specs.Reads.{testOf, bareTests, linkedTests, dartTests, edgeTests, edgeIn, deadBlock, blank, idleTests, edgeBlock, passAll, allBelow, readsBelow}
 use Rattle.check_reads.specs.laws.Tests.{Told, told-fails, told-goes, true-case, both-case, all-case}
 
 module _ (t : List ℕ) where
@@ -51,7 +51,7 @@ module _ (t : List ℕ) where
   unfolding dartTests
   tests-dead d e = rw (eq-eqb _ 0 e, dartTests)
 
-  pub tests-live : (d : ℕ) → edgeWord t (edgeOf d) ≢ 0 → dartTests t d ≡ reading 0 (leb (edgeWord t (edgeOf d)) edgeWordMost) ∷ linkedTests t d
+  pub tests-live : (d : ℕ) → edgeWord t (edgeOf d) ≢ 0 → dartTests t d ≡ testOf 0 (leb (edgeWord t (edgeOf d)) edgeWordMost) ∷ linkedTests t d
   unfolding dartTests
   tests-live d e = rw (ne-eqb _ 0 e, dartTests)
 

@@ -24,7 +24,7 @@ use lib.Dec.{eqb, ltb}
 use borrow.Author.Tests.{eq-eqb, ne-eqb, lt-ltb, le-ltb}
 use Rattle.orbits.specs.laws.Truth.{clash, both, both-left, both-right, truth, holds as yes-true, fails as yes-false}
 use Rattle.table.specs.laws.Rotation.{Case, holds, fails, case-map, case-says, case-denies}
-use Rattle.check_reads.specs.Reads.{Test, reading, together, readsOf, passAll, allBelow, readsBelow}
+use Rattle.check_reads.specs.Reads.{Test, testOf, together, readsOf, passAll, allBelow, readsBelow}
 
 -- a row of tests has been made: its verdict is r, and the count went from n to m
 pub record Told (l : List Test) (r : Bool) (n m : ℕ) : Type 0 where
@@ -57,16 +57,16 @@ told-end {x} c e = elim (truth (x .passes)) [
 
 -- a word w that was read and counted, and tested against c
 module _ {x w c k n : ℕ} {l : List Test} (read : (w ≡ x) × (k ≡ n + 1)) where
-  pub told-differs : w ≢ c → Told (reading 1 (eqb x c) ∷ l) false n k
+  pub told-differs : w ≢ c → Told (testOf 1 (eqb x c) ∷ l) false n k
   told-differs h = told-fails (read .1) (ne-eqb x c (rw (read .0) at h))
 
-  pub told-same : {r : Bool} {m : ℕ} → w ≡ c → Told l r k m → Told (reading 1 (eqb x c) ∷ l) r n m
+  pub told-same : {r : Bool} {m : ℕ} → w ≡ c → Told l r k m → Told (testOf 1 (eqb x c) ∷ l) r n m
   told-same h = told-goes (read .1) (eq-eqb x c (sym (read .0) ∙ h))
 
-  pub told-past : c ≤ w → Told (reading 1 (ltb x c) ∷ l) false n k
+  pub told-past : c ≤ w → Told (testOf 1 (ltb x c) ∷ l) false n k
   told-past h = told-fails (read .1) (le-ltb x c (omega arith))
 
-  pub told-low : {r : Bool} {m : ℕ} → w < c → Told l r k m → Told (reading 1 (ltb x c) ∷ l) r n m
+  pub told-low : {r : Bool} {m : ℕ} → w < c → Told l r k m → Told (testOf 1 (ltb x c) ∷ l) r n m
   told-low h = told-goes (read .1) (lt-ltb x c (omega arith))
 
 -- a row in a row

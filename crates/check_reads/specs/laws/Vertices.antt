@@ -29,7 +29,7 @@ use Rattle.table.specs.laws.Decided.{least-all}
 use Rattle.table.specs.laws.Blocks.{vertexBlocks, LooseBlock}
 use Rattle.table.specs.declared.counted.Counted.{Counted}
 use Rattle.table.specs.declared.counted.Counted.the-variants.{Broken, Of}
-use Rattle.check_reads.specs.Reads.{reading, cycleTest, leadsNone, leadTests, vertexTests, vertexIn, vertexBlock, readsOf, passAll, allBelow, readsBelow}
+use Rattle.check_reads.specs.Reads.{testOf, cycleTest, leadsNone, leadTests, vertexTests, vertexIn, vertexBlock, readsOf, passAll, allBelow, readsBelow}
 use Rattle.check_reads.specs.laws.Tests.{below-exact, Told, told-all, told-goes, told-end, told-differs, told-same, told-past, told-low, Going, going-stops, true-case, both-case, all-case}
 
 module _ (t : List ℕ) (r : Ruled t darts) (w : ℕ) (l : Live t w) where
@@ -48,8 +48,8 @@ module _ (t : List ℕ) (r : Ruled t darts) (w : ℕ) (l : Live t w) where
   cycle-reads n d o h =
       let some = o .some in
       let ahead = case-says (all-case {P = λ k. past k ≡ true} (n - 1) (λ k g. holds (round-past n d o k g) (round-past n d o k g))) (round-past n d o) in
-      let sum = below-exact (λ k. reading 1 (past k)) 1 (n - 1) (round-past n d o) (λ k h. refl) in
-      let g : Going (λ k. reading 1 (past k)) (n - 1) 0 (n - 1) = record { passed = ahead; count = omega (arith, sum) } in
+      let sum = below-exact (λ k. testOf 1 (past k)) 1 (n - 1) (round-past n d o) (λ k h. refl) in
+      let g : Going (λ k. testOf 1 (past k)) (n - 1) 0 (n - 1) = record { passed = ahead; count = omega (arith, sum) } in
       let q : suc (n - 1) ≡ n = omega arith in
       let e = sym (iter-word t r n w l) ∙ o .at in
       let few = round-few n d o h in
@@ -63,7 +63,7 @@ module _ (t : List ℕ) (r : Ruled t darts) (w : ℕ) (l : Live t w) where
       ]
 
 module _ (t : List ℕ) (v : ℕ) where
-  pub tests-none : leadsNone t v ≡ true → vertexTests t v ≡ reading 1 true ∷ []
+  pub tests-none : leadsNone t v ≡ true → vertexTests t v ≡ testOf 1 true ∷ []
   unfolding vertexTests
   tests-none e = rw (e, vertexTests)
 
@@ -84,10 +84,10 @@ module _ (t : List ℕ) (v : ℕ) where
   -- what has been read of the vertex when its word w was, and when it was seen what dart w leaves
   module _ (n : ℕ) {w k : ℕ} (e : w ≡ vertexWord t v) (f : k ≡ n + 1) where
     pub read-none : w ≡ nothing → k ≡ n + readsOf (vertexTests t v)
-    read-none q = told-goes {x = reading 1 true} f refl told-all .count ∙ ap (λ l. n + readsOf l) (sym (tests-none (none-leads (sym e ∙ q))))
+    read-none q = told-goes {x = testOf 1 true} f refl told-all .count ∙ ap (λ l. n + readsOf l) (sym (tests-none (none-leads (sym e ∙ q))))
 
     pub read-alone : w ≡ isolated → k ≡ n + readsOf (vertexTests t v)
-    read-alone q = told-goes {x = reading 1 true} f refl told-all .count ∙ ap (λ l. n + readsOf l) (sym (tests-none (alone-leads (sym e ∙ q))))
+    read-alone q = told-goes {x = testOf 1 true} f refl told-all .count ∙ ap (λ l. n + readsOf l) (sym (tests-none (alone-leads (sym e ∙ q))))
 
     module _ (none : w ≢ nothing) (alone : w ≢ isolated) where
       leading : {m : ℕ} {r : Bool} → Told (leadTests t v) r n m → m ≡ n + readsOf (vertexTests t v)

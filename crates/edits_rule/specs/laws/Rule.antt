@@ -1,5 +1,5 @@
 -- The rules, as the code tells them: what it asks for, the parity of words, and the face count after the edit.
---     facesAfter, after-is                      the face count after an edit, by the rule; it is the one that the rule allows
+--     after-is                                  the face count that the rule allows is the one after the edit
 --     Allowed, allowed-some                     there is a face count after; rule A needs one face before
 --     insert-corners, delete-edge, turn-edge    what an accepted edit gives to the reading of its rule
 --     unsplit, one-more, even-turn, odd-turn    the rules by the parity of words
@@ -22,7 +22,7 @@ use Rattle.tracing.specs.declared.meeting.Meeting.the-variants.{SameType, Other
 use Rattle.surgery.specs.Change.{Change, Changes, insertion}
 use Rattle.edits.specs.declared.rule.Rule.{Rule}
 use Rattle.edits.specs.declared.rule.Rule.the-variants as rule
-use Rattle.edits.specs.Rules.{ruleFor, turnRule, ruleOf, ruleChange, ruleNumber, reply}
+use Rattle.edits.specs.Rules.{ruleFor, turnRule, ruleOf, ruleChange, facesAfter, ruleNumber, reply}
 use Rattle.edits.specs.laws.Rules.{number-small, rule-changes, by-rule}
 use Rattle.edits.specs.Verdicts.{verdict}
 use Rattle.edits.specs.Edits.{written, edited}
@@ -67,15 +67,7 @@ odd-turn v w c h = let e : (v + w) % 2 ≡ 1 = omega arith in sym (ap (λ n. tur
 pub few-rules : {n : ℕ} (r : Rule) → n ≡ ruleNumber r → n < 5
 few-rules r e = rw e (number-small r)
 
--- the face count after an edit, by the rule
-
-abbrev pub facesAfter : ℕ → Rule → ℕ
-facesAfter n rule.A = n - 1
-facesAfter n rule.B1 = n + 1
-facesAfter n rule.B2 = n
-facesAfter n rule.E = n
-
--- there is one
+-- there is a face count after an edit, by the rule
 pub record Allowed (n : ℕ) (r : Rule) : Type 0 where
   pub after : ℕ
   pub change : Changes (ruleChange r) n after

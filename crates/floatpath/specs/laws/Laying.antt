@@ -2,13 +2,13 @@
 --     PathRoom                                       a ribbon whose words are in range, and room for its path
 --     PieceWritten, wrote-made                       a piece is written to both slices
 --     piecesBefore, path-length                      the pieces of the first n steps; the path has one a step, and Close
---     kinds-length, floats-length                    how many words and floats some pieces take
+--     forms-length, floats-length                    how many words and floats some pieces take
 --     Laying                                         the loop over the walk
 --     laying-none, laying-more, laying-all           it begins, goes on, ends
 --     laying-lent, laying-near, laying-room          the present step: its words are there, in range, and there is room
---     laying-kinds, laying-coords                    the slices keep their sizes
+--     laying-forms, laying-coords                    the slices keep their sizes
 --     Laid                                           the pieces of all steps are written
---     closing-room, closing-kinds, closing-coords    then Close: the path stands at the front of both slices
+--     closing-room, closing-forms, closing-coords    then Close: the path stands at the front of both slices
 use Prim.Native.Nat.{ℕ, suc, _+_, _*_, _<_, _≤_}
 use native.Mathlib.Omega.{arith}
 use native.Mathlib.Nat.{mul-suc, zero-add}
@@ -36,7 +36,7 @@ use Rattle.floatpath_pieces.specs.declared.piece.Point.{Point}
 use Rattle.floatpath_pieces.specs.declared.piece.Piece.{Piece}
 use Rattle.floatpath_pieces.specs.declared.piece.Piece.the-variants.{Close}
 use Rattle.lengths.specs.laws.Summing.{walk-some}
-use Rattle.floatpath_pieces.specs.Path.{pieceOn, pathFrom, kindOf, kindsOf, pointOf, floatsOf, text, farStep}
+use Rattle.floatpath_pieces.specs.Path.{pieceOn, pathFrom, formOf, formsOf, pointOf, floatsOf, text, farStep}
 use Rattle.floatpath_pieces.specs.laws.Places.{Lent}
 
 -- what is written for pieces, one after the other
@@ -56,8 +56,8 @@ unfolding text
 text-length f k e [] = omega arith
 text-length f k e (p ∷ l) = let r = text-length f k e l in let h = e p in rw (length-append, mul-suc) (omega arith)
 
-pub kinds-length : (l : List Piece) → length (text kindsOf l) ≡ length l
-kinds-length l = let r = text-length kindsOf 1 (λ p. refl) l in omega arith
+pub forms-length : (l : List Piece) → length (text formsOf l) ≡ length l
+forms-length l = let r = text-length formsOf 1 (λ p. refl) l in omega arith
 
 pub floats-length : (l : List Piece) → length (text floatsOf l) ≡ 3 * length l
 floats-length l = text-length floatsOf 3 (λ p. refl) l
@@ -69,21 +69,21 @@ laid-more f l p out₀ w e g =
     g ∙ rw (text-append f l (p ∷ []), text-one f p, sets-append out₀ 0 (text f l) (f p), zero-add, e, w)
 
 -- a piece, written to both slices
-pub record PieceWritten (n : ℕ) (p : Piece) (kinds : List ℕ) (coords : List Float) (kinds′ : List ℕ) (coords′ : List Float) : Type 0 where
-  pub kind : kinds′ ≡ sets kinds n (kindsOf p)
+pub record PieceWritten (n : ℕ) (p : Piece) (forms : List ℕ) (coords : List Float) (forms′ : List ℕ) (coords′ : List Float) : Type 0 where
+  pub form : forms′ ≡ sets forms n (formsOf p)
   pub floats : coords′ ≡ sets coords (3 * n) (floatsOf p)
 
-pub wrote-made : {n : ℕ} {p : Piece} {kinds : List ℕ} {coords : List Float} {k : ℕ} {q : Point} → k ≡ kindOf p → q ≡ pointOf p
-    → PieceWritten n p kinds coords (set kinds n k) (set (set (set coords (3 * n) (q .x)) (3 * n + 1) (q .y)) (3 * n + 2) (q .z))
-wrote-made {n} {kinds = kinds} e f =
+pub wrote-made : {n : ℕ} {p : Piece} {forms : List ℕ} {coords : List Float} {k : ℕ} {q : Point} → k ≡ formOf p → q ≡ pointOf p
+    → PieceWritten n p forms coords (set forms n k) (set (set (set coords (3 * n) (q .x)) (3 * n + 1) (q .y)) (3 * n + 2) (q .z))
+wrote-made {n} {forms = forms} e f =
     let two : 3 * n + 2 ≡ suc (suc (3 * n)) = omega arith in
-    record { kind = ap (set kinds n) e; floats = rw (f, add-one, two) }
+    record { form = ap (set forms n) e; floats = rw (f, add-one, two) }
 
 -- a ribbon whose words are in range, and room for its path
-pub record PathRoom (t : List ℕ) (points lifts : List ℤ) (s sizeKinds sizeCoords : ℕ) : Type 0 where
+pub record PathRoom (t : List ℕ) (points lifts : List ℤ) (s sizeForms sizeCoords : ℕ) : Type 0 where
   pub lent : Lent t points lifts s
   pub near : some (farStep t points lifts) (walk (rotation t) s) ≡ false
-  pub kinds : length (walk (rotation t) s) < sizeKinds
+  pub forms : length (walk (rotation t) s) < sizeForms
   pub coords : 3 * length (walk (rotation t) s) + 2 < sizeCoords
 
 -- the path has a piece for each step, and Close
@@ -92,12 +92,12 @@ unfolding pathFrom
 path-length t points lifts s = rw (length-append, length-map)
 
 path-room : {t : List ℕ} {points lifts : List ℤ} {s m c : ℕ} → PathRoom t points lifts s m c
-    → (length (text kindsOf (pathFrom t points lifts s)) ≤ m) × (length (text floatsOf (pathFrom t points lifts s)) ≤ c)
+    → (length (text formsOf (pathFrom t points lifts s)) ≤ m) × (length (text floatsOf (pathFrom t points lifts s)) ≤ c)
 path-room {t} {points} {lifts} {s} h =
-    let a = h .kinds in
+    let a = h .forms in
     let b = h .coords in
     let l = path-length t points lifts s in
-    let d = kinds-length (pathFrom t points lifts s) in
+    let d = forms-length (pathFrom t points lifts s) in
     let e = floats-length (pathFrom t points lifts s) in
     (omega arith, omega arith)
 
@@ -116,28 +116,28 @@ walk-more {t} {s} w =
     rw (walk-run R s p (walk-period-le R L s low p), run-length (step R) s (p .steps)) few
 
 -- the pieces of a walk's steps, r of them, written
-pub record Laid (t : List ℕ) (points lifts : List ℤ) (s : ℕ) (kinds₀ : List ℕ) (coords₀ : List Float) (r : ℕ) (kinds : List ℕ) (coords : List Float) : Type 0 where
+pub record Laid (t : List ℕ) (points lifts : List ℤ) (s : ℕ) (forms₀ : List ℕ) (coords₀ : List Float) (r : ℕ) (forms : List ℕ) (coords : List Float) : Type 0 where
   pub count : r ≡ length (walk (rotation t) s)
-  pub kinds-laid : kinds ≡ sets kinds₀ 0 (text kindsOf (map (pieceOn t points lifts) (walk (rotation t) s)))
+  pub forms-laid : forms ≡ sets forms₀ 0 (text formsOf (map (pieceOn t points lifts) (walk (rotation t) s)))
   pub coords-laid : coords ≡ sets coords₀ 0 (text floatsOf (map (pieceOn t points lifts) (walk (rotation t) s)))
 
 -- the loop over the walk
-pub record Laying (t : List ℕ) (points lifts : List ℤ) (s at n : ℕ) (kinds₀ : List ℕ) (coords₀ : List Float) (kinds : List ℕ) (coords : List Float) : Type 0 where
+pub record Laying (t : List ℕ) (points lifts : List ℤ) (s at n : ℕ) (forms₀ : List ℕ) (coords₀ : List Float) (forms : List ℕ) (coords : List Float) : Type 0 where
   pub walking : Walking t s n at
-  pub room : PathRoom t points lifts s (length kinds₀) (length coords₀)
-  pub kinds-laid : kinds ≡ sets kinds₀ 0 (text kindsOf (piecesBefore t points lifts s n))
+  pub room : PathRoom t points lifts s (length forms₀) (length coords₀)
+  pub forms-laid : forms ≡ sets forms₀ 0 (text formsOf (piecesBefore t points lifts s n))
   pub coords-laid : coords ≡ sets coords₀ 0 (text floatsOf (piecesBefore t points lifts s n))
 
-pub laying-none : {t : List ℕ} {points lifts : List ℤ} {s : ℕ} {kinds : List ℕ} {coords : List Float} → PathRoom t points lifts s (length kinds) (length coords)
-    → Laying t points lifts s s 0 kinds coords kinds coords
+pub laying-none : {t : List ℕ} {points lifts : List ℤ} {s : ℕ} {forms : List ℕ} {coords : List Float} → PathRoom t points lifts s (length forms) (length coords)
+    → Laying t points lifts s s 0 forms coords forms coords
 unfolding iterates text
-laying-none k = record { walking = walking-none (k .lent .stands); room = k; kinds-laid = refl; coords-laid = refl }
+laying-none k = record { walking = walking-none (k .lent .stands); room = k; forms-laid = refl; coords-laid = refl }
 
 before-length : (t : List ℕ) (points lifts : List ℤ) (s n : ℕ) → length (piecesBefore t points lifts s n) ≡ n
 before-length t points lifts s n = length-map (iterates (step (rotation t)) s n) (pieceOn t points lifts) ∙ run-length (step (rotation t)) s n
 
-module _ {t : List ℕ} {points lifts : List ℤ} {s at n : ℕ} {kinds₀ : List ℕ} {coords₀ : List Float} {kinds : List ℕ} {coords : List Float}
-    (k : Laying t points lifts s at n kinds₀ coords₀ kinds coords) where
+module _ {t : List ℕ} {points lifts : List ℤ} {s at n : ℕ} {forms₀ : List ℕ} {coords₀ : List Float} {forms : List ℕ} {coords : List Float}
+    (k : Laying t points lifts s at n forms₀ coords₀ forms coords) where
   pub laying-lent : Lent t points lifts at
   laying-lent = record { stands = k .walking .there; points-size = k .room .lent .points-size; lifts-size = k .room .lent .lifts-size }
 
@@ -148,78 +148,78 @@ module _ {t : List ℕ} {points lifts : List ℤ} {s at n : ℕ} {kinds₀ : Lis
     | fails e ↦ e
   ]
 
-  kinds-size : length kinds ≡ length kinds₀
-  kinds-size = ap length (k .kinds-laid) ∙ length-sets kinds₀ 0 (text kindsOf (piecesBefore t points lifts s n))
+  forms-size : length forms ≡ length forms₀
+  forms-size = ap length (k .forms-laid) ∙ length-sets forms₀ 0 (text formsOf (piecesBefore t points lifts s n))
 
   coords-size : length coords ≡ length coords₀
   coords-size = ap length (k .coords-laid) ∙ length-sets coords₀ 0 (text floatsOf (piecesBefore t points lifts s n))
 
-  pub laying-room : (n < length kinds) × (3 * n + 2 < length coords)
+  pub laying-room : (n < length forms) × (3 * n + 2 < length coords)
   laying-room =
       let few = walk-more (k .walking) in
-      let a = k .room .kinds in
+      let a = k .room .forms in
       let b = k .room .coords in
-      let c = kinds-size in
+      let c = forms-size in
       let d = coords-size in
       (omega arith, omega arith)
 
   -- a piece more
-  module _ {p : Piece} (q : p ≡ pieceOn t points lifts at) {kinds′ : List ℕ} {coords′ : List Float} (w : PieceWritten n p kinds coords kinds′ coords′) where
+  module _ {p : Piece} (q : p ≡ pieceOn t points lifts at) {forms′ : List ℕ} {coords′ : List Float} (w : PieceWritten n p forms coords forms′ coords′) where
     before-more : piecesBefore t points lifts s n ++ (p ∷ []) ≡ piecesBefore t points lifts s (n + 1)
     before-more =
         let f = step (rotation t) in
         sym (rw (add-one, run-suc, k .walking .along .here, map-append (pieceOn t points lifts) (iterates f s n) (at ∷ []), q))
 
-    kinds-more : kinds′ ≡ sets kinds₀ 0 (text kindsOf (piecesBefore t points lifts s (n + 1)))
-    kinds-more =
+    forms-more : forms′ ≡ sets forms₀ 0 (text formsOf (piecesBefore t points lifts s (n + 1)))
+    forms-more =
         let l = piecesBefore t points lifts s n in
-        rw (← before-more) (laid-more kindsOf l p kinds₀ (k .kinds-laid) (kinds-length l ∙ before-length t points lifts s n) (w .kind))
+        rw (← before-more) (laid-more formsOf l p forms₀ (k .forms-laid) (forms-length l ∙ before-length t points lifts s n) (w .form))
 
     coords-more : coords′ ≡ sets coords₀ 0 (text floatsOf (piecesBefore t points lifts s (n + 1)))
     coords-more =
         let l = piecesBefore t points lifts s n in
         rw (← before-more) (laid-more floatsOf l p coords₀ (k .coords-laid) (floats-length l ∙ ap (λ m. 3 * m) (before-length t points lifts s n)) (w .floats))
 
-    pub laying-more : {next : ℕ} → next ≡ step (rotation t) at → next ≢ s → Laying t points lifts s next (n + 1) kinds₀ coords₀ kinds′ coords′
-    laying-more e b = record { walking = walking-more (k .walking) e b; room = k .room; kinds-laid = kinds-more; coords-laid = coords-more }
+    pub laying-more : {next : ℕ} → next ≡ step (rotation t) at → next ≢ s → Laying t points lifts s next (n + 1) forms₀ coords₀ forms′ coords′
+    laying-more e b = record { walking = walking-more (k .walking) e b; room = k .room; forms-laid = forms-more; coords-laid = coords-more }
 
-    pub laying-all : {next : ℕ} → next ≡ step (rotation t) at → next ≡ s → Laid t points lifts s kinds₀ coords₀ (n + 1) kinds′ coords′
+    pub laying-all : {next : ℕ} → next ≡ step (rotation t) at → next ≡ s → Laid t points lifts s forms₀ coords₀ (n + 1) forms′ coords′
     laying-all e b =
         let whole = walking-all (k .walking) e b in
-        record { count = rw whole (sym (run-length (step (rotation t)) s (n + 1))); kinds-laid = rw whole kinds-more; coords-laid = rw whole coords-more }
+        record { count = rw whole (sym (run-length (step (rotation t)) s (n + 1))); forms-laid = rw whole forms-more; coords-laid = rw whole coords-more }
 
     -- the slices keep their sizes
-    pub laying-kinds : length kinds′ ≡ length kinds₀
-    laying-kinds = ap length kinds-more ∙ length-sets kinds₀ 0 (text kindsOf (piecesBefore t points lifts s (n + 1)))
+    pub laying-forms : length forms′ ≡ length forms₀
+    laying-forms = ap length forms-more ∙ length-sets forms₀ 0 (text formsOf (piecesBefore t points lifts s (n + 1)))
 
     pub laying-coords : length coords′ ≡ length coords₀
     laying-coords = ap length coords-more ∙ length-sets coords₀ 0 (text floatsOf (piecesBefore t points lifts s (n + 1)))
 
 -- "then Close"
-module _ {t : List ℕ} {points lifts : List ℤ} {s : ℕ} {kinds₀ : List ℕ} {coords₀ : List Float} {r : ℕ} {kinds : List ℕ} {coords : List Float}
-    (h : PathRoom t points lifts s (length kinds₀) (length coords₀))
-    (k : Laid t points lifts s kinds₀ coords₀ r kinds coords) where
-  pub closing-room : (r < length kinds) × (3 * r + 2 < length coords)
+module _ {t : List ℕ} {points lifts : List ℤ} {s : ℕ} {forms₀ : List ℕ} {coords₀ : List Float} {r : ℕ} {forms : List ℕ} {coords : List Float}
+    (h : PathRoom t points lifts s (length forms₀) (length coords₀))
+    (k : Laid t points lifts s forms₀ coords₀ r forms coords) where
+  pub closing-room : (r < length forms) × (3 * r + 2 < length coords)
   closing-room =
       let walked = map (pieceOn t points lifts) (walk (rotation t) s) in
-      let a = h .kinds in
+      let a = h .forms in
       let b = h .coords in
-      let c = ap length (k .kinds-laid) ∙ length-sets kinds₀ 0 (text kindsOf walked) in
+      let c = ap length (k .forms-laid) ∙ length-sets forms₀ 0 (text formsOf walked) in
       let d = ap length (k .coords-laid) ∙ length-sets coords₀ 0 (text floatsOf walked) in
       let e = k .count in
       (omega arith, omega arith)
 
-  module _ {kinds′ : List ℕ} {coords′ : List Float} (w : PieceWritten r Close kinds coords kinds′ coords′) where
+  module _ {forms′ : List ℕ} {coords′ : List Float} (w : PieceWritten r Close forms coords forms′ coords′) where
     walked-length : length (map (pieceOn t points lifts) (walk (rotation t) s)) ≡ r
     walked-length = length-map (walk (rotation t) s) (pieceOn t points lifts) ∙ sym (k .count)
 
-    pub closing-kinds : kinds′ ≡ front (text kindsOf (pathFrom t points lifts s)) kinds₀
+    pub closing-forms : forms′ ≡ front (text formsOf (pathFrom t points lifts s)) forms₀
     unfolding pathFrom
-    closing-kinds =
+    closing-forms =
         let walked = map (pieceOn t points lifts) (walk (rotation t) s) in
         let room = path-room h in
-        laid-more kindsOf walked Close kinds₀ (k .kinds-laid) (kinds-length walked ∙ walked-length) (w .kind)
-        ∙ sets-front (text kindsOf (walked ++ (Close ∷ []))) kinds₀ (room .0)
+        laid-more formsOf walked Close forms₀ (k .forms-laid) (forms-length walked ∙ walked-length) (w .form)
+        ∙ sets-front (text formsOf (walked ++ (Close ∷ []))) forms₀ (room .0)
 
     pub closing-coords : coords′ ≡ front (text floatsOf (pathFrom t points lifts s)) coords₀
     unfolding pathFrom

@@ -1,6 +1,6 @@
 -- What the call for the float path answers, and what it leaves in the two slices, document 01, "When a call declines":
 -- "1, 2, 3, 4, 5, 6, 8, 9, with 7 tested after 4".
---     short-points, short-lifts, short-kinds, short-coords    7, for each of the four slices
+--     short-points, short-lifts, short-forms, short-coords    7, for each of the four slices
 --     many-turns, far-away, path-sized                        8; 9; or the number of pieces
 --     survey-few                                              a walk has at most as many steps as there are step words
 --     along-room                                              an accepted path has room, and words in range
@@ -34,11 +34,11 @@ use Rattle.weave.specs.Calls.{namedStep}
 use Rattle.weave.specs.laws.Calls.{there-steps}
 use Rattle.weave.specs.Ribbon.{some}
 use Rattle.floatpath.specs.declared.survey.Survey.{Survey}
-use Rattle.floatpath_pieces.specs.Path.{pointWords, liftWords, pathFrom, kindsOf, floatsOf, text, manyTurns, farStep}
+use Rattle.floatpath_pieces.specs.Path.{pointWords, liftWords, pathFrom, formsOf, floatsOf, text, manyTurns, farStep}
 use Rattle.floatpath_pieces.specs.laws.Places.{Lent}
 use Rattle.floatpath.specs.laws.Survey.{surveyOf}
-use Rattle.floatpath.specs.laws.Laying.{kinds-length, floats-length, path-length, PathRoom}
-use Rattle.floatpath.specs.PathCall.{pathAlong, pathAnswer, kindsOut, coordsOut}
+use Rattle.floatpath.specs.laws.Laying.{forms-length, floats-length, path-length, PathRoom}
+use Rattle.floatpath.specs.PathCall.{pathAlong, pathAnswer, formsOut, coordsOut}
 use Rattle.table.specs.Answers.{ifDone}
 use Rattle.table.specs.laws.Answers.{let-through}
 
@@ -59,8 +59,8 @@ module _ (t : List ℕ) (points lifts : List ℤ) (m c s : ℕ) where
       unfolding surveyOf
       pieces-are = rw e (sym (path-length t points lifts s))
 
-      kinds-are : length (text kindsOf (pathFrom t points lifts s)) ≡ v .steps + 1
-      kinds-are = kinds-length (pathFrom t points lifts s) ∙ sym pieces-are
+      forms-are : length (text formsOf (pathFrom t points lifts s)) ≡ v .steps + 1
+      forms-are = forms-length (pathFrom t points lifts s) ∙ sym pieces-are
 
       floats-are : length (text floatsOf (pathFrom t points lifts s)) ≡ 3 * (v .steps + 1)
       floats-are = floats-length (pathFrom t points lifts s) ∙ ap (λ n. 3 * n) (sym pieces-are)
@@ -73,19 +73,19 @@ module _ (t : List ℕ) (points lifts : List ℤ) (m c s : ℕ) where
       unfolding surveyOf
       far-is = sym (ap (λ u. u .far) e)
 
-      pub short-kinds : m < v .steps + 1 → Declined ShortSlice ≡ pathAlong t points lifts m c s
+      pub short-forms : m < v .steps + 1 → Declined ShortSlice ≡ pathAlong t points lifts m c s
       unfolding pathAlong
-      short-kinds h = rw (le-leb pointWords (length points) p, le-leb liftWords (length lifts) l, kinds-are, lt-leb (v .steps + 1) m h)
+      short-forms h = rw (le-leb pointWords (length points) p, le-leb liftWords (length lifts) l, forms-are, lt-leb (v .steps + 1) m h)
 
       module _ (a : v .steps + 1 ≤ m) where
         pub short-coords : c < 3 * (v .steps + 1) → Declined ShortSlice ≡ pathAlong t points lifts m c s
         unfolding pathAlong
-        short-coords h = rw (le-leb pointWords (length points) p, le-leb liftWords (length lifts) l, kinds-are, le-leb (v .steps + 1) m a, floats-are, lt-leb (3 * (v .steps + 1)) c h)
+        short-coords h = rw (le-leb pointWords (length points) p, le-leb liftWords (length lifts) l, forms-are, le-leb (v .steps + 1) m a, floats-are, lt-leb (3 * (v .steps + 1)) c h)
 
         module _ (b : 3 * (v .steps + 1) ≤ c) where
           pub many-turns : v .many ≡ true → Declined ManyTurns ≡ pathAlong t points lifts m c s
           unfolding pathAlong
-          many-turns h = rw (le-leb pointWords (length points) p, le-leb liftWords (length lifts) l, kinds-are, le-leb (v .steps + 1) m a, floats-are, le-leb (3 * (v .steps + 1)) c b, many-is, h)
+          many-turns h = rw (le-leb pointWords (length points) p, le-leb liftWords (length lifts) l, forms-are, le-leb (v .steps + 1) m a, floats-are, le-leb (3 * (v .steps + 1)) c b, many-is, h)
 
           module _ (x : v .many ≡ false) where
             pub far-away : v .far ≡ true → Declined Far ≡ pathAlong t points lifts m c s
@@ -94,7 +94,7 @@ module _ (t : List ℕ) (points lifts : List ℤ) (m c s : ℕ) where
                 rw (
                   le-leb pointWords (length points) p,
                   le-leb liftWords (length lifts) l,
-                  kinds-are,
+                  forms-are,
                   le-leb (v .steps + 1) m a,
                   floats-are,
                   le-leb (3 * (v .steps + 1)) c b,
@@ -107,7 +107,7 @@ module _ (t : List ℕ) (points lifts : List ℤ) (m c s : ℕ) where
             pub path-sized : v .far ≡ false → Done (v .steps + 1) ≡ pathAlong t points lifts m c s
             unfolding pathAlong
             path-sized h =
-                rw (le-leb pointWords (length points) p, le-leb liftWords (length lifts) l, kinds-are, le-leb (v .steps + 1) m a, floats-are, le-leb (3 * (v .steps + 1)) c b, many-is, x, far-is, h)
+                rw (le-leb pointWords (length points) p, le-leb liftWords (length lifts) l, forms-are, le-leb (v .steps + 1) m a, floats-are, le-leb (3 * (v .steps + 1)) c b, many-is, x, far-is, h)
                 (ap Done pieces-are)
 
 -- a walk has at most as many steps as there are step words
@@ -130,48 +130,48 @@ along-room {t} {s} h points lifts m c e =
     let steps = walk (rotation t) s in
     let a = let-through (leb pointWords (length points)) done-declined (sym e) in
     let b = let-through (leb liftWords (length lifts)) done-declined (a .rest) in
-    let d = let-through (leb (length (text kindsOf path)) m) done-declined (b .rest) in
+    let d = let-through (leb (length (text formsOf path)) m) done-declined (b .rest) in
     let f = let-through (leb (length (text floatsOf path)) c) done-declined (d .rest) in
     let g = let-through (not (some (manyTurns t) steps)) done-declined (f .rest) in
     let far = let-through (not (some (farStep t points lifts) steps)) done-declined (g .rest) in
     let size = path-length t points lifts s in
-    let kinds = leb-true (length (text kindsOf path)) m (d .held) in
+    let forms = leb-true (length (text formsOf path)) m (d .held) in
     let coords = leb-true (length (text floatsOf path)) c (f .held) in
-    let x = kinds-length path in
+    let x = forms-length path in
     let y = floats-length path in
     record {
       lent = record { stands = h; points-size = leb-true pointWords (length points) (a .held); lifts-size = leb-true liftWords (length lifts) (b .held) };
       near = not-true _ (far .held);
-      kinds = omega arith;
+      forms = omega arith;
       coords = omega arith;
     }
 
 -- the ends of the path from a step
 
 -- what is answered and left where the path from step s is asked for
-pub record Left (t : List ℕ) (points lifts : List ℤ) (s : ℕ) (kinds : List ℕ) (coords : List Float) (r : Answer) (kinds′ : List ℕ) (coords′ : List Float) : Type 0 where
-  pub answer : r ≡ pathAlong t points lifts (length kinds) (length coords) s
-  pub kinds-left : kinds′ ≡ ifDone (pathAlong t points lifts (length kinds) (length coords) s) (front (text kindsOf (pathFrom t points lifts s)) kinds) kinds
-  pub coords-left : coords′ ≡ ifDone (pathAlong t points lifts (length kinds) (length coords) s) (front (text floatsOf (pathFrom t points lifts s)) coords) coords
+pub record Left (t : List ℕ) (points lifts : List ℤ) (s : ℕ) (forms : List ℕ) (coords : List Float) (r : Answer) (forms′ : List ℕ) (coords′ : List Float) : Type 0 where
+  pub answer : r ≡ pathAlong t points lifts (length forms) (length coords) s
+  pub forms-left : forms′ ≡ ifDone (pathAlong t points lifts (length forms) (length coords) s) (front (text formsOf (pathFrom t points lifts s)) forms) forms
+  pub coords-left : coords′ ≡ ifDone (pathAlong t points lifts (length forms) (length coords) s) (front (text floatsOf (pathFrom t points lifts s)) coords) coords
 
-module _ {t : List ℕ} {points lifts : List ℤ} {s : ℕ} {kinds : List ℕ} {coords : List Float} {a : Answer} (e : a ≡ pathAlong t points lifts (length kinds) (length coords) s) where
-  pub left-declined : {r : Refusal} → a ≡ Declined r → Left t points lifts s kinds coords (Declined r) kinds coords
-  left-declined f = record { answer = sym f ∙ e; kinds-left = rw (← e, f); coords-left = rw (← e, f) }
+module _ {t : List ℕ} {points lifts : List ℤ} {s : ℕ} {forms : List ℕ} {coords : List Float} {a : Answer} (e : a ≡ pathAlong t points lifts (length forms) (length coords) s) where
+  pub left-declined : {r : Refusal} → a ≡ Declined r → Left t points lifts s forms coords (Declined r) forms coords
+  left-declined f = record { answer = sym f ∙ e; forms-left = rw (← e, f); coords-left = rw (← e, f) }
 
-  pub left-done : {n : ℕ} {kinds′ : List ℕ} {coords′ : List Float} → a ≡ Done n → kinds′ ≡ front (text kindsOf (pathFrom t points lifts s)) kinds
-      → coords′ ≡ front (text floatsOf (pathFrom t points lifts s)) coords → Left t points lifts s kinds coords (Done n) kinds′ coords′
-  left-done f g h = record { answer = sym f ∙ e; kinds-left = rw (← e, f) g; coords-left = rw (← e, f) h }
+  pub left-done : {n : ℕ} {forms′ : List ℕ} {coords′ : List Float} → a ≡ Done n → forms′ ≡ front (text formsOf (pathFrom t points lifts s)) forms
+      → coords′ ≡ front (text floatsOf (pathFrom t points lifts s)) coords → Left t points lifts s forms coords (Done n) forms′ coords′
+  left-done f g h = record { answer = sym f ∙ e; forms-left = rw (← e, f) g; coords-left = rw (← e, f) h }
 
 -- the ends of the call
 
-module _ (t : List ℕ) (d k : ℕ) (points lifts : List ℤ) (kinds : List ℕ) (coords : List Float) {n : Named} (e : n ≡ namedStep t d k) where
+module _ (t : List ℕ) (d k : ℕ) (points lifts : List ℤ) (forms : List ℕ) (coords : List Float) {n : Named} (e : n ≡ namedStep t d k) where
   pub path-refused : {r : Refusal} → n ≡ Refused r
-      → (Declined r ≡ pathAnswer t d k points lifts (length kinds) (length coords))
-      × (kinds ≡ kindsOut t d k points lifts kinds coords) × (coords ≡ coordsOut t d k points lifts kinds coords)
+      → (Declined r ≡ pathAnswer t d k points lifts (length forms) (length coords))
+      × (forms ≡ formsOut t d k points lifts forms coords) × (coords ≡ coordsOut t d k points lifts forms coords)
   path-refused f = rw (← e, f) (refl, refl, refl)
 
-  pub path-left : {s : ℕ} {r : Answer} {kinds′ : List ℕ} {coords′ : List Float} → n ≡ There s → Left t points lifts s kinds coords r kinds′ coords′
-      → (r ≡ pathAnswer t d k points lifts (length kinds) (length coords)) × (kinds′ ≡ kindsOut t d k points lifts kinds coords) × (coords′ ≡ coordsOut t d k points lifts kinds coords)
+  pub path-left : {s : ℕ} {r : Answer} {forms′ : List ℕ} {coords′ : List Float} → n ≡ There s → Left t points lifts s forms coords r forms′ coords′
+      → (r ≡ pathAnswer t d k points lifts (length forms) (length coords)) × (forms′ ≡ formsOut t d k points lifts forms coords) × (coords′ ≡ coordsOut t d k points lifts forms coords)
   path-left f l =
       let word = there-steps t d k (sym f ∙ e) .word in
-      rw (← e, f, ← word) (l .answer, l .kinds-left, l .coords-left)
+      rw (← e, f, ← word) (l .answer, l .forms-left, l .coords-left)

@@ -21,7 +21,7 @@ use mir.Facts.{toZ-ofZ}
 use borrow.Author.Tests.{eqb-true, eq-eqb}
 use Rattle.orbits.specs.laws.Truth.{truth, holds, fails, both-left, both-right}
 use Rattle.table.specs.Rotation.{rotation}
-use Rattle.table.specs.laws.Answers.{done-declined}
+use Rattle.table.specs.laws.Output.{done-declined}
 use Rattle.table.specs.declared.answer.Answer.the-variants.{Done, Declined}
 use Rattle.table.specs.declared.answer.Refusal.{Refusal}
 use Rattle.table.specs.declared.answer.Refusal.the-variants.{StaleForecast}
@@ -119,7 +119,7 @@ module _ (t : List ℕ) (E : Edit) where
 
   pub ask-refuses : (r : Refusal) → (ask t E ≡ Refused r) ↔ (answer t E ≡ Declined r)
   ask-refuses r = elim (judged (verdict t E)) [
-    | passed p ↦ (λ e. absurd (unlike (sym e ∙ ask-passes p)), λ e. absurd (done-declined (sym (answer-passes t E p) ∙ e)))
+    | passed p ↦ (λ e. absurd (unlike (sym e ∙ ask-passes p)), λ e. absurd (done-declined (sym e ∙ answer-passes t E p)))
     | declined s p ↦ (
       λ e. answer-declines t E s p ∙ ap Declined (same-refused (sym (ask-declines s p) ∙ e)),
       λ e. ask-declines s p ∙ ap Refused (same-declined (sym (answer-declines t E s p) ∙ e)),

@@ -10,13 +10,13 @@ use Rattle.tracing.specs.Listing.{faceCount}
 use Rattle.edits.specs.Verdicts.{verdict}
 use Rattle.edits.specs.Edits.{written}
 use Rattle.edits.specs.laws.Edits.{answer-passes}
-use Rattle.edits.specs.Rules.{ruleOf, withRule, reply, ruleNumber, numberMet}
+use Rattle.edits.specs.Rules.{ruleOf, facesAfter, withRule, reply, ruleNumber, numberMet}
 use Rattle.edits.specs.declared.edit.Edit.{Edit}
 use Rattle.edits.specs.declared.edit.Verdict.the-variants.{Passes, Declines}
 use Rattle.edits.specs.declared.rule.Rule.{Rule}
 use Rattle.edits.specs.declared.rule.Reply.{Reply}
 use Rattle.edits.specs.declared.rule.Reply.the-variants as reply
-use Rattle.edits_rule.specs.laws.Rule.{facesAfter, ruled-reply}
+use Rattle.edits_rule.specs.laws.Rule.{ruled-reply}
 use Rattle.forecasts.specs.declared.forecast.Asked.{Asked}
 use Rattle.forecasts.specs.declared.forecast.Asked.the-variants.{Foretold, Refused}
 use Rattle.forecasts.specs.Forecast.{forecast, ask}

@@ -28,10 +28,10 @@ use Rattle.records.specs.Reading.{reading, readUpTo, ended, readsOn}
 use Rattle.records.specs.laws.Reading.{joined, reading-bounds}
 use Rattle.records.specs.Lines.{lines}
 use Rattle.records.specs.laws.Lines.{lines-few}
-use Rattle.records.specs.Blocks.{left}
+use Rattle.records.specs.Blocks.{left, blockOf}
 use Rattle.records.specs.laws.Blocks.{left-some, reading-left, left-again, left-few, lines-blocks, run-blocks}
 use Rattle.records.specs.laws.Running.{Ready}
-use Rattle.records.specs.laws.Moving.{blockOf, block-fits}
+use Rattle.records.specs.laws.Moving.{block-fits}
 use Rattle.job.specs.declared.Progress.{Progress}
 use Rattle.job.specs.Job.{goesOn, afterBlock, Turn, came, failed, Over, nothing-came, stopped, so-many, Read}
 

@@ -1,8 +1,8 @@
 -- The cut length belongs to the face: it depends neither on the step that names the ribbon nor on the sense in which the face is traced.
 -- It is bounded, and an isolated vertex has none.
---     saw-named, saw-mirror      any step of the ribbon may name it; and either sense
---     saw-most                   the longest that a cut length can be
---     cut-named, cut-mirror      the same of what the call answers
+--     cut-named, cut-mirror      any step of the ribbon may name it; and either sense
+--     cut-most                   the longest that a cut length can be
+--     answer-named, answer-mirror  the same of what the call answers
 --     lone-none                  an isolated vertex yields no ribbon
 --     some-total                 one of a list passes a test exactly if their number is not 0
 --     length-back, taken-back    the way back along an edge takes as much
@@ -37,8 +37,8 @@ use Rattle.weave.specs.declared.named.Named.the-variants.{There, Refused}
 use Rattle.weave.specs.Calls.{namedStep}
 use Rattle.weave.specs.laws.Calls.{there-steps}
 use Rattle.weave_letters.specs.laws.Counts.{overs-back}
-use Rattle.lengths.specs.CutLength.{lengthOf, takenBy, lap, sawLength, cutLengthBy, cutLengthOf}
-use Rattle.lengths.specs.laws.Summing.{saw-total, takenMost, taken-most}
+use Rattle.lengths.specs.CutLength.{lengthOf, takenBy, lap, cutLength, cutLengthBy, cutLengthOf}
+use Rattle.lengths.specs.laws.Summing.{cut-total, takenMost, taken-most}
 
 -- one passes exactly if a number of them does
 pub some-total : (q : ℕ → Bool) (l : List ℕ) → some q l ≡ ltb 0 (total (λ x. bit (q x)) l)
@@ -71,25 +71,25 @@ module _ (t : List ℕ) (g : Good t) where
 
   -- any step of the ribbon may name it
 
-  pub saw-named : (s x : ℕ) → s < steps → has x (walk R s) ≡ true → sawLength t s ≡ sawLength t x
-  saw-named s x h e = saw-total t s ∙ ap (λ n. n + lap) (total-named R L (takenBy t) s x h e) ∙ sym (saw-total t x)
+  pub cut-named : (s x : ℕ) → s < steps → has x (walk R s) ≡ true → cutLength t s ≡ cutLength t x
+  cut-named s x h e = cut-total t s ∙ ap (λ n. n + lap) (total-named R L (takenBy t) s x h e) ∙ sym (cut-total t x)
 
   -- and either sense
 
-  pub saw-mirror : (s : ℕ) → s < steps → sawLength t s ≡ sawLength t (mirror R s)
-  saw-mirror s h =
-      saw-total t s ∙ ap (λ n. n + lap) (total-mirror R L (takenBy t) (taken-back t) s h) ∙ sym (saw-total t (mirror R s))
+  pub cut-mirror : (s : ℕ) → s < steps → cutLength t s ≡ cutLength t (mirror R s)
+  cut-mirror s h =
+      cut-total t s ∙ ap (λ n. n + lap) (total-mirror R L (takenBy t) (taken-back t) s h) ∙ sym (cut-total t (mirror R s))
 
   -- "any cut length": at most 2,048 steps, each of the longest edge with 99 O's, and the lap
-  pub saw-most : (s : ℕ) → live? t (s / 2) ≡ true → sawLength t s ≤ 135838016
+  pub cut-most : (s : ℕ) → live? t (s / 2) ≡ true → cutLength t s ≤ 135838016
   unfolding edgeCount
-  saw-most s live =
+  cut-most s live =
       let start : Stands t s = record { good = g; live = live } in
       let low = stands-low start in
       let few = walk-bound R L s low live in
       let all = count-le (λ e. R .live (2 * e)) edges in
       let sum = total-most (takenBy t) takenMost (walk R s) (λ x e. taken-most (walk-stands start e)) in
-      let whole = saw-total t s in
+      let whole = cut-total t s in
       omega arith
 
 -- what the call answers, from any step of the ribbon, and from either sense
@@ -98,14 +98,14 @@ module _ (t : List ℕ) (d k d′ k′ : ℕ) {s x : ℕ} (a : namedStep t d k �
   stands : Stands t s
   stands = there-steps t d k (sym a) .stands
 
-  same-call : sawLength t s ≡ sawLength t x → cutLengthOf t d k ≡ cutLengthOf t d′ k′
+  same-call : cutLength t s ≡ cutLength t x → cutLengthOf t d k ≡ cutLengthOf t d′ k′
   same-call e = ap (cutLengthBy t) a ∙ ap Done e ∙ sym (ap (cutLengthBy t) b)
 
-  pub cut-named : has x (walk (rotation t) s) ≡ true → cutLengthOf t d k ≡ cutLengthOf t d′ k′
-  cut-named e = same-call (saw-named t (stands .good) s x (stands-low stands) e)
+  pub answer-named : has x (walk (rotation t) s) ≡ true → cutLengthOf t d k ≡ cutLengthOf t d′ k′
+  answer-named e = same-call (cut-named t (stands .good) s x (stands-low stands) e)
 
-  pub cut-mirror : x ≡ mirror (rotation t) s → cutLengthOf t d k ≡ cutLengthOf t d′ k′
-  cut-mirror e = same-call (saw-mirror t (stands .good) s (stands-low stands) ∙ ap (sawLength t) (sym e))
+  pub answer-mirror : x ≡ mirror (rotation t) s → cutLengthOf t d k ≡ cutLengthOf t d′ k′
+  answer-mirror e = same-call (cut-mirror t (stands .good) s (stands-low stands) ∙ ap (cutLength t) (sym e))
 
 -- "An isolated vertex still yields no ribbon": a dart that has a cut length does not leave one, and is not the corner of one
 pub lone-none : (t : List ℕ) (d k n : ℕ) → cutLengthOf t d k ≡ Done n → (v : ℕ) → alone? t v ≡ true → (leaves t d ≢ v) × (d ≢ loneCorner v)

@@ -1,5 +1,5 @@
 -- The loop that sums the lengths along a walk: what it knows, and how it ends.
---     saw-total                                                the cut length is what the steps take up, and the lap
+--     cut-total                                                the cut length is what the steps take up, and the lap
 --     takenBefore, takenMost, taken-most                       what the first n steps take up; the most that one step does
 --     length-most                                              the length of an edge on the way
 --     Summing                                                  the loop that sums what the steps take up
@@ -31,7 +31,7 @@ use Rattle.weave.specs.Ribbon.{some}
 use Rattle.weave.specs.laws.Ribbon.{passes-some}
 use Rattle.weave_letters.specs.laws.Crossing.{EdgeWord}
 use Rattle.weave_letters.specs.laws.Counts.{letters-few, overs-step}
-use Rattle.lengths.specs.CutLength.{lengthOf, cutLength, overAllowance, takenBy, lap, sawLength}
+use Rattle.lengths.specs.CutLength.{lengthOf, stripLength, overAllowance, takenBy, lap, cutLength}
 
 -- a step that passes a test, met on the way, is one of the walk's
 pub walk-some : {t : List ℕ} {s n at : ℕ} → Walking t s n at → (q : ℕ → Bool) → q at ≡ true → some q (walk (rotation t) s) ≡ true
@@ -45,17 +45,17 @@ walk-some {t} {s} {n} {at} w q e =
 
 -- the cut length is what the steps take up, and the lap
 
-taken-total : (t l : List ℕ) → cutLength t l + overAllowance (gather (stepLetters t) l) ≡ total (takenBy t) l
-unfolding cutLength gather countIn total
+taken-total : (t l : List ℕ) → stripLength t l + overAllowance (gather (stepLetters t) l) ≡ total (takenBy t) l
+unfolding stripLength gather countIn total
 taken-total t [] = refl
 taken-total t (s ∷ l) =
     let r = taken-total t l in
     let overs = countIn-append (λ y. eqb over y) (stepLetters t s) (gather (stepLetters t) l) in
     omega arith
 
-pub saw-total : (t : List ℕ) (s : ℕ) → sawLength t s ≡ total (takenBy t) (walk (rotation t) s) + lap
-unfolding sawLength letters
-saw-total t s = ap (λ n. n + lap) (taken-total t (walk (rotation t) s))
+pub cut-total : (t : List ℕ) (s : ℕ) → cutLength t s ≡ total (takenBy t) (walk (rotation t) s) + lap
+unfolding cutLength letters
+cut-total t s = ap (λ n. n + lap) (taken-total t (walk (rotation t) s))
 
 -- the length of an edge on the way
 pub length-most : {t : List ℕ} {x : ℕ} → Stands t x → lengthOf t x ≤ longest
@@ -111,5 +111,5 @@ module _ {t : List ℕ} {s at sum : ℕ} (k : Summing t s at sum) where
       most = most-more;
     }
 
-    pub summing-all : {next : ℕ} → next ≡ step (rotation t) at → next ≡ s → more + lap ≡ sawLength t s
-    summing-all e b = rw (saw-total t s, walking-all (k .walking) e b) (ap (λ n. n + lap) total-more)
+    pub summing-all : {next : ℕ} → next ≡ step (rotation t) at → next ≡ s → more + lap ≡ cutLength t s
+    summing-all e b = rw (cut-total t s, walking-all (k .walking) e b) (ap (λ n. n + lap) total-more)

@@ -40,7 +40,7 @@ use Rattle.reader_tally.specs.declared.tally.Tallied.the-variants.{Brought, Kep
 use Rattle.reader.specs.declared.walk.Stepped.{Stepped}
 use Rattle.reader_tally.specs.Forward.{stepTally, tallyOf}
 use Rattle.reader_tally.specs.laws.Forward.{brought-is, kept-is}
-use Rattle.reader.specs.Reader.{beginBy, beginOf, wordAt, stepAt, isStep, placed, stays, endsAt, goesOn, steppedBy, tallyAt, stepBy, stepOf, EachStep}
+use Rattle.reader.specs.Reader.{beginBy, beginOf, wordAt, stepAt, isStep, placed, stays, endsAt, movedTo, steppedBy, tallyAt, stepBy, stepOf, EachStep}
 
 -- "Every step declines as the making of the reader would"
 pub placed-begun : (t : List ℕ) (s : Step) → placed t s s ≡ namedStep t (s .dart) (s .kind)
@@ -182,7 +182,7 @@ module _ (t : List ℕ) (y : Tally) (at first : Step) (b : beginOf t (first .dar
 
 -- the ends of a step
 
-pub moved-on : (next : ℕ) (first : Step) (z : Tally) {end : Bool} → end ≡ endsAt next first → record { answer = Done (bit end); at = stepAt next; tally = z } ≡ goesOn next first z
+pub moved-on : (next : ℕ) (first : Step) (z : Tally) {end : Bool} → end ≡ endsAt next first → record { answer = Done (bit end); at = stepAt next; tally = z } ≡ movedTo next first z
 moved-on next first z e = ap (λ b. record { answer = Done (bit b); at = stepAt next; tally = z }) e
 
 module _ (t : List ℕ) (at first : Step) (y : Tally) {n : Named} (e : n ≡ placed t at first) where
@@ -198,8 +198,8 @@ module _ (t : List ℕ) (at first : Step) (y : Tally) {n : Named} (e : n ≡ pla
     pub step-kept : {r : Refusal} {q : Stepped} → m ≡ Kept r → q ≡ stays at y r → q ≡ stepOf t at first y
     step-kept k i = i ∙ sym (ap (steppedBy t at first y s) k) ∙ stepped
 
-    pub step-moved : {z : Tally} {q : Stepped} → m ≡ Brought z → q ≡ goesOn next first z → q ≡ stepOf t at first y
-    step-moved {z} k i = i ∙ ap (λ x. goesOn x first z) h ∙ sym (ap (steppedBy t at first y s) k) ∙ stepped
+    pub step-moved : {z : Tally} {q : Stepped} → m ≡ Brought z → q ≡ movedTo next first z → q ≡ stepOf t at first y
+    step-moved {z} k i = i ∙ ap (λ x. movedTo x first z) h ∙ sym (ap (steppedBy t at first y s) k) ∙ stepped
 
 -- a step goes on, or it leaves the reader and the tally as they were
 data Settled (at : Step) (y : Tally) (q : Stepped) : Type 0 where

@@ -12,9 +12,9 @@ use Rattle.reader.specs.declared.standing.Standing.{Standing}
 use Rattle.reader_tally.specs.declared.tally.Tally.{Tally}
 use Rattle.reader.specs.declared.walk.Stepped.{Stepped}
 use Rattle.reader.specs.Reader.{stepOf}
-use Rattle.reader.specs.Standing.{atOf, startOf, standsAt, called, calledOf}
+use Rattle.reader.specs.Standing.{atOf, startOf, standsAt, calledBy, calledOf}
 
 pub called-on : {q : Stepped} {z : ℤ} (t : List ℕ) (r : Standing) (y : Tally)
     → mag z < 2 ^ 63 → z ≡ codeOf (q .answer) → q ≡ stepOf t (atOf r) (startOf r) y
     → record { code = toZ w64 (ofZ w64 z); reader = standsAt (q .at) r; tally = q .tally } ≡ calledOf t r y
-called-on {q} t r y h e f = ap (λ c. record { code = c; reader = standsAt (q .at) r; tally = q .tally }) (handed-on h e) ∙ ap (called r) f
+called-on {q} t r y h e f = ap (λ c. record { code = c; reader = standsAt (q .at) r; tally = q .tally }) (handed-on h e) ∙ ap (calledBy r) f

@@ -37,14 +37,14 @@ use Rattle.weave.specs.Ribbon.{some}
 use Rattle.weave.specs.Calls.{namedStep}
 use Rattle.weave.specs.laws.Calls.{there-steps}
 use Rattle.lengths.specs.CutLength.{takenBy, lap, cutLengthBy, cutLengthOf}
-use Rattle.lengths.specs.laws.Summing.{saw-total, takenBefore, takenMost, taken-most}
+use Rattle.lengths.specs.laws.Summing.{cut-total, takenBefore, takenMost, taken-most}
 use Rattle.reader.specs.declared.place.Step.{Step}
 use Rattle.reader_tally.specs.declared.tally.Tally.{Tally}
 use Rattle.tracing.specs.Met.{times, countIn, total}
 use Rattle.tracing.specs.laws.Has.{countIn-append}
 use Rattle.reader_tally.specs.Forward.{past32, fits32, forwardOf, lapAt, stepTally, tallyOf}
 use Rattle.reader_tally.specs.laws.Forward.{lap-most}
-use Rattle.reader.specs.Reader.{beginOf, wordAt, stepAt, endsAt, goesOn, stepBy, stepOf}
+use Rattle.reader.specs.Reader.{beginOf, wordAt, stepAt, endsAt, movedTo, stepBy, stepOf}
 use Rattle.reader.specs.laws.Reader.{in-range, placed-there, begun-named, begun-placed}
 use Rattle.reader.specs.Walked.{stepsFrom, afterSteps, handed, Walked}
 
@@ -59,7 +59,7 @@ module _ (t : List ℕ) (first : Step) (start : Stands t (wordAt first)) (type :
 
   -- one step that is not declined
   one-step : (x : ℕ) (y : Tally) → Stands t x → fits32 (stepTally t x (endsAt (f x) first) y) ≡ true
-      → stepOf t (stepAt x) first y ≡ goesOn (f x) first (stepTally t x (endsAt (f x) first) y)
+      → stepOf t (stepAt x) first y ≡ movedTo (f x) first (stepTally t x (endsAt (f x) first) y)
   unfolding tallyOf forwardOf
   one-step x y h fits =
       let half : s / 2 ≡ first .dart = omega arith in
@@ -155,14 +155,14 @@ module _ (t : List ℕ) (first : Step) (start : Stands t (wordAt first)) (type :
         )
 
     -- one step more is not declined
-    reads-step : afterSteps t first (suc n) ≡ goesOn (f x) first (tallied (suc n))
+    reads-step : afterSteps t first (suc n) ≡ movedTo (f x) first (tallied (suc n))
     unfolding stepsFrom
     reads-step =
         let last = end-at n low in
         ap₂ (λ a y. stepOf t a first y) (k .at) (k .tally)
         ∙ one-step x (tallied n) there (ap (λ b. fits32 (stepTally t x b (tallied n))) last ∙ tally-fits)
-        ∙ ap (λ b. goesOn (f x) first (stepTally t x b (tallied n))) last
-        ∙ ap (goesOn (f x) first) tally-suc
+        ∙ ap (λ b. movedTo (f x) first (stepTally t x b (tallied n))) last
+        ∙ ap (movedTo (f x) first) tally-suc
 
     reads-more : Reads (suc n)
     unfolding handed
@@ -204,7 +204,7 @@ module _ (t : List ℕ) (first : Step) (start : Stands t (wordAt first)) (type :
             rw size-is
             (ap (λ r. r .answer) (reads-step n (reads n (omega arith)) l) ∙ ap (λ b. Done (bit b)) (end-at n l));
         again = rw size-is (last .at ∙ ap stepAt (p .back) ∙ sym first-at);
-        tally = rw (size-is, saw-total t s, all) (rw lap-is at (last .tally));
+        tally = rw (size-is, cut-total t s, all) (rw lap-is at (last .tally));
       }
 
 -- a step that a reader can be made at

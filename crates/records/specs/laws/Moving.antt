@@ -1,5 +1,4 @@
 -- A block of a job's bytes, as the code takes it: what is left of it is moved to the front.
---     blockOf                                 what the code answers for a block
 --     BlockFits, block-fits                   few bytes are left, the records are few, the lines have room
 --     Moving                                  the loop that moves bytes to the front
 --     moving-none, moving-more, moving-all    it begins, goes on, ends
@@ -21,19 +20,10 @@ use Rattle.records.specs.Reading.{reading, readsOn}
 use Rattle.records.specs.laws.Reading.{reading-bounds}
 use Rattle.records.specs.Lines.{lines}
 use Rattle.records.specs.laws.Lines.{lines-few}
-use Rattle.records.specs.Blocks.{left}
+use Rattle.records.specs.Blocks.{left, ranOf, blockOf}
 use Rattle.records.specs.laws.Blocks.{left-none, left-some, left-few}
-use Rattle.records.specs.laws.Running.{Ready, ran}
+use Rattle.records.specs.laws.Running.{Ready}
 use Rattle.table.specs.laws.Front.{Front, front-none, front-more}
-
--- what the code answers
-abbrev pub blockOf : List ℕ → ℕ → List ℕ → Block
-blockOf t number s = record {
-  left = length (left s);
-  next = number + length (reading s .edits);
-  written = length (lines t number (reading s .edits));
-  stop = reading s .stop;
-}
 
 -- what a caller can count on: few bytes are left, so there is room for more; the records are not more than the bytes; the lines have room
 pub record BlockFits (number : ℕ) (s out : List ℕ) (b : Block) : Type 0 where
@@ -101,7 +91,7 @@ drop-take (suc a) zero l = ap (λ k. take k (drop (suc a) l)) (sym (zero-sub (su
 drop-take (suc a) (suc n) [] = sym (take-nil (suc n - suc a))
 drop-take (suc a) (suc n) (x ∷ l) = drop-take a n l ∙ ap (λ k. take k (drop a l)) (sym (suc-sub-suc n a))
 
-module _ (t : List ℕ) (number : ℕ) (buf : List ℕ) (n : ℕ) {r : Ran} (e : r ≡ ran t number (take n buf)) where
+module _ (t : List ℕ) (number : ℕ) (buf : List ℕ) (n : ℕ) {r : Ran} (e : r ≡ ranOf t number (take n buf)) where
   pub block-bad : {on : Bool} → on ≡ readsOn (r .stop) → on ≡ false
       → (record { left = 0; next = r .next; written = r .written; stop = r .stop } ≡ blockOf t number (take n buf)) × (buf ≡ sets buf 0 (left (take n buf)))
   block-bad g h =

@@ -1,5 +1,5 @@
 -- Records run over a table, as the code does it: what its loop knows.
---     Ready, ran                                             what the code asks; what it answers
+--     Ready                                                  what the code asks
 --     line-done, line-declined                               the line of one edit: none, or its refusal
 --     stop-none, stop-bad, stop-cut                          the line of a reading that ended
 --     Running                                                the loop: the edits of the first `at` bytes are done
@@ -30,6 +30,7 @@ use Rattle.records.specs.Records.{firstRecord}
 use Rattle.records.specs.Reading.{reading, ended, after}
 use Rattle.records.specs.laws.Reading.{joined, joined-none, joined-after, joined-ended, reading-stopped, reading-record, record-sized}
 use Rattle.records.specs.Lines.{noLine, stopLine, editLine, lines}
+use Rattle.records.specs.Blocks.{ranOf}
 use Rattle.records.specs.laws.Lines.{lines-append, lines-one, lines-few}
 use Rattle.text.specs.Paste.{Pasted}
 
@@ -38,12 +39,6 @@ pub record Ready (number : ℕ) (s out : List ℕ) : Type 0 where
   pub count : number + length s < 2 ^ 64
   pub few : length s ≤ 2 ^ 32
   pub room : 7 * length s ≤ length out
-
--- what it answers
-abbrev pub ran : List ℕ → ℕ → List ℕ → Ran
-ran t number s =
-    let r = reading s in
-    record { taken = r .taken; next = number + length (r .edits); written = length (lines t number (r .edits)); stop = r .stop }
 
 -- the line of one edit, by its answer
 module _ (t : List ℕ) (n : ℕ) (E : Edit) {a : Answer} (e : a ≡ answer t E) where
@@ -161,7 +156,7 @@ module _ {t₀ s : List ℕ} {number : ℕ} {out₀ t : List ℕ} {at next end :
     all-read : reading s ≡ record { edits = k .so-far; taken = at; stop = x }
     all-read = k .read ∙ ap (joined (record { edits = k .so-far; taken = at; stop = End })) e ∙ joined-ended (k .so-far) at x
 
-    running-all : (record { taken = at; next = next; written = end; stop = x } ≡ ran t₀ number s)
+    running-all : (record { taken = at; next = next; written = end; stop = x } ≡ ranOf t₀ number s)
         × (t ≡ run t₀ (reading s .edits))
         × (out ≡ sets out₀ 0 (lines t₀ number (reading s .edits)))
     running-all =
@@ -170,7 +165,7 @@ module _ {t₀ s : List ℕ} {number : ℕ} {out₀ t : List ℕ} {at next end :
 
   module _ {f : Found} (e : f ≡ firstRecord (take (length s - at) (drop at s))) where
     pub running-stopped : {x : Stop} → f ≡ Stopped x
-        → (record { taken = at; next = next; written = end; stop = x } ≡ ran t₀ number s)
+        → (record { taken = at; next = next; written = end; stop = x } ≡ ranOf t₀ number s)
         × (t ≡ run t₀ (reading s .edits))
         × (out ≡ sets out₀ 0 (lines t₀ number (reading s .edits)))
     running-stopped {x} q = running-all (reading-stopped (drop at s) x (sym (here e) ∙ q))

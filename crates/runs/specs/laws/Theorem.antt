@@ -22,8 +22,7 @@ use Rattle.table.specs.laws.Check.{good-yes}
 use Rattle.table.specs.laws.Lawful.{good-lawful}
 use Rattle.table.specs.Empty.{emptyTable}
 use Rattle.table.specs.laws.Empty.{empty-good}
-use Rattle.table.specs.laws.Answers.{done-declined}
-use Rattle.table.specs.laws.Output.{output-accepted}
+use Rattle.table.specs.laws.Output.{output-accepted, done-declined}
 use Rattle.table.specs.laws.Signed.{difference, below, above}
 use Rattle.table.specs.declared.answer.Answer.the-variants.{Done}
 use Rattle.tracing.specs.Listing.{faceCount, listing}
@@ -104,7 +103,7 @@ answered-rule t E n a = (
   rw a,
   λ r q. elim (judged (verdict t E)) [
     | passed p ↦ rw (same (sym a ∙ answer-passes t E p)) (rule-changes t E r p q)
-    | declined s p ↦ absurd (done-declined (sym a ∙ answer-declines t E s p))
+    | declined s p ↦ absurd (done-declined (sym (answer-declines t E s p) ∙ a))
   ],
 )
 
@@ -112,7 +111,7 @@ answered-rule t E n a = (
 pub answered-count : (t : List ℕ) (E : Edit) (n : ℕ) → answer t E ≡ Done n → pos n ≡ faceNumber (edited t E)
 answered-count t E n a = elim (judged (verdict t E)) [
   | passed p ↦ rw (edited-passes t E p) (ap pos (same (sym a ∙ answer-passes t E p)))
-  | declined r p ↦ absurd (done-declined (sym a ∙ answer-declines t E r p))
+  | declined r p ↦ absurd (done-declined (sym (answer-declines t E r p) ∙ a))
 ]
 
 -- the whole run

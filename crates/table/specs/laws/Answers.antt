@@ -1,6 +1,5 @@
--- Tests one after the other; an answer is one of two; a refusal's number is small; a code that is handed on keeps its value.
+-- Tests one after the other; a refusal's number is small; a code that is handed on keeps its value.
 --     LetThrough, let-through              where tests let a call through, the first holds and the rest let it through
---     done-declined                        an answer is not both a number and a refusal
 --     number-low                           a refusal's number is below 100
 --     handed-on                            a code of 64 bits keeps its value
 --     number-fits, minus-fits, minus-is    minus a refusal's number in the machine is the refusal's code
@@ -26,10 +25,6 @@ pub record LetThrough {A : Type 0} (test : Bool) (x y : A) : Type 0 where
 pub let-through : {A : Type 0} (test : Bool) {refusal rest y : A} → (refusal ≡ y → ⊥) → unless test refusal rest ≡ y → LetThrough test rest y
 let-through true n e = record { held = refl; rest = e }
 let-through false n e = absurd (n e)
-
--- an answer is a number or a refusal
-pub done-declined : {n : ℕ} {r : Refusal} → Done n ≡ Declined r → ⊥
-done-declined e = let z : _≡_ {A = ℕ} 0 1 = cc in omega arith
 
 -- a refusal's number has at most two digits
 pub number-low : (r : Refusal) → numberOf r < 100

@@ -1,6 +1,6 @@
 -- `make` meets its contract: both texts are those of what the arguments ask for.
 use Rattle.trial.specs.laws.Program.{outcome-few, few-as, laid-as}
-use Rattle.trial.specs.Program.{output, message}
+use Rattle.trial.specs.Program.{outputOf, message}
 use mathlib.Core.Path.{sym, ap}
 use borrow.Author.Needs.{needs}
 use Rattle.trial.proofs.make.Statement.{statement}
@@ -29,7 +29,7 @@ returns c =
     let asked = c .before .before .before .before .before .before .before .before .read-arguments .ensures in
     let write-output = c .before .before .before .before .before .before .write-output in
     let write-message = c .before .before .write-message in
-    (laid-as (write-output .ensures) (ap output asked), laid-as (write-message .ensures) (ap message asked))
+    (laid-as (write-output .ensures) (ap outputOf asked), laid-as (write-message .ensures) (ap message asked))
 
 pub make-spec : {M : Type 1} → statement M
 make-spec =

@@ -32,7 +32,7 @@ use Rattle.arguments.specs.declared.number.Parsed.{Parsed}
 use Rattle.arguments.specs.declared.number.Parsed.the-variants.{Number, Nothing}
 use Rattle.trial_jobs.specs.Trial.{trialBytes, trialSize, trialAnswer, trialOut}
 use Rattle.trial_jobs.specs.laws.Size.{trial-size}
-use Rattle.trial.specs.Program.{startMost, arguments, withStart, outcome, output, message, Laid, Few}
+use Rattle.trial.specs.Program.{startMost, arguments, withStart, outcome, outputOf, message, Laid, Few}
 use Rattle.trial.specs.declared.Outcome.{Outcome}
 use Rattle.trial.specs.declared.Outcome.the-variants.{Usage, BadStart, BadEdges, Job}
 
@@ -117,7 +117,7 @@ module _ {text out : List ℕ} {size : ℕ} {out′ : List ℕ} (k : Laid text o
 
 -- what goes to one place or to the other
 
-pub one-empty : (o : Outcome) → (output o ≡ []) ⊎ (message o ≡ [])
+pub one-empty : (o : Outcome) → (outputOf o ≡ []) ⊎ (message o ≡ [])
 unfolding message
 one-empty Usage = inl refl
 one-empty BadStart = inl refl

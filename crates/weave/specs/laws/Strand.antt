@@ -5,7 +5,7 @@
 --     strand-parity, strand-append, strand-length    from the same type; one strand after another; as many letters as hands
 --     crossed-strand                                 the crossings of one edge are a strand of one hand
 --     among-append                                   the hands of two strands
---     unanimous, apart-hands                         all hands agree; neighbours' letters differ exactly then
+--     unanimous, differ-hands                        all hands agree; neighbours' letters differ exactly then
 use Prim.Native.Nat.{ℕ, zero, suc, _+_, _-_, _%_}
 use native.Mathlib.Omega.{arith}
 use mathlib.Core.Path.{_≡_, refl, sym, _∙_, ap, ap₂}
@@ -14,7 +14,7 @@ use mathlib.Core.List.{List, [], _∷_, _++_}
 use lib.Dec.{eqb}
 use lib.ListN.{length, replicate}
 use Rattle.tracing.specs.laws.Step.{type?, is-zero, is-one}
-use Rattle.weave.specs.Letters.{letter, crossed, apart, alternating}
+use Rattle.weave.specs.Letters.{letter, crossed, neighboursDiffer, alternating}
 
 -- the letters of crossings of these hands, the first of them from the type of n's parity
 unfoldable pub strand : ℕ → List Bool → List ℕ
@@ -94,19 +94,19 @@ neighbours last true false u = sym (and-false (Bool·beq true last))
 neighbours last false true u = sym (and-false (Bool·beq false last))
 neighbours last false false u = refl
 
-apart-hands : (last h : Bool) (n u : ℕ) (hs : List Bool) → u % 2 ≡ (suc n + length hs) % 2
-    → apart (letter last (u % 2)) (letter h (n % 2)) (strand (suc n) hs) ≡ (Bool·beq h last && unanimous h hs)
-unfolding apart strand unanimous
-apart-hands last h n u [] e =
+differ-hands : (last h : Bool) (n u : ℕ) (hs : List Bool) → u % 2 ≡ (suc n + length hs) % 2
+    → neighboursDiffer (letter last (u % 2)) (letter h (n % 2)) (strand (suc n) hs) ≡ (Bool·beq h last && unanimous h hs)
+unfolding neighboursDiffer strand unanimous
+differ-hands last h n u [] e =
     let next : u % 2 ≡ suc n % 2 = omega arith in
     rw next (letter-flip h last n ∙ sym (and-true (Bool·beq h last)))
-apart-hands last h n u (y ∷ hs) e =
-    ap₂ _&&_ (letter-flip h y n) (apart-hands last y (suc n) u hs (omega arith)) ∙ neighbours last h y (λ b. unanimous b hs)
+differ-hands last h n u (y ∷ hs) e =
+    ap₂ _&&_ (letter-flip h y n) (differ-hands last y (suc n) u hs (omega arith)) ∙ neighbours last h y (λ b. unanimous b hs)
 
 -- "all positive or all negative": not some of each
 pub strand-alternates : (n : ℕ) (hs : List Bool) → length hs % 2 ≡ 0 → alternating (strand n hs) ≡ not (among true hs && among false hs)
 unfolding alternating strand among
 strand-alternates n [] e = refl
-strand-alternates n (true ∷ hs) e = apart-hands true true n n hs (omega arith) ∙ unanimous-among true hs
+strand-alternates n (true ∷ hs) e = differ-hands true true n n hs (omega arith) ∙ unanimous-among true hs
 strand-alternates n (false ∷ hs) e =
-    apart-hands false false n n hs (omega arith) ∙ unanimous-among false hs ∙ ap not (sym (and-true (among true hs)))
+    differ-hands false false n n hs (omega arith) ∙ unanimous-among false hs ∙ ap not (sym (and-true (among true hs)))

@@ -32,7 +32,7 @@ use Rattle.wholepath_pieces.specs.Pieces.{spotsOf, piecesAlong, wholePath}
 use Rattle.wholepath_pieces.specs.laws.Pieces.{pieces-total}
 use Rattle.wholepath_pieces.specs.laws.Back.{same-edge}
 use Rattle.wholepath.specs.WholePath.{wholeAlong, wholeBy, wholeAnswer}
-use Rattle.wholepath_writing.specs.laws.Written.{kinds-length, words-length, rests-length}
+use Rattle.wholepath_writing.specs.laws.Written.{forms-length, words-length, rests-length}
 use Rattle.wholepath_writing.specs.laws.Laying.{path-length}
 
 module _ (t : List ℕ) (points lifts : List ℤ) (k c r : ℕ) where
@@ -53,7 +53,7 @@ module _ (t : List ℕ) (points lifts : List ℤ) (k c r : ℕ) where
       let path = wholePath t points lifts s in
       let pieces : length path ≡ total (spotsOf t) (walk (rotation t) s) + 1 =
       path-length t points lifts s ∙ ap (λ n. n + 1) (pieces-total t points lifts (walk (rotation t) s)) in
-      rw (kinds-length path, words-length path, rests-length path, pieces)
+      rw (forms-length path, words-length path, rests-length path, pieces)
 
   along-alike : (s x : ℕ) → total (spotsOf t) (walk (rotation t) s) ≡ total (spotsOf t) (walk (rotation t) x)
       → total (λ y. bit (farStep t points lifts y)) (walk (rotation t) s) ≡ total (λ y. bit (farStep t points lifts y)) (walk (rotation t) x)

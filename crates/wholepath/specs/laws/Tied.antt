@@ -53,13 +53,13 @@ use Rattle.floatpath.specs.laws.Unrounded.{path-unrounded}
 use Rattle.floatpath.specs.laws.Laying.{path-length as float-length}
 use Rattle.wholepath_pieces.specs.declared.piece.Spot.{Spot}
 use Rattle.wholepath_pieces.specs.declared.piece.Piece.the-variants as wholePiece
-use Rattle.wholepath_pieces.specs.Pieces.{spotsOf, counted, letterOn, spotAt, pieceFor, pieceOn, pieceAt, upTo, stepPieces, piecesAlong, wholePath, kindOf, spotOf}
+use Rattle.wholepath_pieces.specs.Pieces.{spotsOf, crossingNumber, letterOn, spotAt, wholePieceFor, wholePieceOn, pieceAt, upTo, stepPieces, piecesAlong, wholePath, wholeFormOf, spotOf}
 use Rattle.wholepath_places.specs.laws.Between.{Crossing, crossing-few, remains-low}
-use Rattle.wholepath_pieces.specs.laws.Pieces.{counted-low, pieces-total, pieces-most, spots-few}
+use Rattle.wholepath_pieces.specs.laws.Pieces.{number-low, pieces-total, pieces-most, spots-few}
 use Rattle.wholepath_pieces.specs.laws.Placed.{spot-here, middle-lifted}
 use Rattle.wholepath.specs.WholePath.{wholeAlong, wholeBy, wholeAnswer}
 use Rattle.wholepath.specs.Tied.{SpotNear, Tied}
-use Rattle.wholepath_writing.specs.laws.Written.{kinds-length, words-length, rests-length}
+use Rattle.wholepath_writing.specs.laws.Written.{forms-length, words-length, rests-length}
 use Rattle.wholepath_writing.specs.laws.Laying.{path-length}
 
 -- what an accepted call has found out
@@ -104,8 +104,8 @@ spot-near t points lifts s i h f l =
       zrest = remains-low (z .between);
     })
   where
-    crossing : {a b e : ℤ} → NearEnds a b e → Crossing (spotsOf t s) (counted (spotsOf t s) (s / 2) i) a b e
-    crossing k = record { between = record { few = spots-few h; among = counted-low (spotsOf t s) (s / 2) i l; first = k .first; second = k .second }; lift = k .lift }
+    crossing : {a b e : ℤ} → NearEnds a b e → Crossing (spotsOf t s) (crossingNumber (spotsOf t s) (s / 2) i) a b e
+    crossing k = record { between = record { few = spots-few h; among = number-low (spotsOf t s) (s / 2) i l; first = k .first; second = k .second }; lift = k .lift }
 
 module _ (t : List ℕ) (d y : ℕ) (points lifts : List ℤ) (k c r n : ℕ) (a : wholeAnswer t d y points lifts k c r ≡ Done n) where
   pub whole-near : (s i : ℕ) → has s (walk (rotation t) (2 * d + y)) ≡ true → i < spotsOf t s → SpotNear (spotOf (pieceAt t points lifts s i))
@@ -142,19 +142,19 @@ head-letter : (l : List ℕ) → getD l 0 0 ≡ float.firstOf l
 head-letter [] = refl
 head-letter (x ∷ l) = refl
 
-first-counted : (d : ℕ) → counted 1 d 0 ≡ 0
-first-counted d = by (eqb (d % 2) 0)
+first-number : (d : ℕ) → crossingNumber 1 d 0 ≡ 0
+first-number d = by (eqb (d % 2) 0)
   where
     by : (b : Bool) → _≡_ {A = ℕ} (cond b 0 0) 0
     by true = refl
     by false = refl
 
-same-kind : (letter : ℕ) (q : Spot) (p : Point) → kindOf (pieceFor letter q) ≡ float.kindOf (float.pieceFor letter p)
-unfolding pieceFor float.pieceFor
-same-kind letter q p = by (eqb letter over) (eqb letter under)
+same-form : (letter : ℕ) (q : Spot) (p : Point) → wholeFormOf (wholePieceFor letter q) ≡ float.formOf (float.pieceFor letter p)
+unfolding wholePieceFor float.pieceFor
+same-form letter q p = by (eqb letter over) (eqb letter under)
   where
-    by : (a b : Bool) → kindOf (cond a (wholePiece.Over q) (cond b (wholePiece.Under q) (wholePiece.Flat q)))
-        ≡ float.kindOf (cond a (floatPiece.Over p) (cond b (floatPiece.Under p) (floatPiece.Flat p)))
+    by : (a b : Bool) → wholeFormOf (cond a (wholePiece.Over q) (cond b (wholePiece.Under q) (wholePiece.Flat q)))
+        ≡ float.formOf (cond a (floatPiece.Over p) (cond b (floatPiece.Under p) (floatPiece.Flat p)))
     by true b = refl
     by false true = refl
     by false false = refl
@@ -166,17 +166,17 @@ module _ (t : List ℕ) (points lifts : List ℤ) (s : ℕ) (m : manyTurns t s �
 
   -- the middle of the edge, with the lift
   spot-is : spotOf (pieceAt t points lifts s 0) ≡ spotAt (letterOf t s) 1 0 points lifts (firstEnd t s) (secondEnd t s) (liftAt s)
-  spot-is = spot-here t points lifts s 0 ∙ rw (one-spot t s m, first-counted (s / 2), letter-is)
+  spot-is = spot-here t points lifts s 0 ∙ rw (one-spot t s m, first-number (s / 2), letter-is)
 
   one-piece : stepPieces t points lifts s ≡ pieceAt t points lifts s 0 ∷ []
   unfolding stepPieces upTo
   one-piece = ap (upTo (pieceAt t points lifts s)) (one-spot t s m)
 
   step-tied : Unrounded t points lifts s → Tied t points lifts s
-  unfolding pieceAt pieceOn float.pieceOn spotAt
+  unfolding pieceAt wholePieceOn float.pieceOn spotAt
   step-tied u = record {
     one = one-piece;
-    kind = rw letter-is (same-kind (letterOf t s) _ _);
+    form = rw letter-is (same-form (letterOf t s) _ _);
     x = rw (spot-is, middle-lifted (letterOf t s)) (u .x);
     y = rw (spot-is, middle-lifted (letterOf t s)) (u .y);
     z = rw (spot-is, middle-lifted (letterOf t s)) (u .z);
@@ -197,7 +197,7 @@ float-accepted t points lifts m c s n f =
     let path = float.pathFrom t points lifts s in
     let p = let-through (leb pointWords (length points)) done-declined f in
     let l = let-through (leb liftWords (length lifts)) done-declined (p .rest) in
-    let g = let-through (leb (length (float.text float.kindsOf path)) m) done-declined (l .rest) in
+    let g = let-through (leb (length (float.text float.formsOf path)) m) done-declined (l .rest) in
     let h = let-through (leb (length (float.text float.floatsOf path)) c) done-declined (g .rest) in
     let many = let-through (not (some (manyTurns t) (walk (rotation t) s))) done-declined (h .rest) in
     let far = let-through (not (some (farStep t points lifts) (walk (rotation t) s))) done-declined (many .rest) in
@@ -233,7 +233,7 @@ module _ (t : List ℕ) (points lifts : List ℤ) (s n : ℕ) (f : FloatAccepted
       rw (
         f .points-size,
         f .lifts-size,
-        kinds-length path,
+        forms-length path,
         words-length path,
         rests-length path,
         as-many,

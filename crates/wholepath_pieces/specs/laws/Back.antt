@@ -3,7 +3,7 @@
 --     pieces-back                              the pieces of the way back along an edge
 --     pieces-mirror                            the pieces of the ribbon in the other sense
 --     same-edge                                a step and its way back are on one edge
---     counted-back, letter-back, piece-back    the crossings counted from the other end; their letters; their pieces
+--     number-back, letter-back, piece-back     the crossings counted from the other end; their letters; their pieces
 --     up-first, up-same, up-reverse            f 0, f 1 and so on, from the other end
 use Prim.Native.Nat.{ℕ, zero, suc, _+_, _-_, _/_, _%_, _<_}
 use native.Mathlib.Omega.{arith}
@@ -23,9 +23,9 @@ use Rattle.tracing.specs.laws.Back.{walk-mirror}
 use Rattle.weave.specs.Letters.{unturned, positive, crossings, letter, letterAt, wordOf}
 use Rattle.weave.specs.laws.Ribbon.{crossings-parity}
 use Rattle.weave_letters.specs.laws.Crossing.{letters-at}
-use Rattle.wholepath_pieces.specs.Pieces.{spotsOn, spotsOf, counted, letterOn, pieceOn, pieceAt, upTo, stepPieces, piecesAlong}
+use Rattle.wholepath_pieces.specs.Pieces.{spotsOn, spotsOf, crossingNumber, letterOn, wholePieceOn, pieceAt, upTo, stepPieces, piecesAlong}
 use Rattle.table.specs.laws.Flat.{flat-append, flat-one}
-use Rattle.wholepath_pieces.specs.laws.Pieces.{letter-none, counted-rising, counted-falling}
+use Rattle.wholepath_pieces.specs.laws.Pieces.{letter-none, number-rising, number-falling}
 
 -- the same numbers, from the other end
 
@@ -50,10 +50,10 @@ module _ {A : Type 0} where
       (let first : 0 ≡ suc n - 1 - n = omega arith in ap f first)
 
 -- the way back counts the crossings the other way
-counted-back : (n d i : ℕ) → i < n → counted n (rev d) i ≡ counted n d (n - 1 - i)
-counted-back n d i h = elim (type? d) [
-  | is-zero e ↦ sym (counted-falling n (rev d) i (omega arith)) ∙ counted-rising n d (n - 1 - i) e
-  | is-one e ↦ sym (counted-rising n (rev d) i (omega arith)) ∙ (let same : i ≡ n - 1 - (n - 1 - i) = omega arith in same) ∙ counted-falling n d (n - 1 - i) (omega arith)
+number-back : (n d i : ℕ) → i < n → crossingNumber n (rev d) i ≡ crossingNumber n d (n - 1 - i)
+number-back n d i h = elim (type? d) [
+  | is-zero e ↦ sym (number-falling n (rev d) i (omega arith)) ∙ number-rising n d (n - 1 - i) e
+  | is-one e ↦ sym (number-rising n (rev d) i (omega arith)) ∙ (let same : i ≡ n - 1 - (n - 1 - i) = omega arith in same) ∙ number-falling n d (n - 1 - i) (omega arith)
 ]
 
 type-back : (s i m : ℕ) → (1 - (s + (i + m + 1)) % 2 + i) % 2 ≡ (s % 2 + m) % 2
@@ -84,10 +84,10 @@ module _ (t : List ℕ) (points lifts : List ℤ) where
   R = rotation t
 
   piece-back : (s i : ℕ) → i < spotsOf t s → pieceAt t points lifts (back R s) i ≡ pieceAt t points lifts s (spotsOf t s - 1 - i)
-  unfolding pieceAt pieceOn stepType turnsOf
+  unfolding pieceAt wholePieceOn stepType turnsOf
   piece-back s i h =
       let n = spotsOf t s in
-      rw (same-edge R s, back-dart R s, back-type R s, letter-back (wordOf t s) s i h, counted-back n (s / 2) i h)
+      rw (same-edge R s, back-dart R s, back-type R s, letter-back (wordOf t s) s i h, number-back n (s / 2) i h)
 
   pub pieces-back : (s : ℕ) → stepPieces t points lifts (back R s) ≡ reverse (stepPieces t points lifts s)
   unfolding stepPieces

@@ -1,7 +1,7 @@
 -- The pieces of a step, as the code makes them.
 --     spots-flat, spots-turned, spots-few             how many pieces an edge gives
 --     letter-none, letter-there                       their letters
---     counted-rising, counted-falling, counted-low    their order along a dart
+--     number-rising, number-falling, number-low       their order along a dart
 --     SpotRead, crossing-read, spot-made              a spot's words are there and in range; it is what the code makes
 --     for-over, for-under, for-flat                   a piece by its letter
 --     PieceRead, spot-read, piece-is                  the i-th piece of a step
@@ -39,7 +39,7 @@ use Rattle.wholepath_pieces.specs.declared.piece.Spot.{Spot}
 use Rattle.wholepath_pieces.specs.declared.piece.Piece.{Piece}
 use Rattle.wholepath_pieces.specs.declared.piece.Piece.the-variants.{Over, Under, Flat, Close}
 use Rattle.wholepath_places.specs.Between.{liftedPlace}
-use Rattle.wholepath_pieces.specs.Pieces.{spotsOn, spotsOf, counted, letterOn, spotAt, pieceFor, pieceOn, pieceAt, upTo, stepPieces, spotOf}
+use Rattle.wholepath_pieces.specs.Pieces.{spotsOn, spotsOf, crossingNumber, letterOn, spotAt, wholePieceFor, wholePieceOn, pieceAt, upTo, stepPieces, spotOf}
 use Rattle.wholepath_places.specs.laws.Between.{Crossing, coordinate-word, coordinate-rest}
 
 -- how many pieces there are on an edge
@@ -61,14 +61,14 @@ module _ (w kind i : ℕ) where
 
 -- their order along a dart
 module _ (n d i : ℕ) where
-  pub counted-rising : d % 2 ≡ 0 → i ≡ counted n d i
-  counted-rising e = rw (eq-eqb (d % 2) 0 e)
+  pub number-rising : d % 2 ≡ 0 → i ≡ crossingNumber n d i
+  number-rising e = rw (eq-eqb (d % 2) 0 e)
 
-  pub counted-falling : d % 2 ≢ 0 → n - 1 - i ≡ counted n d i
-  counted-falling e = rw (ne-eqb (d % 2) 0 e)
+  pub number-falling : d % 2 ≢ 0 → n - 1 - i ≡ crossingNumber n d i
+  number-falling e = rw (ne-eqb (d % 2) 0 e)
 
-pub counted-low : (n d i : ℕ) → i < n → counted n d i < n
-counted-low n d i h = elim (truth (eqb (d % 2) 0)) [
+pub number-low : (n d i : ℕ) → i < n → crossingNumber n d i < n
+number-low n d i h = elim (truth (eqb (d % 2) 0)) [
   | holds e ↦ rw e h
   | fails e ↦ rw e (omega arith)
 ]
@@ -107,16 +107,16 @@ module _ {n j : ℕ} {points lifts : List ℤ} {first second lift : ℕ} (k : Sp
 
 -- a piece by its letter
 module _ (l : ℕ) (q : Spot) where
-  pub for-over : l ≡ over → Over q ≡ pieceFor l q
-  unfolding pieceFor
+  pub for-over : l ≡ over → Over q ≡ wholePieceFor l q
+  unfolding wholePieceFor
   for-over h = rw (eq-eqb l over h)
 
-  pub for-under : l ≢ over → l ≡ under → Under q ≡ pieceFor l q
-  unfolding pieceFor
+  pub for-under : l ≢ over → l ≡ under → Under q ≡ wholePieceFor l q
+  unfolding wholePieceFor
   for-under n h = rw (ne-eqb l over n, eq-eqb l under h)
 
-  pub for-flat : l ≢ over → l ≢ under → Flat q ≡ pieceFor l q
-  unfolding pieceFor
+  pub for-flat : l ≢ over → l ≢ under → Flat q ≡ wholePieceFor l q
+  unfolding wholePieceFor
   for-flat n m = rw (ne-eqb l over n, ne-eqb l under m)
 
 -- the i-th piece of a step on an edge of word w: its words are there and in range
@@ -129,14 +129,14 @@ module _ {w i : ℕ} {points lifts : List ℤ} {first second lift : ℕ} (k : Pi
   piece-among : i < n
   piece-among = rw e (k .among)
 
-  module _ (s : ℕ) {j : ℕ} (f : j ≡ counted n (s / 2) i) where
+  module _ (s : ℕ) {j : ℕ} (f : j ≡ crossingNumber n (s / 2) i) where
     pub spot-read : SpotRead n j points lifts first second lift
-    spot-read = record { few = rw e (k .few); among = rw f (counted-low n (s / 2) i piece-among); words = k .words }
+    spot-read = record { few = rw e (k .few); among = rw f (number-low n (s / 2) i piece-among); words = k .words }
 
-    pub piece-is : {l : ℕ} {q : Spot} {p : Piece} → l ≡ letterOn w (s % 2) i → q ≡ spotAt l n j points lifts first second lift → p ≡ pieceFor l q
-        → p ≡ pieceOn w s i points lifts first second lift
-    unfolding pieceOn
-    piece-is {l} g h m = m ∙ ap (pieceFor l) h ∙ rw (g, f, e)
+    pub piece-is : {l : ℕ} {q : Spot} {p : Piece} → l ≡ letterOn w (s % 2) i → q ≡ spotAt l n j points lifts first second lift → p ≡ wholePieceFor l q
+        → p ≡ wholePieceOn w s i points lifts first second lift
+    unfolding wholePieceOn
+    piece-is {l} g h m = m ∙ ap (wholePieceFor l) h ∙ rw (g, f, e)
 
 -- "zeros for Close"
 pub zeros : {p : Piece} → p ≡ Close → record { x = pos 0; y = pos 0; z = pos 0; xrest = 0; yrest = 0; zrest = 0 } ≡ spotOf p

@@ -19,7 +19,7 @@ use Rattle.floatpath_pieces.specs.Path.{firstEnd, secondEnd, liftAt, thirtySeco
 use Rattle.wholepath_pieces.specs.declared.piece.Spot.{Spot}
 use Rattle.wholepath_pieces.specs.declared.piece.Piece.the-variants.{Over, Under, Flat}
 use Rattle.wholepath_places.specs.Between.{floored, remainder, share, sits, remains, lifted}
-use Rattle.wholepath_pieces.specs.Pieces.{spotsOf, counted, letterOn, spotAt, pieceFor, pieceOn, pieceAt, spotOf}
+use Rattle.wholepath_pieces.specs.Pieces.{spotsOf, crossingNumber, letterOn, spotAt, wholePieceFor, wholePieceOn, pieceAt, spotOf}
 use Rattle.wholepath_pieces.specs.Placed.{unlifted, Placed, SpotPlaced}
 
 -- a division that rounds down, taken back
@@ -66,8 +66,8 @@ placed n j letter a b l h =
     record { divides = ap (λ z. pos (2 * n) *ℤ z +ℤ pos (remains n j a b)) past ∙ w .again; low = w .low }
 
 -- a piece holds the spot that it is made of
-held-spot : (letter : ℕ) (q : Spot) → spotOf (pieceFor letter q) ≡ q
-unfolding pieceFor
+held-spot : (letter : ℕ) (q : Spot) → spotOf (wholePieceFor letter q) ≡ q
+unfolding wholePieceFor
 held-spot letter q = by (eqb letter over) (eqb letter under)
   where
     by : (a b : Bool) → spotOf (cond a (Over q) (cond b (Under q) (Flat q))) ≡ q
@@ -78,17 +78,17 @@ held-spot letter q = by (eqb letter over) (eqb letter under)
 -- the spot of a piece
 abbrev pub spotHere : List ℕ → List ℤ → List ℤ → ℕ → ℕ → Spot
 spotHere t points lifts s i =
-    spotAt (letterOn (wordOf t s) (s % 2) i) (spotsOf t s) (counted (spotsOf t s) (s / 2) i) points lifts (firstEnd t s) (secondEnd t s) (liftAt s)
+    spotAt (letterOn (wordOf t s) (s % 2) i) (spotsOf t s) (crossingNumber (spotsOf t s) (s / 2) i) points lifts (firstEnd t s) (secondEnd t s) (liftAt s)
 
 pub spot-here : (t : List ℕ) (points lifts : List ℤ) (s i : ℕ) → spotOf (pieceAt t points lifts s i) ≡ spotHere t points lifts s i
-unfolding pieceAt pieceOn
+unfolding pieceAt wholePieceOn
 spot-here t points lifts s i = held-spot (letterOn (wordOf t s) (s % 2) i) (spotHere t points lifts s i)
 
 pub spot-placed : (t : List ℕ) (points lifts : List ℤ) (s i : ℕ) → i < spotsOf t s → SpotPlaced t points lifts s i
 unfolding spotAt
 spot-placed t points lifts s i h =
     let n = spotsOf t s in
-    let j = counted n (s / 2) i in
+    let j = crossingNumber n (s / 2) i in
     let letter = letterOn (wordOf t s) (s % 2) i in
     let here = spot-here t points lifts s i in
     record { x = rw here (placed n j letter _ _ _ (omega arith)); y = rw here (placed n j letter _ _ _ (omega arith)); z = rw here (placed n j letter _ _ _ (omega arith)) }

@@ -38,10 +38,10 @@ use Rattle.floatpath_pieces.specs.laws.Places.{placesOf, Lent}
 use Rattle.floatpath_pieces.specs.laws.Pieces.{piece-readable}
 use Rattle.wholepath_pieces.specs.declared.piece.Piece.{Piece}
 use Rattle.wholepath_pieces.specs.declared.piece.Piece.the-variants.{Close}
-use Rattle.wholepath_pieces.specs.Pieces.{spotsOn, spotsOf, pieceOn, pieceAt, upTo, stepPieces, piecesAlong, kindsOf, wholePath}
+use Rattle.wholepath_pieces.specs.Pieces.{spotsOn, spotsOf, wholePieceOn, pieceAt, upTo, stepPieces, piecesAlong, wholeFormsOf, wholePath}
 use Rattle.table.specs.laws.Flat.{flat-append, flat-one}
 use Rattle.wholepath_pieces.specs.laws.Pieces.{PieceRead, up-length, step-length, spots-few}
-use Rattle.wholepath_writing.specs.laws.Written.{Out, kinds-length, Room, Written, written-none, written-join, SameSizes, written-sizes, room-kept}
+use Rattle.wholepath_writing.specs.laws.Written.{Out, forms-length, Room, Written, written-none, written-join, SameSizes, written-sizes, room-kept}
 
 -- one step
 
@@ -88,10 +88,10 @@ module _ {t : List ℕ} {points lifts : List ℤ} {s start w n first second lift
     pub stepping-room : Room (start + i + 1) o
     stepping-room = let same = spots-are in room-kept (k .fits .room) (written-sizes (k .written)) (omega arith)
 
-    module _ {p : Piece} (e : p ≡ pieceOn w s i points lifts first second lift) {o′ : Out} (v : Written (p ∷ []) (start + i) o o′) where
+    module _ {p : Piece} (e : p ≡ wholePieceOn w s i points lifts first second lift) {o′ : Out} (v : Written (p ∷ []) (start + i) o o′) where
       piece-is : p ≡ pieceAt t points lifts s i
       unfolding pieceAt placesOf
-      piece-is = e ∙ ap (λ x. pieceOn x s i points lifts first second lift) (k .word .word) ∙ ap (λ q. pieceOn (wordOf t s) s i points lifts (q .first) (q .second) (q .lift)) (k .places)
+      piece-is = e ∙ ap (λ x. wholePieceOn x s i points lifts first second lift) (k .word .word) ∙ ap (λ q. wholePieceOn (wordOf t s) s i points lifts (q .first) (q .second) (q .lift)) (k .places)
 
       pub stepping-more : Stepping t points lifts s start w n first second lift (i + 1) o₀ o′
       unfolding upTo
@@ -163,15 +163,15 @@ module _ {t : List ℕ} {points lifts : List ℤ} {s at n : ℕ} {o₀ o : Out} 
       let p = walk-period R L s low in
       let steps = stepPieces t points lifts in
       let before = piecesBefore t points lifts s in
-      let kinds : (m : ℕ) → flatMap kindsOf (before (suc m)) ≡ flatMap kindsOf (before m) ++ flatMap kindsOf (steps (iter (step R) m s)) =
-      λ m. ap (flatMap kindsOf) (before-suc t points lifts s m) ∙ flat-append kindsOf (before m) (steps (iter (step R) m s)) in
-      let next = next-room (λ m. flatMap kindsOf (before m)) (λ m. flatMap kindsOf (steps (iter (step R) m s))) kinds (p .steps) (k .so-far) (along-few (k .walking .along) p) in
+      let forms : (m : ℕ) → flatMap wholeFormsOf (before (suc m)) ≡ flatMap wholeFormsOf (before m) ++ flatMap wholeFormsOf (steps (iter (step R) m s)) =
+      λ m. ap (flatMap wholeFormsOf) (before-suc t points lifts s m) ∙ flat-append wholeFormsOf (before m) (steps (iter (step R) m s)) in
+      let next = next-room (λ m. flatMap wholeFormsOf (before m)) (λ m. flatMap wholeFormsOf (steps (iter (step R) m s))) forms (p .steps) (k .so-far) (along-few (k .walking .along) p) in
       let here : length (steps (iter (step R) (k .so-far) s)) ≡ spotsOf t at = ap (λ x. length (steps x)) (k .walking .along .here) ∙ step-length t points lifts at in
       let whole : length (flatMap steps (walk R s)) ≡ length (before (p .steps)) = ap (λ l. length (flatMap steps l)) (walk-run R s p (walk-period-le R L s low p)) in
       let count = k .count in
-      let a = kinds-length (before (k .so-far)) in
-      let b = kinds-length (steps (iter (step R) (k .so-far) s)) in
-      let c = kinds-length (before (p .steps)) in
+      let a = forms-length (before (k .so-far)) in
+      let b = forms-length (steps (iter (step R) (k .so-far) s)) in
+      let c = forms-length (before (p .steps)) in
       omega arith
 
   pub laying-step : StepRoom t points lifts at n o

@@ -1,5 +1,6 @@
 -- `reply::by_rule` meets its contract, a return for each rule.
-use Rattle.edits_rule.specs.laws.Rule.{facesAfter, allowed-some}
+use Rattle.edits.specs.Rules.{facesAfter}
+use Rattle.edits_rule.specs.laws.Rule.{allowed-some}
 use native.Mathlib.Omega.{arith}
 use mathlib.Core.Path.{sym, ap}
 use Rattle.edits.specs.declared.rule.Reply.the-variants.{ByRule}

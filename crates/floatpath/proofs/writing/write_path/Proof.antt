@@ -1,5 +1,5 @@
 -- `writing::write_path` meets its contract: the pieces of the walk, then Close.
-use Rattle.floatpath.specs.laws.Laying.{closing-room, closing-kinds, closing-coords}
+use Rattle.floatpath.specs.laws.Laying.{closing-room, closing-forms, closing-coords}
 use borrow.Author.Needs.{needs}
 use Rattle.floatpath.proofs.writing.write_path.Statement.{statement}
 use Rattle.floatpath.proofs.writing.write_path.Tie as tie
@@ -24,7 +24,7 @@ returns c =
     let start = c .before .before .before .before .before .before .before .before .before .before .before .before .before .before .before .before .before in
     let write-pieces = c .before .before .before .before .before .before .before .before .before .before .before .write-pieces in
     let write-piece = c .before .before .before .before .write-piece in
-    (closing-kinds (start .pre) (write-pieces .ensures) (write-piece .ensures), closing-coords (start .pre) (write-pieces .ensures) (write-piece .ensures))
+    (closing-forms (start .pre) (write-pieces .ensures) (write-piece .ensures), closing-coords (start .pre) (write-pieces .ensures) (write-piece .ensures))
 
 pub write-path-spec : {M : Type 1} → statement M
 write-path-spec =

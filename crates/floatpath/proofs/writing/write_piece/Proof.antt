@@ -6,14 +6,14 @@ use borrow.Author.Needs.{needs}
 use Rattle.floatpath.proofs.writing.write_piece.Statement.{statement}
 use Rattle.floatpath.proofs.writing.write_piece.Tie as tie
 
-kind-word-requires : tie.Need-kind-word-requires
-kind-word-requires c κs = search needs
+form-word-requires : tie.Need-form-word-requires
+form-word-requires c κs = search needs
 
-mul-kinds : tie.Need-mul-kinds
-mul-kinds c = search needs
+mul-forms : tie.Need-mul-forms
+mul-forms c = search needs
 
-slice-write-kinds : tie.Need-slice-write-kinds
-slice-write-kinds c = search needs
+slice-write-forms : tie.Need-slice-write-forms
+slice-write-forms c = search needs
 
 point-of-requires : tie.Need-point-of-requires
 point-of-requires c κs = search needs
@@ -58,15 +58,15 @@ same-length-2 : tie.Need-same-length-2
 same-length-2 c = search needs
 
 returns : tie.Need-returns
-returns c = wrote-made (c .before .kind-word .ensures) (c .point-of .ensures)
+returns c = wrote-made (c .before .form-word .ensures) (c .point-of .ensures)
 
 pub write-piece-spec : {M : Type 1} → statement M
 write-piece-spec =
     tie.close
     (tie.spec
-    kind-word-requires
-    mul-kinds
-    slice-write-kinds
+    form-word-requires
+    mul-forms
+    slice-write-forms
     point-of-requires
     mul-coords
     mul-coords-2

@@ -1,15 +1,15 @@
 -- `writing::write_pieces` meets its contract. The invariant: the walk is under way, and the pieces of its n steps so far stand at the front of the slices.
-use Rattle.floatpath.specs.laws.Laying.{Laying, laying-none, laying-lent, laying-near, laying-room, laying-more, laying-all, laying-kinds, laying-coords}
+use Rattle.floatpath.specs.laws.Laying.{Laying, laying-none, laying-lent, laying-near, laying-room, laying-more, laying-all, laying-forms, laying-coords}
 use Rattle.tracing_walks.specs.laws.Along.{walking-few, left, walking-less}
 use native.Mathlib.Omega.{arith}
 use Rattle.floatpath.proofs.writing.write_pieces.Statement.{statement}
 use Rattle.floatpath.proofs.writing.write_pieces.Tie as tie
 
 abbrev Inv-loop : tie.InvT-loop
-Inv-loop t points lifts kinds₀ coords₀ s at₀ n₀ kinds coords at n = Laying t points lifts s at n kinds₀ coords₀ kinds coords
+Inv-loop t points lifts forms₀ coords₀ s at₀ n₀ forms coords at n = Laying t points lifts s at n forms₀ coords₀ forms coords
 
 abbrev μ-loop : tie.MeasureT-loop
-μ-loop t points lifts kinds₀ coords₀ s at₀ n₀ kinds coords at n = left t s at
+μ-loop t points lifts forms₀ coords₀ s at₀ n₀ forms coords at n = left t s at
 
 loop-holds : tie.Need-loop-holds Inv-loop μ-loop
 loop-holds c = laying-none (c .before .before .before .pre)
@@ -31,7 +31,7 @@ same-length c =
     let loop = c .before .before .before .before .before .before .before .before .before .before .loop in
     let piece-on = c .before .before .before .before .before .before .before .before .before .piece-on in
     let write-piece = c .before .before .before .before .before .before .write-piece in
-    laying-kinds (loop .inv) (piece-on .ensures) (write-piece .ensures)
+    laying-forms (loop .inv) (piece-on .ensures) (write-piece .ensures)
 
 same-length-2 : tie.Need-same-length-2 Inv-loop μ-loop
 same-length-2 c =

@@ -16,6 +16,9 @@ returns c = let args = c .before .before .args in record-short (recordBy IL (arg
 write-long-requires : tie.Need-write-long-requires
 write-long-requires c κs = search needs
 
+cast-t13 : tie.Need-cast-t13
+cast-t13 c = search needs
+
 same-length : tie.Need-same-length
 same-length c = search needs
 
@@ -27,4 +30,4 @@ returns-2 c =
     (c .before .before .write-long .ensures ∙ ap (λ k. sets (args .out .now) 0 (recordBy IL (args .edge) (args .first) (args .second) k (args .strip))) (toZ-ofZ {w = w16} (start .fits .turns)))
 
 pub encode-long-spec : {M : Type 1} → statement M
-encode-long-spec = tie.close (tie.spec returns write-long-requires same-length returns-2)
+encode-long-spec = tie.close (tie.spec returns write-long-requires cast-t13 same-length returns-2)

@@ -13,6 +13,9 @@ returns c = let args = c .before .before .args in record-short (bytesOf (args .m
 write-words-requires : tie.Need-write-words-requires
 write-words-requires c κs = search needs
 
+cast-t10 : tie.Need-cast-t10
+cast-t10 c = search needs
+
 same-length : tie.Need-same-length
 same-length c = search needs
 
@@ -24,4 +27,4 @@ returns-2 c =
     (c .before .before .write-words .ensures)
 
 pub encode-name-spec : {M : Type 1} → statement M
-encode-name-spec = tie.close (tie.spec returns write-words-requires same-length returns-2)
+encode-name-spec = tie.close (tie.spec returns write-words-requires cast-t10 same-length returns-2)

@@ -16,6 +16,9 @@ returns c = let args = c .before .before .args in record-short (recordBy IE (arg
 write-ends-requires : tie.Need-write-ends-requires
 write-ends-requires c κs = search needs
 
+cast-t12 : tie.Need-cast-t12
+cast-t12 c = search needs
+
 same-length : tie.Need-same-length
 same-length c = search needs
 
@@ -27,4 +30,4 @@ returns-2 c =
     (c .before .before .write-ends .ensures ∙ ap (λ k. sets (args .out .now) 0 (recordBy IE (args .edge) (args .first) (args .second) k 0)) (toZ-ofZ {w = w16} (start .fits .turns)))
 
 pub encode-plain-spec : {M : Type 1} → statement M
-encode-plain-spec = tie.close (tie.spec returns write-ends-requires same-length returns-2)
+encode-plain-spec = tie.close (tie.spec returns write-ends-requires cast-t12 same-length returns-2)

@@ -16,6 +16,9 @@ returns c = let args = c .before .before .args in record-short (recordBy TW (arg
 write-turn-requires : tie.Need-write-turn-requires
 write-turn-requires c κs = search needs
 
+cast-t10 : tie.Need-cast-t10
+cast-t10 c = search needs
+
 same-length : tie.Need-same-length
 same-length c = search needs
 
@@ -27,4 +30,4 @@ returns-2 c =
     (c .before .before .write-turn .ensures ∙ ap (λ k. sets (args .out .now) 0 (recordBy TW (args .edge) 0 0 k 0)) (toZ-ofZ {w = w16} (start .fits .amount)))
 
 pub encode-turn-spec : {M : Type 1} → statement M
-encode-turn-spec = tie.close (tie.spec returns write-turn-requires same-length returns-2)
+encode-turn-spec = tie.close (tie.spec returns write-turn-requires cast-t10 same-length returns-2)

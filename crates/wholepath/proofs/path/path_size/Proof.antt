@@ -1,5 +1,5 @@
 -- `path::path_size` meets its contract: a return for each refusal in its order: five short slices, then far.
-use Rattle.wholepath.specs.laws.WholePath.{short-points, short-lifts, survey-few, short-kinds, short-coords, short-rests, far-away, path-sized}
+use Rattle.wholepath.specs.laws.WholePath.{short-points, short-lifts, survey-few, short-forms, short-coords, short-rests, far-away, path-sized}
 use native.Mathlib.Omega.{arith}
 use borrow.Author.Needs.{needs}
 use Rattle.wholepath.proofs.path.path_size.Statement.{statement}
@@ -25,7 +25,7 @@ returns-3 c =
     let if1 = c .before .before .before .before .if1 in
     let if2 = c .before .before .before .if2 in
     let survey-from = c .before .before .survey-from in
-    short-kinds _ _ _ _ _ _ _ (if1 .left) (if2 .left) (survey-from .ensures) (c .if3 .taken)
+    short-forms _ _ _ _ _ _ _ (if1 .left) (if2 .left) (survey-from .ensures) (c .if3 .taken)
 
 returns-4 : tie.Need-returns-4
 returns-4 c =

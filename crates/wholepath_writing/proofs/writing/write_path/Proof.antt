@@ -1,5 +1,5 @@
 -- `writing::write_path` meets its contract: the pieces of the walk, then Close.
-use Rattle.wholepath_writing.specs.laws.Written.{kinds-front, coords-front, rests-front}
+use Rattle.wholepath_writing.specs.laws.Written.{forms-front, coords-front, rests-front}
 use Rattle.wholepath_writing.specs.laws.Laying.{closing-room, closed, path-room}
 use borrow.Author.Needs.{needs}
 use Rattle.wholepath_writing.proofs.writing.write_path.Statement.{statement}
@@ -30,7 +30,7 @@ returns c =
     let write-piece = c .before .before .before .before .before .write-piece in
     let room = path-room (start .pre) in
     let all = closed (start .pre) (write-pieces .ensures) (write-piece .ensures) in
-    (kinds-front room all, coords-front room all, rests-front room all)
+    (forms-front room all, coords-front room all, rests-front room all)
 
 pub write-path-spec : {M : Type 1} → statement M
 write-path-spec =

@@ -6,14 +6,14 @@ use borrow.Author.Needs.{needs}
 use Rattle.wholepath_writing.proofs.writing.write_piece.Statement.{statement}
 use Rattle.wholepath_writing.proofs.writing.write_piece.Tie as tie
 
-kind-word-requires : tie.Need-kind-word-requires
-kind-word-requires c κs = search needs
+form-word-requires : tie.Need-form-word-requires
+form-word-requires c κs = search needs
 
-mul-kinds : tie.Need-mul-kinds
-mul-kinds c = search needs
+mul-forms : tie.Need-mul-forms
+mul-forms c = search needs
 
-slice-write-kinds : tie.Need-slice-write-kinds
-slice-write-kinds c = search needs
+slice-write-forms : tie.Need-slice-write-forms
+slice-write-forms c = search needs
 
 spot-of-requires : tie.Need-spot-of-requires
 spot-of-requires c κs = search needs
@@ -95,18 +95,18 @@ same-length-3 c = search needs
 
 returns : tie.Need-returns
 returns c =
-    let kind-word = c .before .before .before .before .kind-word in
+    let form-word = c .before .before .before .before .form-word in
     let spot-of = c .before .before .before .spot-of in
     let told = c .before .before .struct-told .given in
-    piece-written (kind-word .ensures) (spot-of .ensures) (record { x = told .0 .1; y = told .1 .0 .1; z = told .1 .1 .0 .1 })
+    piece-written (form-word .ensures) (spot-of .ensures) (record { x = told .0 .1; y = told .1 .0 .1; z = told .1 .1 .0 .1 })
 
 pub write-piece-spec : {M : Type 1} → statement M
 write-piece-spec =
     tie.close
     (tie.spec
-    kind-word-requires
-    mul-kinds
-    slice-write-kinds
+    form-word-requires
+    mul-forms
+    slice-write-forms
     spot-of-requires
     mul-x
     mul-x-2

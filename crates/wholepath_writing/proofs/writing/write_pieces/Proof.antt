@@ -6,11 +6,11 @@ use Rattle.wholepath_writing.proofs.writing.write_pieces.Statement.{sta
 use Rattle.wholepath_writing.proofs.writing.write_pieces.Tie as tie
 
 abbrev Inv-loop : tie.InvT-loop
-Inv-loop t points lifts kinds₀ coords₀ remainders₀ s at₀ n₀ kinds coords remainders at n =
-    Laying t points lifts s at n (out kinds₀ coords₀ remainders₀) (out kinds coords remainders)
+Inv-loop t points lifts forms₀ coords₀ remainders₀ s at₀ n₀ forms coords remainders at n =
+    Laying t points lifts s at n (out forms₀ coords₀ remainders₀) (out forms coords remainders)
 
 abbrev μ-loop : tie.MeasureT-loop
-μ-loop t points lifts kinds₀ coords₀ remainders₀ s at₀ n₀ kinds coords remainders at n = left t s at
+μ-loop t points lifts forms₀ coords₀ remainders₀ s at₀ n₀ forms coords remainders at n = left t s at
 
 loop-holds : tie.Need-loop-holds Inv-loop μ-loop
 loop-holds c = laying-none (c .before .before .before .pre)
@@ -25,7 +25,7 @@ same-length : tie.Need-same-length Inv-loop μ-loop
 same-length c =
     let loop = c .before .before .before .before .before .before .before .before .before .before .before .loop in
     let write-step = c .before .before .before .before .before .before .before .write-step in
-    laying-sizes (loop .inv) (write-step .ensures) .kinds
+    laying-sizes (loop .inv) (write-step .ensures) .forms
 
 same-length-2 : tie.Need-same-length-2 Inv-loop μ-loop
 same-length-2 c =

@@ -8,11 +8,11 @@ use Rattle.wholepath_writing.proofs.writing.write_step.Statement.{state
 use Rattle.wholepath_writing.proofs.writing.write_step.Tie as tie
 
 abbrev Inv-loop : tie.InvT-loop
-Inv-loop t points lifts kinds₀ coords₀ remainders₀ s start w n first second lift i₀ kinds coords remainders i =
-    Stepping t points lifts s start w n first second lift i (out kinds₀ coords₀ remainders₀) (out kinds coords remainders)
+Inv-loop t points lifts forms₀ coords₀ remainders₀ s start w n first second lift i₀ forms coords remainders i =
+    Stepping t points lifts s start w n first second lift i (out forms₀ coords₀ remainders₀) (out forms coords remainders)
 
 abbrev μ-loop : tie.MeasureT-loop
-μ-loop t points lifts kinds₀ coords₀ remainders₀ s start w n first second lift i₀ kinds coords remainders i =
+μ-loop t points lifts forms₀ coords₀ remainders₀ s start w n first second lift i₀ forms coords remainders i =
     n - i
 
 edge-word-requires : tie.Need-edge-word-requires Inv-loop μ-loop
@@ -31,10 +31,10 @@ piece-on-requires : tie.Need-piece-on-requires Inv-loop μ-loop
 piece-on-requires c κs = stepping-piece (c .before .loop .inv) (c .loop-test .taken)
 
 cast-write-piece : tie.Need-cast-write-piece Inv-loop μ-loop
-cast-write-piece c = let room = stepping-room (c .before .before .before .before .before .loop .inv) (c .before .before .before .before .loop-test .taken) .kinds in omega arith
+cast-write-piece c = let room = stepping-room (c .before .before .before .before .before .loop .inv) (c .before .before .before .before .loop-test .taken) .forms in omega arith
 
 add-write-piece : tie.Need-add-write-piece Inv-loop μ-loop
-add-write-piece c = let room = stepping-room (c .before .before .before .before .before .loop .inv) (c .before .before .before .before .loop-test .taken) .kinds in omega arith
+add-write-piece c = let room = stepping-room (c .before .before .before .before .before .loop .inv) (c .before .before .before .before .loop-test .taken) .forms in omega arith
 
 write-piece-requires : tie.Need-write-piece-requires Inv-loop μ-loop
 write-piece-requires c κs = stepping-room (c .before .before .before .before .before .loop .inv) (c .before .before .before .before .loop-test .taken)
@@ -57,10 +57,10 @@ cast-result : tie.Need-cast-result Inv-loop μ-loop
 cast-result c = let few = stepping-few (c .before .loop .inv) in omega arith
 
 add-result : tie.Need-add-result Inv-loop μ-loop
-add-result c = let room = c .before .loop .inv .fits .room .kinds in omega arith
+add-result c = let room = c .before .loop .inv .fits .room .forms in omega arith
 
 same-length : tie.Need-same-length Inv-loop μ-loop
-same-length c = stepping-sizes (c .before .loop .inv) .kinds
+same-length c = stepping-sizes (c .before .loop .inv) .forms
 
 same-length-2 : tie.Need-same-length-2 Inv-loop μ-loop
 same-length-2 c = stepping-sizes (c .before .loop .inv) .coords

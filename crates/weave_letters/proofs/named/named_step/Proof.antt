@@ -3,8 +3,8 @@ use native.Mathlib.Omega.{arith}
 use Rattle.table.specs.laws.Check.{seen-good, seen-torn}
 use Rattle.weave.specs.laws.Calls.{named-torn, named-past, named-type, named-dead, named-there}
 use borrow.Author.Needs.{needs}
-use Rattle.weave_letters.proofs.call.named_step.Statement.{statement}
-use Rattle.weave_letters.proofs.call.named_step.Tie as tie
+use Rattle.weave_letters.proofs.named.named_step.Statement.{statement}
+use Rattle.weave_letters.proofs.named.named_step.Tie as tie
 
 is-good-requires : tie.Need-is-good-requires
 is-good-requires c κs = search needs

@@ -1,5 +1,8 @@
-//! Draws the pictures of docs/GUIDE.md into a folder: `figures docs/figures`. Every number, letter and order in them is asked
-//! of the reference, over tables that were built by edits.
+//! Draws the pictures of README.md, docs/GUIDE.md and docs/HOSTS.md into a folder: `figures docs/figures`. Every number, letter
+//! and order in them is asked of the reference, over tables that were built by edits.
+//!
+//! In the pictures of the README and of the guide a vertex is a pole, an edge a strip and a dart an end of a strip; those of
+//! HOSTS.md say vertex, edge and dart, as the header does.
 
 mod plane;
 mod poles;
@@ -16,16 +19,17 @@ use svg::Picture;
 /// Draws one picture.
 type Draw = fn() -> Picture;
 
-const FIGURES: [(&str, Draw); 15] = [
+const FIGURES: [(&str, Draw); 16] = [
     ("strips", strips::strips),
-    ("darts", poles::darts),
+    ("ends", poles::ends),
     ("corners", poles::corners),
-    ("insertion", poles::insertion),
+    ("placing", poles::placing),
     ("steps", strips::steps),
     ("crossings", strips::crossings),
     ("half-length", strips::half_length),
-    ("dome-darts", shells::dome_darts),
+    ("dome-ends", shells::dome_ends),
     ("dome", shells::dome),
+    ("dome-steps", shells::dome_steps),
     ("closing", shells::closing),
     ("tent", shells::tent),
     ("pavilion", shells::pavilion_ribbons),

@@ -116,7 +116,7 @@ impl Curve {
 
     /// The points along it, without those closer than `start` to its start and `end` to its end.
     pub fn points(&self, start: f64, end: f64) -> Vec<P> {
-        const PIECES: usize = 32;
+        const PIECES: usize = 96;
         let [first, _, _, last] = self.0;
         let all = (0..=PIECES).map(|i| self.at(i as f64 / PIECES as f64));
         all.filter(|&q| (q - first).length() >= start && (q - last).length() >= end).collect()

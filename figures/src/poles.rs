@@ -1,4 +1,4 @@
-//! Pictures of one pole: its darts, its corners, and an edge put into them.
+//! Pictures of one pole: the ends of strips at it (the darts that leave it), its corners, and a strip put into them.
 
 use crate::plane::{arc, p, polar, P};
 use crate::svg::{pen, Anchor, Pen, Picture, BLACK, GREY, LIGHT, WHITE};
@@ -38,7 +38,7 @@ fn after(angles: &[(Dart, f64)], d: Dart, from: f64) -> f64 {
 
 type Neighbour = fn(&[u16], Dart) -> Dart;
 
-pub fn darts() -> Picture {
+pub fn ends() -> Picture {
     let edge = made(&[add(0), add(1), insert(3, lone(0), lone(1), 0)]);
     let dome = made(&edits(DOME));
     let [first, second] = darts_of(3);
@@ -46,11 +46,11 @@ pub fn darts() -> Picture {
     let mut picture = Picture::new(
         760.0,
         390.0,
-        "Darts, next and previous",
+        "The ends of a strip, and the ends at a pole",
         &format!(
-            "Left: edge {} joins two poles; its dart {first} leaves the first end, its dart {second} the second. Right: pole 0 of the \
-             dome with its {} darts. A solid arrow leads from each dart counterclockwise to the next one, a dashed arrow clockwise to \
-             the previous one.",
+            "Left: strip {} joins two poles; its first end is {first}, its second end {second}. Right: pole 0 of the dome with the {} ends \
+             of strips at it. A solid arrow leads from each end counterclockwise to the next one, a dashed arrow clockwise to the \
+             previous one.",
             edge_of(first),
             angles.len()
         ),
@@ -63,23 +63,23 @@ pub fn darts() -> Picture {
         picture.bold_label(at + way * 52.0 - p(0.0, 28.0), 15.0, &d.to_string());
         pole(&mut picture, at, leaves(&edge, d));
     }
-    picture.text(p(165.0, 60.0), Anchor::Middle, 15.0, "One edge, two darts");
+    picture.text(p(165.0, 60.0), Anchor::Middle, 15.0, "One strip, two ends");
     picture.text(
         p(165.0, 206.0),
         Anchor::Middle,
         13.0,
-        &format!("edge {} has darts {first} and {second}", edge_of(first)),
+        &format!("strip {} has the ends {first} and {second}", edge_of(first)),
     );
     for (i, d) in [first, second].into_iter().enumerate() {
-        let end = ["first", "second"][i];
-        let words = format!("dart {d} leaves its {end} end, pole {}", leaves(&edge, d));
+        let which = ["first", "second"][i];
+        let words = format!("end {d} is its {which} end, at pole {}", leaves(&edge, d));
         picture.text(p(165.0, 230.0 + 22.0 * i as f64), Anchor::Middle, 13.0, &words);
     }
-    let words = format!("the reverse of {first} is {}, of {second} is {}", reverse(first), reverse(second));
+    let words = format!("opposite {first} is {}, opposite {second} is {}", reverse(first), reverse(second));
     picture.text(p(165.0, 274.0), Anchor::Middle, 13.0, &words);
 
     let centre = p(540.0, 165.0);
-    let words = format!("Pole 0 of the dome, with its {} darts", angles.len());
+    let words = format!("Pole 0 of the dome, with its {} ends", angles.len());
     picture.text(p(540.0, 24.0), Anchor::Middle, 15.0, &words);
     for &(d, degrees) in &angles {
         dart(&mut picture, centre, degrees, 98.0, d, DART);
@@ -91,7 +91,7 @@ pub fn darts() -> Picture {
     pole(&mut picture, centre, 0);
     let y = 318.0;
     let columns = |i: usize| 500.0 + 36.0 * i as f64;
-    let rows: [(&str, Neighbour); 3] = [("dart", |_, d| d), ("next, solid", next), ("previous, dashed", previous)];
+    let rows: [(&str, Neighbour); 3] = [("end", |_, d| d), ("next, solid", next), ("previous, dashed", previous)];
     for (row, (name, of)) in rows.iter().enumerate() {
         let y = y + 24.0 * row as f64;
         picture.text(p(480.0, y), Anchor::End, 13.0, name);
@@ -128,8 +128,8 @@ pub fn corners() -> Picture {
         350.0,
         "Corners and their names",
         &format!(
-            "A corner is named by the dart that ends it, counterclockwise. Left: pole 2 of the dome has {} darts and as many corners. \
-             Middle: a pole with one dart has one corner, all the way round. Right: an isolated pole has one corner, named \
+            "A corner has the number of the end at which it stops, counterclockwise. Left: pole 2 of the dome has {} ends and as many \
+             corners. Middle: a pole with one end has one corner, all the way round. Right: a pole without strips has one corner, named \
              {VERTEX_CORNER} plus its number.",
             around(&dome, vertex_word(&dome, 2)).len()
         ),
@@ -152,7 +152,7 @@ pub fn corners() -> Picture {
     }
 
     let centre = p(440.0, 160.0);
-    picture.text(p(440.0, 26.0), Anchor::Middle, 15.0, "A pole with one dart");
+    picture.text(p(440.0, 26.0), Anchor::Middle, 15.0, "A pole with one end");
     let d = vertex_word(&one, 4);
     let angles = even(&one, d, 0.0);
     dart(&mut picture, centre, 0.0, 80.0, d, DART);
@@ -163,8 +163,8 @@ pub fn corners() -> Picture {
     picture.text(p(440.0, 310.0), Anchor::Middle, 13.0, &format!("from {} round to {d}", previous(&one, d)));
 
     let centre = p(660.0, 160.0);
-    picture.text(p(660.0, 26.0), Anchor::Middle, 15.0, "An isolated pole");
-    let v = isolated_vertices(&isolated).next().expect("an isolated pole");
+    picture.text(p(660.0, 26.0), Anchor::Middle, 15.0, "A pole without strips");
+    let v = isolated_vertices(&isolated).next().expect("a pole without strips");
     picture.path(&arc(centre, 46.0, 0.0, 360.0), arcs.dashed("6 4"));
     pole(&mut picture, centre, v);
     picture.label(centre - p(0.0, 64.0), 13.0, &format!("corner {}", lone(v)));
@@ -173,7 +173,7 @@ pub fn corners() -> Picture {
     picture
 }
 
-pub fn insertion() -> Picture {
+pub fn placing() -> Picture {
     let start = [add(0), add(1), add(2), add(3), add(4)];
     let three = [insert(0, lone(0), lone(1), 0), insert(1, 0, lone(2), 0), insert(2, 0, lone(3), 0)];
     let base: Vec<_> = start.into_iter().chain(three).collect();
@@ -184,9 +184,9 @@ pub fn insertion() -> Picture {
     let mut picture = Picture::new(
         790.0,
         355.0,
-        "Where an inserted edge goes",
+        "Where a new strip goes",
         &format!(
-            "Left: a pole with the darts {}; corner {named} lies between {} and {named}. Middle: edge 3 put into corner {named} with \
+            "Left: a pole with the ends {}; corner {named} lies between {} and {named}. Middle: strip 3 put into corner {named} with \
              its first end alone; the order is {}. Right: both ends put into corner {named}; the order is {}.",
             order(&before),
             previous(&before, named),
@@ -238,6 +238,6 @@ pub fn insertion() -> Picture {
         pole(&mut picture, centre, 0);
         picture.text(p(x, 318.0), Anchor::Middle, 14.0, &format!("counterclockwise: {}", order(table)));
     }
-    picture.text(p(390.0, 340.0), Anchor::Middle, 12.0, "Thick: the darts of the new edge 3. Dotted: it is a loop.");
+    picture.text(p(390.0, 340.0), Anchor::Middle, 12.0, "Thick: the ends of the new strip 3. Dotted: it is a loop.");
     picture
 }

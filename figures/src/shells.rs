@@ -25,6 +25,8 @@ struct Shell {
 const HALF: f64 = 16.0;
 /// How far outside a pole a ribbon passes a corner of more than half a turn, at most.
 const WIDEST: f64 = 46.0;
+/// In a corner that is narrower than this a ribbon swings wider, so that it has no sharp bend.
+const NARROW: f64 = 50.0;
 const FRAME: Pen = pen(9.0, "#e4e4e4");
 const RIBBON: Pen = pen(3.2, BLACK);
 
@@ -78,6 +80,7 @@ impl Shell {
         let at = self.pole_of(to.dart);
         let (wide, middle) = self.corner(corner_met(&self.table, to));
         let toward = polar(p(0.0, 0.0), 1.0, middle);
+        let farther = (a - at).length().max((b - at).length());
         let along = |q: P, way: P| -> f64 {
             let reach = (q - at).length();
             let (so_far, gain) = ((q - at).x * toward.x + (q - at).y * toward.y, way.x * toward.x + way.y * toward.y);
@@ -85,6 +88,8 @@ impl Shell {
                 ((0.36 * reach).min(WIDEST) - so_far) / (0.75 * gain)
             } else if turns(&self.table, from.edge()) == 0 {
                 0.82 * (reach - HALF / crate::plane::sine(wide / 2.0))
+            } else if wide < NARROW {
+                (0.33 * farther).min(0.8 * reach)
             } else {
                 0.42 * reach
             }
@@ -124,7 +129,7 @@ impl Shell {
             picture.path(piece, pen);
         }
         for (bend, _, _) in self.bends(steps) {
-            picture.head(bend.at(0.5), bend.heading(0.5), pen.width.min(3.2), BLACK);
+            picture.head(bend.at(0.5), bend.heading(0.5), pen.width.min(3.2), pen.colour);
         }
     }
 
@@ -187,11 +192,16 @@ fn weave(table: &[u16]) -> &'static str {
     }
 }
 
-/// The mesh line of a report and its first part's line, in signs.
+/// The mesh line of a report and its first part's letter: "6 poles - 10 strips + 6 walks = 2, o".
 fn sum(table: &[u16]) -> String {
     let c = counts(table).expect("a good table");
     let letter = if c.parts[0].orientable { 'o' } else { 'n' };
-    format!("V - E + F = {} - {} + {} = {}, {letter}", c.vertices, c.edges, c.faces, c.euler())
+    let (poles, strips, walks) = (many(c.vertices, "pole"), many(c.edges, "strip"), many(c.faces, "walk"));
+    format!("{poles} - {strips} + {walks} = {}, {letter}", c.euler())
+}
+
+fn many(n: usize, what: &str) -> String {
+    format!("{n} {what}{}", if n == 1 { "" } else { "s" })
 }
 
 /// What a shell with one part becomes when every walk is closed by a panel.
@@ -205,14 +215,14 @@ fn shape(table: &[u16]) -> &'static str {
     }
 }
 
-pub fn dome_darts() -> Picture {
+pub fn dome_ends() -> Picture {
     let shell = Shell::new(made(&edits(DOME)), wheel(p(330.0, 290.0), 250.0, 5));
     let mut picture = Picture::new(
         660.0,
         570.0,
-        "The dome's poles, strips and darts",
+        "The dome's poles, strips and ends",
         "The dome of examples/dome.txt: pole 0 in the middle, poles 1 to 5 counterclockwise around it, ten strips. Each strip has \
-         its number in a box at its middle, and its two darts beside its ends.",
+         its number in a box at its middle, and the numbers of its two ends at the poles.",
     );
     shell.frame(&mut picture);
     for e in live_edges(&shell.table) {
@@ -231,29 +241,50 @@ pub fn dome_darts() -> Picture {
         p(330.0, 552.0),
         Anchor::Middle,
         13.0,
-        "in boxes: strips; by the arrows: darts, on the side of the corner that they end",
+        "in boxes: strips; by the arrows: ends, on the side of the corner of that number",
     );
     picture
 }
 
-pub fn dome() -> Picture {
-    let shell = Shell::new(made(&edits(DOME)), wheel(p(330.0, 305.0), 215.0, 5));
+/// The dome drawn with its pole 0 at a point, its ribbons, and what a picture of it says.
+fn woven_dome(centre: P, radius: f64) -> (Shell, Vec<Vec<Step>>, String) {
+    let shell = Shell::new(made(&edits(DOME)), wheel(centre, radius, 5));
     let walks = ribbons(&shell.table);
     for e in live_edges(&shell.table) {
         let [a, b] = Faces::of(&shell.table).sides(e).map(|side| step_letters(&shell.table, side.step));
         assert!(a.len() == 1 && b.len() == 1 && a != b, "strip {e} is passed once over and once under");
     }
-    let mut picture = Picture::new(
-        660.0,
-        705.0,
-        "The dome and its ribbon",
-        &format!(
-            "The dome of examples/dome.txt is woven of {} ribbon of {} steps. It passes every strip twice, once over and once under; \
-             where it goes under it is drawn broken. The steps are numbered in the order of travel.",
-            walks.len(),
-            walks[0].len()
-        ),
+    let about = format!(
+        "The dome of examples/dome.txt is woven of {} ribbon of {} steps. It passes every strip twice, once over and once under; \
+         where it goes under it is drawn broken.",
+        walks.len(),
+        walks[0].len()
     );
+    (shell, walks, about)
+}
+
+/// "1 ribbon, 20 steps, weave plain"
+fn weave_words(table: &[u16], walks: &[Vec<Step>]) -> String {
+    format!("{} ribbon, {} steps, weave {}", walks.len(), walks[0].len(), weave(table))
+}
+
+/// The dome as the README shows it, at two thirds of its size.
+pub fn dome() -> Picture {
+    let (shell, walks, about) = woven_dome(p(255.0, 243.0), 170.0);
+    let mut picture = Picture::new(510.0, 505.0, "The dome and its ribbon", &about);
+    shell.frame(&mut picture);
+    for steps in &walks {
+        shell.ribbon(&mut picture, steps, RIBBON);
+    }
+    shell.poles(&mut picture);
+    picture.text(p(255.0, 488.0), Anchor::Middle, 20.0, &weave_words(&shell.table, &walks));
+    picture
+}
+
+pub fn dome_steps() -> Picture {
+    let (shell, walks, about) = woven_dome(p(330.0, 305.0), 215.0);
+    let about = about + " The steps are numbered in the order of travel, and listed as the report has them.";
+    let mut picture = Picture::new(660.0, 705.0, "The dome's ribbon, step by step", &about);
     shell.frame(&mut picture);
     for steps in &walks {
         shell.ribbon(&mut picture, steps, RIBBON);
@@ -261,8 +292,7 @@ pub fn dome() -> Picture {
         fields(&mut picture, &shell.table, steps, p(50.0, 632.0), 7, 88.0);
     }
     shell.poles(&mut picture);
-    let words = format!("{} ribbon, {} steps, weave {}", walks.len(), walks[0].len(), weave(&shell.table));
-    picture.text(p(330.0, 604.0), Anchor::Middle, 14.0, &words);
+    picture.text(p(330.0, 604.0), Anchor::Middle, 14.0, &weave_words(&shell.table, &walks));
     picture
 }
 
@@ -275,7 +305,7 @@ pub fn closing() -> Picture {
         "The dome's frame without turns, and small shells that do and do not close",
         &format!(
             "Left: the dome with no turns has {} walks, one around each opening and one around the rim. Right: five small shells with \
-             their numbers of poles, strips and walks, V - E + F, and whether they are orientable.",
+             poles - strips + walks, and whether they are orientable.",
             walks.len()
         ),
     );
@@ -290,7 +320,8 @@ pub fn closing() -> Picture {
         picture.label(place, 13.0, &format!("walk {i}"));
     }
     shell.poles(&mut picture);
-    picture.text(p(230.0, 470.0), Anchor::Middle, 14.0, &format!("{}: {}", sum(&shell.table), shape(&shell.table)));
+    picture.text(p(230.0, 455.0), Anchor::Middle, 14.0, &sum(&shell.table));
+    picture.text(p(230.0, 477.0), Anchor::Middle, 14.0, shape(&shell.table));
 
     let loop_of = |k: i16| vec![add(0), insert(0, lone(0), lone(0), k)];
     let two = |k1: i16, k2: i16| [loop_of(k1), vec![insert(1, 0, 1, k2)]].concat();
@@ -364,12 +395,7 @@ pub fn tent() -> Picture {
     let out = missing + (missing - shell.places[0]).unit() * 52.0;
     picture.label(out - p(0.0, 9.0), 13.0, "no strip:");
     picture.typed(out + p(0.0, 14.0), Anchor::Middle, 13.0, &records.join(" "));
-    picture.text(
-        p(330.0, 578.0),
-        Anchor::Middle,
-        14.0,
-        &format!("{} ribbon, {n} steps, weave {}", walks.len(), weave(&shell.table)),
-    );
+    picture.text(p(330.0, 578.0), Anchor::Middle, 14.0, &weave_words(&shell.table, &walks));
     for &i in &found {
         let q = p(50.0 + 88.0 * (i % 7) as f64, 608.0 + 21.0 * (i / 7) as f64);
         picture.frame(q + p(3.0, -14.0), 62.0, 19.0, "#e4e4e4", pen(1.0, BLACK));
@@ -378,36 +404,39 @@ pub fn tent() -> Picture {
     picture
 }
 
-/// The strokes by which ribbons are told apart.
-const STROKES: [(&str, Pen); 4] = [
-    ("solid", pen(3.4, BLACK)),
-    ("double", pen(5.4, BLACK).double(2.6)),
-    ("dashed", pen(3.4, BLACK).dashed("9 5")),
-    ("grey", pen(5.0, "#999")),
-];
+/// The colours by which ribbons are told apart: four of Okabe and Ito's, which the colour-blind tell apart too, and which differ
+/// in lightness when they are printed in grey.
+const COLOURS: [(&str, &str); 4] =
+    [("black", BLACK), ("blue", "#0072b2"), ("orange", "#e69f00"), ("purple", "#cc79a7")];
 
 pub fn pavilion_ribbons() -> Picture {
     let centre = p(300.0, 300.0);
     let square = |radius: f64| (0..4).map(move |i| polar(centre, radius, 225.0 - 90.0 * i as f64));
     let shell = Shell::new(pavilion(), square(270.0).chain(square(105.0)).collect());
     let walks = ribbons(&shell.table);
-    assert_eq!(walks.len(), STROKES.len());
+    let inks: Vec<(&str, Pen)> = COLOURS.iter().map(|&(name, colour)| (name, pen(4.6, colour))).collect();
+    assert_eq!(walks.len(), inks.len());
     let mut picture = Picture::new(
         880.0,
         600.0,
         "The pavilion and its ribbons",
         &format!(
             "The pavilion of examples/host.c seen from above: poles 0 to 3 below, drawn outside, poles 4 to 7 above them, drawn inside. \
-             Its {} ribbons are drawn in different strokes; each goes over and under in turn.",
+             Its {} ribbons have a colour each, and are drawn broken where they go under; each goes over and under in turn.",
             walks.len()
         ),
     );
     shell.frame(&mut picture);
-    for (steps, (_, pen)) in walks.iter().zip(STROKES) {
+    for (steps, &(_, pen)) in walks.iter().zip(&inks) {
         shell.ribbon(&mut picture, steps, pen);
     }
     shell.poles(&mut picture);
-    for (i, (steps, (name, pen))) in walks.iter().zip(STROKES).enumerate() {
+    for (i, (steps, &(name, pen))) in walks.iter().zip(&inks).enumerate() {
+        let outside = |to: Step| shell.corner(corner_met(&shell.table, to)).0 > 180.0;
+        for (bend, _, to) in shell.bends(steps).into_iter().filter(|&(_, _, to)| outside(to)) {
+            let at = bend.at(0.5);
+            picture.label(at + (at - shell.pole_of(to.dart)).unit() * 40.0, 13.0, &format!("ribbon {i}"));
+        }
         let y = 150.0 + 92.0 * i as f64;
         picture.line(p(630.0, y - 5.0), p(690.0, y - 5.0), pen);
         picture.bold(p(702.0, y), Anchor::Start, 14.0, &format!("ribbon {i}, {name}"));

@@ -149,14 +149,14 @@ pub fn crossings() -> Picture {
         870.0,
         400.0,
         "Crossings and their letters",
-        "Edges of 1, 2 and -1 turns, each travelled by dart 0 and by dart 1, with type 0 and with type 1. The side that is \
+        "Strips of 1, 2 and -1 turns, each travelled from end 0 and from end 1, with type 0 and with type 1. The side that is \
          travelled is bold; O where it goes over, U where it goes under. The letters depend on the turns and on the type, and are \
-         the same for both darts.",
+         the same from both ends.",
     );
     let columns = [step(0, 0), step(0, 1), step(1, 0), step(1, 1)];
     for (c, s) in columns.into_iter().enumerate() {
         let x = 100.0 + 196.0 * c as f64;
-        picture.bold(p(x + 73.0, 28.0), Anchor::Middle, 14.0, &format!("dart {}, type {}", s.dart, s.t));
+        picture.bold(p(x + 73.0, 28.0), Anchor::Middle, 14.0, &format!("from end {}, type {}", s.dart, s.t));
         let side = if s.t == 0 { "right" } else { "left" };
         picture.text(p(x + 73.0, 48.0), Anchor::Middle, 12.0, &format!("begins on the {side}"));
     }
@@ -212,8 +212,8 @@ pub fn steps() -> Picture {
         820.0,
         565.0,
         "One step of a walk",
-        "Four steps along dart 0, with type 0 and type 1, over an edge without a turn and over an edge with one turn. Each picture \
-         says which corner the step meets and which step comes next.",
+        "Four steps from end 0, with type 0 and type 1, along a strip without a turn and along one with a turn. Each picture says which \
+         corner the step meets and which step comes next.",
     );
     for (column, k) in [0, 1].into_iter().enumerate() {
         for t in [0, 1] {
@@ -273,16 +273,19 @@ fn one_step(picture: &mut Picture, corner: P, table: &[u16], s: Step) {
         corner + p(205.0, 22.0),
         Anchor::Middle,
         15.0,
-        &format!("step ({}, {}) over {}", s.dart, s.t, turns_words(k)),
+        &format!("step {}/{} along a strip with {}", s.dart, s.t, turns_words(k)),
     );
     let side = if s.t == 0 { "right" } else { "left" };
     let words = format!("meets corner {met}, begins on the {side}");
     picture.text(corner + p(205.0, 244.0), Anchor::Middle, 13.0, &words);
     let arrived = reverse(s.dart);
-    let (rule, on) =
-        if next_step.t == 0 { ("next after", next(table, arrived)) } else { ("previous to", previous(table, arrived)) };
+    let (rule, on) = if next_step.t == 0 {
+        ("the next end after", next(table, arrived))
+    } else {
+        ("the end previous to", previous(table, arrived))
+    };
     assert_eq!(next_step.dart, on);
-    let words = format!("then ({}, {}): {rule} {}", next_step.dart, next_step.t, arrived);
+    let words = format!("then {}/{}: {rule} {}", next_step.dart, next_step.t, arrived);
     picture.text(corner + p(205.0, 264.0), Anchor::Middle, 13.0, &words);
 }
 

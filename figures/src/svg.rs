@@ -1,4 +1,4 @@
-//! A picture as SVG text: black and greys, strokes told apart by width and dashes, text as text.
+//! A picture as SVG text: black and greys, and a colour for each ribbon where there are several; text as text.
 //!
 //! Coordinates are printed as whole hundredths, so that the file is the same on every machine.
 

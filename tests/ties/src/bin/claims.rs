@@ -11,5 +11,6 @@ fn main() -> ExitCode {
     faults.extend(ties::total::faults(&tree));
     faults.extend(ties::tried::faults(&tree));
     faults.extend(ties::copied::faults(&tree));
+    faults.extend(ties::heads::faults(&tree));
     ties::told("claims", &faults)
 }

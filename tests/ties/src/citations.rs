@@ -1,4 +1,4 @@
-//! What a document cites. The grammar stands at the head of docs/CLAIMS.md, "How to read it"; what does not fit it is a fault.
+//! What a document cites. The grammar stands at the head of docs/CLAIMS.md, "How to read them"; what does not fit it is a fault.
 
 use crate::markdown::{spans, Block, Mark, Span};
 use crate::tree::Tree;

@@ -1,6 +1,6 @@
-//! The claims, docs/CLAIMS.md and the files of docs/claims/, and the key statements of the README: every name stands in the file that they name, every
-//! contract can be read without laws, every wrong program that they name is there, every one is named in the claims, and every function of the header
-//! has its entry in the claims, whose expressions stand in its contract. Each entry has the form that the index says, and the index has every file.
+//! The claims, docs/CLAIMS.md and the files of docs/claims/: every name stands in the file that they name, every contract can be read without laws, every
+//! wrong program that they name is there, every one is named, and every function of the header has its entry, whose expressions stand in its contract.
+//! Each entry has the form that the index says, and the index lists every file and has the reading order.
 
 use crate::citations::Citations;
 use crate::entries::{begins_entry, entries, Entry, ANSWER, AT_EXIT};
@@ -10,24 +10,15 @@ use crate::tree::Tree;
 use std::collections::BTreeSet;
 
 const INDEX: &str = "docs/CLAIMS.md";
-const README: &str = "README.md";
 const INTERFACE: &str = "crates/planner/src/lib.rt";
 
 /// The section of the claims that explains the citations, and so holds examples.
 const GRAMMAR: &str = "How to read them";
 /// The section of the claims whose numbered list is the reading order.
 const READING_ORDER: &str = "In which order to read the definitions";
-/// The head of the README's column of names that stand in the row's crate.
-const KEY_STATEMENTS: &str = "Key statements";
 
 /// One line for each fault.
 pub fn faults(tree: &Tree) -> Vec<String> {
-    let mut faults = in_claims(tree);
-    faults.extend(in_readme(tree));
-    faults
-}
-
-fn in_claims(tree: &Tree) -> Vec<String> {
     let Some(index) = tree.read(INDEX) else {
         return vec![format!("{INDEX} is not there")];
     };
@@ -50,8 +41,7 @@ fn in_index(tree: &Tree, text: &str, files: &BTreeSet<String>) -> Vec<String> {
     let entries = entries(&blocks).0;
     let calls: BTreeSet<&str> = entries.iter().filter_map(Entry::call).collect();
     let without = tree.header_functions().into_iter().filter(|call| !calls.contains(call.as_str()));
-    let mut faults: Vec<String> =
-        without.map(|call| format!("{INDEX}: {call} of the header has no entry")).collect();
+    let mut faults: Vec<String> = without.map(|call| format!("{INDEX}: {call} of the header has no entry")).collect();
     let linked: BTreeSet<String> = links(text).into_iter().filter(|link| link.starts_with("claims/")).collect();
     faults.extend(files.difference(&linked).map(|file| format!("{INDEX}: docs/{file} is not listed")));
     faults.extend(linked.difference(files).map(|file| format!("{INDEX}: there is no docs/{file}")));
@@ -138,40 +128,4 @@ fn contains(text: &str, expression: &str) -> bool {
         }
     }
     true
-}
-
-fn in_readme(tree: &Tree) -> Vec<String> {
-    let Some(text) = tree.read(README) else {
-        return vec![format!("{README} is not there")];
-    };
-    let mut citations = Citations::new(tree, README);
-    let mut key_statements = 0;
-    for block in blocks(&text) {
-        if matches!(&block.cell, Some(cell) if cell.head == KEY_STATEMENTS) {
-            read_key_statements(&mut citations, tree, &block);
-            key_statements += 1;
-        }
-    }
-    if key_statements == 0 {
-        citations.faults.push(format!("{README}: no table with the column \"{KEY_STATEMENTS}\""));
-    }
-    citations.faults
-}
-
-/// The key statements of a crate stand in one of its specs, or are functions of it with a contract; `planner_...` stands for
-/// all the calls.
-fn read_key_statements(citations: &mut Citations, tree: &Tree, block: &Block) {
-    let name = block.cell.as_ref().unwrap().first.trim_matches('`').to_string();
-    let declared = tree.specs(&name);
-    let functions = tree.functions_of(&name);
-    for span in citations.spans_of(block).0 {
-        let calls = span.text.strip_suffix("...");
-        let function = |function: &Function| match calls {
-            Some(front) => function.name.starts_with(front),
-            None => function.name == span.text && function.has_contract(),
-        };
-        if !declared.contains(&span.text) && !functions.iter().any(function) {
-            citations.fault(span.line, format!("`{}` stands in no spec of crate {name}", span.text));
-        }
-    }
 }

@@ -43,7 +43,7 @@ impl Entry<'_> {
     fn keys(&self) -> &'static [Key] {
         if self.call().is_some() {
             OF_A_CALL
-        } else if self.items.iter().any(|item| item.key == OF_A_WRONG_READING[0].0) {
+        } else if self.items.first().is_some_and(|item| item.key == OF_A_WRONG_READING[0].0) {
             OF_A_WRONG_READING
         } else {
             OF_A_SENTENCE
@@ -91,18 +91,19 @@ impl Item<'_> {
 /// The entries of a document in their order, and the lines of the items that have none.
 pub fn entries(blocks: &[Block]) -> (Vec<Entry<'_>>, Vec<usize>) {
     let mut found: Vec<Entry> = Vec::new();
-    let (mut open, mut strays) = (false, Vec::new());
+    // The line after the last entry.
+    let (mut below, mut strays) = (0, Vec::new());
     for block in blocks {
         let item = Item { key: key(block), block };
         if begins_entry(block) {
             found.push(Entry { title: block, items: Vec::new() });
-            open = true;
-        } else if open && begins_item(&block.text) {
+        } else if block.line == below && begins_item(&block.text) {
             found.last_mut().unwrap().items.push(item);
         } else {
-            open = false;
             strays.extend(is_key(&item.key).then_some(block.line));
+            continue;
         }
+        below = block.line + block.text.lines().count();
     }
     (found, strays)
 }

@@ -1,5 +1,6 @@
 //! What a spec file declares. A name stands in a file if it is declared at the left margin, or further in as `pub`, or is a
-//! constructor of a data type there, or is passed on by `pub use M.{..}`. Local definitions do not count.
+//! constructor of a data type there, or is passed on by `pub use M.{..}`. What a module further in keeps to itself is apart.
+//! Local definitions do not count.
 
 use std::collections::BTreeSet;
 
@@ -8,6 +9,14 @@ pub struct Declared {
     pub names: BTreeSet<String>,
     /// Fields of records, without their dot.
     pub fields: BTreeSet<String>,
+    /// Names further in than the left margin that are not `pub`, of a module and not of a definition.
+    pub inner: BTreeSet<String>,
+}
+
+impl Declared {
+    pub fn all(&self) -> BTreeSet<String> {
+        [&self.names, &self.fields, &self.inner].into_iter().flatten().cloned().collect()
+    }
 }
 
 enum Body {
@@ -20,6 +29,8 @@ pub fn declared(text: &str) -> Declared {
     // The record or data type whose body is being read, and the column at which it was declared.
     let mut body: Option<(Body, usize)> = None;
     let mut passed_on: Option<String> = None;
+    // The columns of the modules that are open.
+    let mut modules: Vec<usize> = Vec::new();
     for line in text.lines() {
         let (column, line) = (line.len() - line.trim_start().len(), line.trim());
         if line.is_empty() || line.starts_with("--") {
@@ -33,10 +44,15 @@ pub fn declared(text: &str) -> Declared {
             if matches!(body, Some((_, at)) if column <= at) {
                 body = None;
             }
+            modules.retain(|at| *at < column);
             match &body {
                 Some((kind, at)) if column == at + 2 => note_member(&mut found, kind, line),
                 Some(_) => {}
-                None => body = note_declaration(&mut found, column, line),
+                None if line.trim_start_matches("pub ").starts_with("module ") => modules.push(column),
+                None => {
+                    let of_module = column == modules.last().map_or(0, |at| at + 2);
+                    body = note_declaration(&mut found, column, of_module, line);
+                }
             }
         }
         if matches!(&passed_on, Some(names) if names.contains('}')) {
@@ -57,7 +73,7 @@ fn note_member(found: &mut Declared, kind: &Body, line: &str) {
     }
 }
 
-fn note_declaration(found: &mut Declared, column: usize, line: &str) -> Option<(Body, usize)> {
+fn note_declaration(found: &mut Declared, column: usize, of_module: bool, line: &str) -> Option<(Body, usize)> {
     let (mut rest, mut public) = (line, false);
     while let Some((word, after)) = rest.split_once(' ') {
         match word {
@@ -68,6 +84,7 @@ fn note_declaration(found: &mut Declared, column: usize, line: &str) -> Option<(
         rest = after;
     }
     if column > 0 && !public {
+        found.inner.extend(signed(rest).filter(|_| of_module));
         return None;
     }
     for (keyword, body) in [("record ", Body::Record), ("data ", Body::Data)] {

@@ -1,7 +1,8 @@
-//! What a document cites. The grammar stands at the head of docs/CLAIMS.md, "How to read it"; what does not fit it is a fault.
+//! What a document cites. The grammar stands at the head of docs/CLAIMS.md, "How to read them"; what does not fit it is a fault.
 
 use crate::markdown::{spans, Block, Mark, Span};
 use crate::tree::Tree;
+use crate::{rattle, rooms};
 use std::collections::BTreeSet;
 
 /// A spec file: crates/CRATE/specs/FILE.antt.
@@ -70,10 +71,9 @@ impl<'a> Citations<'a> {
     /// Check what a block cites.
     pub fn read(&mut self, block: &Block) {
         let (spans, tail) = self.spans_of(block);
-        let column = block.cell.as_ref().and_then(|cell| self.spec_of(cell.head.split('`').nth(1).unwrap_or("")));
-        // The file whose names are being listed; at the start of a cell, the one that the column's head names.
-        let mut list = column;
-        let mut listing = list.is_some();
+        // The file whose names are being listed.
+        let mut list = None;
+        let mut listing = false;
         let mut run = Run::default();
         for (i, span) in spans.iter().enumerate() {
             let after = spans.get(i + 1).map_or(&tail, |next| &next.before);
@@ -86,7 +86,7 @@ impl<'a> Citations<'a> {
                 self.read_crate(span);
                 continue;
             }
-            let goes_on = joins(&span.before) || i == 0;
+            let goes_on = joins(&span.before);
             match self.cited(span) {
                 Some(Cited::Spec(spec)) => {
                     self.end_run(&mut run);
@@ -116,7 +116,7 @@ impl<'a> Citations<'a> {
                     listing = false;
                     if !self.tree.has(&path) {
                         self.fault(span.line, format!("there is no {path}"));
-                    } else if span.before.trim_start_matches('\n') == " (" && after.starts_with(')') {
+                    } else if span.before == " (" && after.starts_with(')') {
                         self.read_contracts(&path, &mut run);
                     }
                 }
@@ -234,16 +234,21 @@ impl<'a> Citations<'a> {
         }
     }
 
-    /// "`f`, `g` (`crate/src/file.rt`)": contracts of functions of that file.
+    /// "`f`, `g` (`crate/src/file.rt`)": contracts of functions of that file, which a reader of the first room can read.
     fn read_contracts(&mut self, path: &str, run: &mut Run) {
-        let functions = self.tree.functions(path).unwrap_or_default();
+        let source = self.tree.read(path).unwrap_or_default();
+        let functions = rattle::functions(&source);
         for (name, line) in std::mem::take(run).names {
             match functions.iter().find(|function| function.name == name) {
                 None => self.fault(line, format!("{path} has no function `{name}`")),
                 Some(function) if !function.has_contract() => {
                     self.fault(line, format!("`{name}` of {path} promises nothing"));
                 }
-                Some(_) => {}
+                Some(function) => {
+                    for law in rooms::laws_in(&source, &function.promise()) {
+                        self.fault(line, format!("the contract of `{name}` {law}"));
+                    }
+                }
             }
             self.placed.insert(name);
         }
@@ -273,15 +278,11 @@ impl<'a> Citations<'a> {
 
 /// Text between names of one list: a comma or a colon, `and` or `by`, and before them a remark in parentheses.
 fn joins(between: &str) -> bool {
-    let mut text = between.replace('\n', " ");
-    if let Some(after) = text.strip_prefix(" (").and_then(|rest| rest.split_once(')')).map(|(_, after)| after) {
-        text = after.to_string();
-    }
-    matches!(text.as_str(), " " | ", " | ": " | " and " | ", and " | " by " | ", by ")
+    let after_remark = between.strip_prefix(" (").and_then(|rest| rest.split_once(')')).map(|(_, after)| after);
+    matches!(after_remark.unwrap_or(between), " " | ", " | ": " | " and " | ", and " | " by " | ", by ")
 }
 
 fn ends_with_contract(before: &str) -> bool {
-    let before = before.replace('\n', " ");
     before.ends_with("contract of ") || before.ends_with("contracts of ")
 }
 

@@ -1,68 +1,93 @@
-//! The citations of docs/CLAIMS.md and of the README: every name stands in the file that they name, every wrong program that
-//! they name is there, every one is named in the claims, and every function of the header has its row in the claims' table
-//! of the C interface, whose expressions stand in its contract.
+//! The claims, docs/CLAIMS.md and the files of docs/claims/: every name stands in the file that they name, every contract can be read without laws, every
+//! wrong program that they name is there, every one is named, and every function of the header has its entry, whose expressions stand in its contract.
+//! Each entry has the form that the index says, and the index lists every file and has the reading order.
 
 use crate::citations::Citations;
+use crate::entries::{begins_entry, entries, Entry, ANSWER, AT_EXIT};
 use crate::markdown::{begins_item, blocks, Block};
 use crate::rattle::Function;
 use crate::tree::Tree;
 use std::collections::BTreeSet;
 
-const CLAIMS: &str = "docs/CLAIMS.md";
-const README: &str = "README.md";
+const INDEX: &str = "docs/CLAIMS.md";
 const INTERFACE: &str = "crates/planner/src/lib.rt";
 
 /// The section of the claims that explains the citations, and so holds examples.
-const GRAMMAR: &str = "How to read it";
-/// The section of the README whose numbered list is the reading order.
-const READING_ORDER: &str = "Reading on";
-/// The head of the first column of the claims' table of the C interface, and that of its column of wrong programs.
-const CALLS: &str = "Call";
-const RULED_OUT: &str = "Rules out";
-/// The head of the README's column of names that stand in the row's crate.
-const KEY_STATEMENTS: &str = "Key statements";
+const GRAMMAR: &str = "How to read them";
+/// The section of the claims whose numbered list is the reading order.
+const READING_ORDER: &str = "In which order to read the definitions";
 
 /// One line for each fault.
 pub fn faults(tree: &Tree) -> Vec<String> {
-    let mut faults = in_claims(tree);
-    faults.extend(in_readme(tree));
+    let Some(index) = tree.read(INDEX) else {
+        return vec![format!("{INDEX} is not there")];
+    };
+    let files = tree.files_below("docs", &["claims"]);
+    let (mut faults, mut named) = (in_index(tree, &index, &files), BTreeSet::new());
+    for document in [INDEX.to_string()].into_iter().chain(files.iter().map(|file| format!("docs/{file}"))) {
+        let mut citations = Citations::new(tree, &document);
+        read_document(&mut citations, tree, &tree.read(&document).unwrap_or_default());
+        faults.append(&mut citations.faults);
+        named.append(&mut citations.wrongs);
+    }
+    let unnamed = tree.wrongs().into_iter().filter(|wrong| !named.contains(wrong));
+    faults.extend(unnamed.map(|wrong| format!("{INDEX}: the wrong program {wrong} is not named")));
     faults
 }
 
-fn in_claims(tree: &Tree) -> Vec<String> {
-    let Some(text) = tree.read(CLAIMS) else {
-        return vec![format!("{CLAIMS} is not there")];
-    };
-    let mut citations = Citations::new(tree, CLAIMS);
-    let interface = tree.functions(INTERFACE).unwrap_or_default();
-    let mut rows = BTreeSet::new();
-    for block in blocks(&text).iter().filter(|block| block.section != GRAMMAR) {
-        match &block.cell {
-            Some(cell) if cell.first_head == CALLS && cell.column == 0 => {
-                citations.read(block);
-                rows.insert(cell.first.trim_matches('`').to_string());
-            }
-            Some(cell) if cell.first_head == CALLS && cell.head != RULED_OUT => {
-                let call = cell.first.trim_matches('`');
-                read_expressions(&mut citations, block, interface.iter().find(|function| function.name == call));
-            }
-            _ => citations.read(block),
-        }
+/// What the index alone has: an entry for each call, the files of the claims, and the reading order.
+fn in_index(tree: &Tree, text: &str, files: &BTreeSet<String>) -> Vec<String> {
+    let blocks = blocks(text);
+    let entries = entries(&blocks).0;
+    let calls: BTreeSet<&str> = entries.iter().filter_map(Entry::call).collect();
+    let without = tree.header_functions().into_iter().filter(|call| !calls.contains(call.as_str()));
+    let mut faults: Vec<String> = without.map(|call| format!("{INDEX}: {call} of the header has no entry")).collect();
+    let linked: BTreeSet<String> = links(text).into_iter().filter(|link| link.starts_with("claims/")).collect();
+    faults.extend(files.difference(&linked).map(|file| format!("{INDEX}: docs/{file} is not listed")));
+    faults.extend(linked.difference(files).map(|file| format!("{INDEX}: there is no docs/{file}")));
+    let numbered = |block: &Block| !block.text.starts_with('-') && begins_item(&block.text);
+    if !blocks.iter().any(|block| block.section == READING_ORDER && numbered(block)) {
+        faults.push(format!("{INDEX}: no numbered reading order under \"{READING_ORDER}\""));
     }
-    citations.finish();
-    for call in tree.header_functions().iter().filter(|call| !rows.contains(*call)) {
-        citations.faults.push(format!("{CLAIMS}: {call} of the header has no row"));
-    }
-    for wrong in tree.wrongs().difference(&citations.wrongs.clone()) {
-        citations.faults.push(format!("{CLAIMS}: the wrong program {wrong} is not named"));
-    }
-    citations.faults
+    faults
 }
 
-/// The expressions of a row of the C interface stand in the contract of the row's function.
-fn read_expressions(citations: &mut Citations, block: &Block, function: Option<&Function>) {
+/// Where the links of a document lead: `[..](here)`.
+fn links(text: &str) -> Vec<String> {
+    text.split("](").skip(1).filter_map(|after| after.split_once(')')).map(|(link, _)| link.to_string()).collect()
+}
+
+/// What a document of the claims cites, and the form of its entries.
+fn read_document(citations: &mut Citations, tree: &Tree, text: &str) {
+    let blocks: Vec<Block> = blocks(text).into_iter().filter(|block| block.section != GRAMMAR).collect();
+    let (entries, strays) = entries(&blocks);
+    if !text.starts_with("# ") || blocks.first().is_none_or(begins_entry) {
+        citations.fault(1, "it does not begin with a head and what it is about".to_string());
+    }
+    for line in strays {
+        citations.fault(line, "an item that stands below no sentence".to_string());
+    }
+    let interface = tree.functions(INTERFACE).unwrap_or_default();
+    let mut expressions = BTreeSet::new();
+    for entry in &entries {
+        for (line, fault) in entry.faults() {
+            citations.fault(line, fault);
+        }
+        let Some(call) = entry.call() else { continue };
+        for item in entry.items.iter().filter(|item| item.key == ANSWER || item.key == AT_EXIT) {
+            expressions.insert(item.block.line);
+            read_expressions(citations, item.block, call, interface.iter().find(|function| function.name == call));
+        }
+    }
+    for block in blocks.iter().filter(|block| !expressions.contains(&block.line)) {
+        citations.read(block);
+    }
+    citations.finish();
+}
+
+/// The expressions of an entry of the C interface stand in the contract of its function.
+fn read_expressions(citations: &mut Citations, block: &Block, call: &str, function: Option<&Function>) {
     let Some(function) = function else {
-        let call = &block.cell.as_ref().unwrap().first;
         return citations.fault(block.line, format!("{INTERFACE} has no function {call}"));
     };
     let contract = plainly(&function.text);
@@ -103,47 +128,4 @@ fn contains(text: &str, expression: &str) -> bool {
         }
     }
     true
-}
-
-fn in_readme(tree: &Tree) -> Vec<String> {
-    let Some(text) = tree.read(README) else {
-        return vec![format!("{README} is not there")];
-    };
-    let mut citations = Citations::new(tree, README);
-    let (mut items, mut key_statements) = (0, 0);
-    for block in blocks(&text) {
-        if block.section == READING_ORDER && !block.text.starts_with('-') && begins_item(&block.text) {
-            citations.read(&block);
-            items += 1;
-        } else if matches!(&block.cell, Some(cell) if cell.head == KEY_STATEMENTS) {
-            read_key_statements(&mut citations, tree, &block);
-            key_statements += 1;
-        }
-    }
-    citations.finish();
-    if items == 0 {
-        citations.faults.push(format!("{README}: no numbered reading order under \"{READING_ORDER}\""));
-    }
-    if key_statements == 0 {
-        citations.faults.push(format!("{README}: no table with the column \"{KEY_STATEMENTS}\""));
-    }
-    citations.faults
-}
-
-/// The key statements of a crate stand in one of its specs, or are functions of it with a contract; `planner_...` stands for
-/// all the calls.
-fn read_key_statements(citations: &mut Citations, tree: &Tree, block: &Block) {
-    let name = block.cell.as_ref().unwrap().first.trim_matches('`').to_string();
-    let declared = tree.specs(&name);
-    let functions = tree.functions_of(&name);
-    for span in citations.spans_of(block).0 {
-        let calls = span.text.strip_suffix("...");
-        let function = |function: &Function| match calls {
-            Some(front) => function.name.starts_with(front),
-            None => function.name == span.text && function.has_contract(),
-        };
-        if !declared.contains(&span.text) && !functions.iter().any(function) {
-            citations.fault(span.line, format!("`{}` stands in no spec of crate {name}", span.text));
-        }
-    }
 }

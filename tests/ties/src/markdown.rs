@@ -72,24 +72,31 @@ fn cells(line: &str) -> Vec<String> {
     line.split('|').map(|cell| cell.trim().replace('\u{0}', "|")).collect()
 }
 
+/// What stands around bold words.
+pub const BOLD: &str = "**";
+
 #[derive(PartialEq, Clone, Copy)]
 pub enum Mark {
     Backquotes,
     Italics,
 }
 
+/// Marked words, and the text between those before them and these, each as one line.
 pub struct Span {
     pub mark: Mark,
     pub text: String,
     pub line: usize,
-    /// The text between the span before it and this one.
     pub before: String,
 }
 
-/// The marked words of a block, and the text after the last one. An error if a mark is not closed.
+/// The marked words of a block, and the text after the last one. Bold is no mark. An error if a mark is not closed.
 pub fn spans(block: &Block) -> Result<(Vec<Span>, String), String> {
     let mut found = Vec::new();
-    let (mut rest, mut line) = (block.text.as_str(), block.line);
+    if block.text.matches(BOLD).count() % 2 == 1 {
+        return Err(format!("{}: a {BOLD} is not closed", block.line));
+    }
+    let text = block.text.replace(BOLD, "");
+    let (mut rest, mut line) = (text.as_str(), block.line);
     while let Some(at) = rest.find(['`', '*']) {
         let (before, marked) = rest.split_at(at);
         line += before.matches('\n').count();
@@ -98,9 +105,16 @@ pub fn spans(block: &Block) -> Result<(Vec<Span>, String), String> {
             return Err(format!("{line}: a {quote} is not closed"));
         };
         let mark = if quote == "`" { Mark::Backquotes } else { Mark::Italics };
-        found.push(Span { mark, text: text.to_string(), line, before: before.to_string() });
+        found.push(Span { mark, text: one_line(text), line, before: one_line(before) });
         line += text.matches('\n').count();
         rest = after;
     }
-    Ok((found, rest.to_string()))
+    Ok((found, one_line(rest)))
+}
+
+/// A text without its line ends: a line that goes on is indented, and that is no part of it.
+pub fn one_line(text: &str) -> String {
+    let mut lines = text.split('\n');
+    let first = lines.next().unwrap_or("").to_string();
+    lines.fold(first, |text, line| text + " " + line.trim_start())
 }

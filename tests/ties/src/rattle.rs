@@ -94,6 +94,17 @@ impl Function {
         self.text.contains("ensures {")
     }
 
+    /// What it promises to who calls it, without what it asks: each clause of a contract begins a line.
+    pub fn promise(&self) -> String {
+        let mut within = false;
+        let lines = self.text.lines().filter(|line| {
+            let start = line.trim_start();
+            within = start.starts_with("ensures {") || (within && !start.starts_with("requires {"));
+            within
+        });
+        lines.flat_map(|line| [line, "\n"]).collect()
+    }
+
     /// Can be called from C, under whatever name.
     pub fn is_for_c(&self) -> bool {
         self.text.contains("extern \"C\"")

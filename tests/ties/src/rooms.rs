@@ -2,6 +2,7 @@
 //! nothing of the second, and no theorem; but for a crate's Theorems.antt, whose proofs name laws, and for the definitions that are read off a
 //! proof and say so. The contract of a public function that asks nothing of its caller names the first room alone.
 
+use crate::rattle;
 use crate::tree::Tree;
 
 /// First-room files that a definition leads into laws/, with the line that does.
@@ -66,17 +67,23 @@ fn is_use(line: &str) -> bool {
 }
 
 fn in_source(tree: &Tree, path: &str) -> Vec<String> {
-    let laws = imported_laws(&tree.read(path).unwrap_or_default());
+    let source = tree.read(path).unwrap_or_default();
     let mut faults = Vec::new();
-    for function in tree.functions(path).unwrap_or_default().iter().filter(|function| function.is_open()) {
-        for law in laws.iter().filter(|law| !words(&function.text, law).is_empty()) {
-            faults.push(format!("{path}: the contract of {} names `{law}`, which stands in laws/", function.name));
-        }
-        if function.text.lines().any(names_second_room) {
-            faults.push(format!("{path}: the contract of {} has a path into laws/", function.name));
-        }
+    for function in rattle::functions(&source).iter().filter(|function| function.is_open()) {
+        let laws = laws_in(&source, &function.text).into_iter();
+        faults.extend(laws.map(|law| format!("{path}: the contract of {} {law}", function.name)));
     }
     faults
+}
+
+/// What a contract of a source needs of the second room to be read.
+pub fn laws_in(source: &str, contract: &str) -> Vec<String> {
+    let named = imported_laws(source).into_iter().filter(|law| !words(contract, law).is_empty());
+    let mut found: Vec<String> = named.map(|law| format!("names `{law}`, which stands in laws/")).collect();
+    if contract.lines().any(names_second_room) {
+        found.push("has a path into laws/".to_string());
+    }
+    found
 }
 
 /// The names that a source brings from laws/, as it calls them: those of a list, or of a whole module its own or the one given to it.

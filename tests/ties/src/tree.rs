@@ -44,6 +44,15 @@ impl Tree {
         self.listed(&format!("crates/{name}/specs"), ".antt")
     }
 
+    /// The files of a crate's two rooms; of the second as laws/FILE.
+    pub fn files_of_both_rooms(&self, name: &str) -> Vec<String> {
+        let in_folder = |folder: &str| {
+            let files = self.listed(&format!("crates/{name}/specs/{folder}"), ".antt");
+            files.into_iter().map(|file| format!("{folder}{file}")).collect::<Vec<_>>()
+        };
+        ["", "laws/"].into_iter().flat_map(in_folder).collect()
+    }
+
     pub fn source_files(&self, name: &str) -> BTreeSet<String> {
         self.listed(&format!("crates/{name}/src"), ".rt")
     }
@@ -63,12 +72,9 @@ impl Tree {
     pub fn declaring(&self, name: &str) -> Vec<String> {
         let mut found = Vec::new();
         for of in self.listed("crates", "") {
-            for folder in ["", "laws/"] {
-                for file in self.listed(&format!("crates/{of}/specs/{folder}"), ".antt") {
-                    let declared = self.spec(&of, &format!("{folder}{file}")).unwrap_or_default();
-                    if declared.names.contains(name) {
-                        found.push(format!("{of}/{folder}{file}"));
-                    }
+            for file in self.files_of_both_rooms(&of) {
+                if self.spec(&of, &file).unwrap_or_default().names.contains(name) {
+                    found.push(format!("{of}/{file}"));
                 }
             }
         }

@@ -1,30 +1,33 @@
-//! `tests/claims` on a small tree: nothing is found where all is well, and each kind of fault is found.
+//! The claims on a small tree: nothing is found where all is well, and each kind of fault is found.
 
 use ties::claims::faults;
 use ties::small::Trial;
 
-const CLAIMS: &str = "docs/CLAIMS.md";
-const README: &str = "README.md";
+const INDEX: &str = "docs/CLAIMS.md";
+const CLAIMS: &str = "docs/claims/table.md";
 const GOOD: &str = "crates/table/specs/Good.antt";
+const WHOLE: &str = "crates/table/src/whole.rt";
 
 const FILES: [(&str, &str); 10] = [
     (
-        CLAIMS,
-        "# Claims\n\n## How to read it\n\n`anything/Goes` here, *and here*.\n\n## The C interface\n\n\
-         | Call | Answer | Slice at exit | Rules out |\n|---|---|---|---|\n\
-         | `planner_check` | `codeOf (checkOf t out)` | `checked t ..`, lent as `&[u16]` | *planner/another_call* |\n\n\
-         The contract (`crates/planner/src/lib.rt`) of `planner_check`, by `good-case`, for crate `table`.\n\n\
-         ## Demand 1\n\n| Sentence | Statement |\n|---|---|\n\
-         | \"a \\| b\" | `table/Good` `Good` (as it says), `.size`, `good-case`\n\
-         | one | `table/Good`: `Shape`, `flat` and `helper`, by `inner`; contracts of `check`, `empty` (`table/src/whole.rt`) |\n\
-         | two | `table/Passing` `passed-on` as `Good t` has it; *table/wrong_number*, *table/wrong_size* |\n\n\
-         | Clause | Field of `table/Good` |\n|---|---|\n| one | `.size`, `.turns` |\n",
+        INDEX,
+        "# Claims\n\nAbout it.\n\n- [claims/table.md](claims/table.md): the table\n\n\
+         ## How to read them\n\n`anything/Goes` here, *and here*.\n\n\
+         ```text\n**a block**\n- says it: nothing\n```\n\n## The C interface\n\n\
+         The contract (`crates/planner/src/lib.rt`) of `planner_check`, for crate `table`.\n\n\
+         **`planner_check`**\n- answer: `codeOf (checkOf t\n  out)`\n- slice at exit: `checked t ..`, lent as `&[u16]`\n\
+         - rules out: *planner/another_call*\n\n## In which order to read the definitions\n\n\
+         1. `crates/table/specs/Good.antt`: `Good`, then `Passing.antt`;\n2. `crates/planner/src/lib.rt`.\n",
     ),
     (
-        README,
-        "# It\n\n| Crate | Key statements |\n|---|---|\n| `table` | `Good`; the contract of `check` |\n\
-         | `planner` | the `planner_...` functions |\n\n## Reading on\n\n- `docs/CLAIMS.md`\n\n\
-         1. `crates/table/specs/Good.antt`: `Good`, then `Passing.antt`;\n2. `crates/planner/src/lib.rt`.\n",
+        CLAIMS,
+        "# The table\n\nWhat it is about.\n\n\
+         **\"a sentence that\ngoes on\"**: and more\n- says it: `table/Good` `Good` (as it says), `.size`,\n  `good-case`\n\
+         - said with: `table/Good` `.turns`\n\n\
+         **one**\n- says it: `table/Good`: `Shape`, `flat` and `helper`, by `inner`; contracts of `check`, `empty`\n  (`table/src/whole.rt`)\n\
+         - rules out: *table/wrong_number*; another\n\n\
+         **two**\n- ruled out by: `table/Passing` `passed-on` as `Good t` has it; *table/wrong_size*\n\n\
+         A remark on this, by `good-case`.\n\n- An item of another list.\n",
     ),
     (
         GOOD,
@@ -35,9 +38,9 @@ const FILES: [(&str, &str); 10] = [
     ("crates/table/specs/Passing.antt", "use M.{unseen}\npub use M.{first,\n    passed-on}\n"),
     ("crates/table/specs/laws/Deep.antt", "pub deep : ℕ\n"),
     (
-        "crates/table/src/whole.rt",
-        "// fn gone() {\npub fn check(t: &[u16]) -> bool\n    ensures { λ r. ⌜ r ⌝ }\n{\n    true\n}\n\n\
-         fn empty(t: &[u16]) -> bool\n    ensures { λ r. ⌜ r ⌝ }\n{\n    true\n}\n\nfn silent() -> bool {\n    true\n}\n",
+        WHOLE,
+        "ghost use Rattle.table.specs.laws.Deep.{deep};\n// fn gone() {\npub fn check(t: &[u16]) -> bool\n    ensures { λ r. ⌜ r ⌝ }\n{\n    true\n}\n\n\
+         fn empty(t: &[u16]) -> bool\n    requires { ⌜ deep ⌝ }\n    ensures { λ r. ⌜ r ⌝ }\n{\n    true\n}\n\nfn silent() -> bool {\n    true\n}\n",
     ),
     ("crates/table/must-fail/each_function.edit", "wrong: wrong_number\nfile: src/whole.rt\n\nwrong: wrong_size\nfile: src/whole.rt\n"),
     ("crates/planner/must-fail/another_call.edit", "wrong: another_call\nfile: src/lib.rt\n"),
@@ -65,6 +68,13 @@ fn a_name_that_its_file_does_not_declare() {
     TRIAL.after("local", CLAIMS, "`inner`;", "`inner`, `local`;", &["table/Good declares no `local`"]);
     TRIAL.after("comment", CLAIMS, "`inner`;", "`inner`, `comment`;", &["table/Good declares no `comment`"]);
     TRIAL.after("constructor", GOOD, "  flat :", "  round :", &["declares no `flat`"]);
+    TRIAL.after(
+        "next-line",
+        CLAIMS,
+        "\n  `good-case`",
+        "\n  `best-case`, `good-case`",
+        &["table.md:8: table/Good declares no `best-"],
+    );
 }
 
 #[test]
@@ -79,15 +89,9 @@ fn a_field_that_no_record_has() {
         GOOD,
         "pub turns",
         "pub turn",
-        &["CLAIMS.md:25: table/Good has no record with the field `.turns`"],
+        &["table.md:9: table/Good has no record with the field `.turns`"],
     );
-    TRIAL.after(
-        "dot",
-        CLAIMS,
-        "`.size`, `good-case`",
-        "`size`, `good-case`",
-        &["declares no `size` (a field is cited with"],
-    );
+    TRIAL.after("dot", CLAIMS, "`.size`,", "`size`,", &["declares no `size` (a field is cited with"]);
     TRIAL.after("no-file", CLAIMS, "by `good-case`", "by `.size`", &["`.size` stands after no file"]);
 }
 
@@ -100,7 +104,7 @@ fn a_file_that_is_not_there() {
         "`table/Passings`",
         &["there is no crates/table/specs/Passings.antt"],
     );
-    TRIAL.after("crate", CLAIMS, "crate `table`", "crate `tables`", &["there is no crate `tables`"]);
+    TRIAL.after("crate", INDEX, "crate `table`", "crate `tables`", &["there is no crate `tables`"]);
     TRIAL.after(
         "source",
         CLAIMS,
@@ -125,7 +129,7 @@ fn a_law() {
         &["table/Good declares no `deep` (table/laws/Deep does)"],
     );
     TRIAL.after("law", CLAIMS, "`table/Passing` `passed-on`", "`table/laws/Deep`", &["cites a law"]);
-    TRIAL.after("law-path", README, "`Passing.antt`", "`crates/table/specs/laws/Deep.antt`", &["cites a law"]);
+    TRIAL.after("law-path", INDEX, "`Passing.antt`", "`crates/table/specs/laws/Deep.antt`", &["cites a law"]);
 }
 
 #[test]
@@ -141,10 +145,23 @@ fn a_contract_that_is_not_there() {
     TRIAL.after(
         "unfiled",
         CLAIMS,
-        " (`table/src/whole.rt`)",
+        "\n  (`table/src/whole.rt`)",
         "",
         &["the contract of `check` is cited without its file", "the contract of `empty` is cited without its file"],
     );
+}
+
+#[test]
+fn a_contract_that_names_a_law() {
+    let asks = "requires { ⌜ deep ⌝ }\n    ensures { λ r. ⌜ r";
+    let named = "table.md:12: the contract of `empty` names `deep`, which stands in laws/";
+    TRIAL.after("promise", WHOLE, asks, "ensures { λ r. ⌜ deep r", &[named]);
+    TRIAL.after("second-line", WHOLE, asks, "requires { ⌜ r ⌝ }\n    ensures { λ r. ⌜ r\n        × deep", &[named]);
+    TRIAL.after("asked-last", WHOLE, asks, "ensures { λ r. ⌜ r ⌝ }\n    requires { ⌜ deep", &[]);
+    let path = "ensures { λ r. ⌜ Rattle.table.specs.laws.Other.far r";
+    TRIAL.after("path", WHOLE, asks, path, &["the contract of `empty` has a path into laws/"]);
+    let uncited = TRIAL.whole("uncited").change(WHOLE, asks, "ensures { λ r. ⌜ deep r");
+    TRIAL.found(&uncited.change(CLAIMS, "`check`, `empty`", "`check`"), &[]);
 }
 
 #[test]
@@ -163,13 +180,22 @@ fn a_name_on_its_own() {
         "`flat` with `helper`",
         &["`helper` stands after no file", "`inner` stands after no file"],
     );
+    // Its file stands in another document.
+    TRIAL.after(
+        "other-document",
+        INDEX,
+        "for crate `table`",
+        "by `good-case`",
+        &["CLAIMS.md:18: `good-case` stands after"],
+    );
 }
 
 #[test]
 fn what_cannot_be_read() {
     TRIAL.after("unreadable", CLAIMS, "by `good-case`", "by `+ 1`", &["cannot read `+ 1`"]);
     TRIAL.after("italics", CLAIMS, "*table/wrong_number*", "*table/wrong_number* *so*", &["cannot read *so*"]);
-    TRIAL.after("open", CLAIMS, "by `good-case`", "by `good-case", &["CLAIMS.md:13: a ` is not closed"]);
+    TRIAL.after("open", CLAIMS, "by `good-case`", "by `good-case", &["table.md:19: a ` is not closed"]);
+    TRIAL.after("bold", CLAIMS, "**one**", "**one", &["table.md:11: a ** is not closed"]);
 }
 
 #[test]
@@ -197,25 +223,25 @@ fn a_must_fail_edit() {
 }
 
 #[test]
-fn the_rows_of_the_c_interface() {
+fn the_entries_of_the_c_interface() {
     let header = "include/planner.h";
     TRIAL.after(
-        "row",
+        "entry",
         header,
         "int64_t",
         "int64_t planner_plain(const uint16_t *t, size_t words);\nint64_t",
-        &["planner_plain of the header has no row"],
+        &["planner_plain of the header has no entry"],
     );
     TRIAL.after(
         "expression",
-        CLAIMS,
-        "`codeOf (checkOf t out)`",
-        "`codeOf (checkOf t)`",
-        &["`codeOf (checkOf t)` is not in the contract"],
+        INDEX,
+        "`codeOf (checkOf t\n  out)`",
+        "`codeOf (checkOf\n  t)`",
+        &["CLAIMS.md:21: `codeOf (checkOf t)` is not in the contract"],
     );
     TRIAL.after(
         "head",
-        CLAIMS,
+        INDEX,
         "`checked t ..`",
         "`check t ..`",
         &["`check t ..` is not in the contract of planner_check"],
@@ -226,35 +252,62 @@ fn the_rows_of_the_c_interface() {
         "planner_check",
         "planner_checks",
         &[
+            "planner_checks of the header has no entry",
             "include/planner.h has no planner_check",
             "include/planner.h has no planner_check",
-            "planner_checks of the header has no row",
         ],
     );
+    TRIAL.after("no-answer", INDEX, "- answer: `codeOf (checkOf t\n  out)`\n", "", &["it has no item \"answer\""]);
+    let nothing_ruled_out = TRIAL.whole("no-rules").change(INDEX, "- rules out: *planner/another_call*\n", "");
+    TRIAL.found(&nothing_ruled_out, &["CLAIMS.md:20: it has no item \"rules out\"", "another_call is not named"]);
+}
+
+#[test]
+fn the_form_of_an_entry() {
+    let wrong_reading = "- ruled out by: `table/Passing` `passed-on` as `Good t` has it; ";
+    TRIAL.after("unsaid", CLAIMS, wrong_reading, "- rules out: ", &["table.md:16: it has no item \"says it\""]);
+    TRIAL.after("key", CLAIMS, "- said with:", "- meant by:", &["table.md:9: \"meant by\" has no place here"]);
+    TRIAL.after("twice", CLAIMS, "- said with:", "- says it:", &["table.md:9: \"says it\" has no place here"]);
+    let order = "- rules out: so\n- said with:";
+    TRIAL.after("order", CLAIMS, "- said with:", order, &["table.md:10: \"said with\" has no place here"]);
+    let both = "; another\n- ruled out by: `table/Good`\n";
+    TRIAL.after("both", CLAIMS, "; another\n", both, &["table.md:15: \"ruled out by\" has no place here"]);
+    TRIAL.after(
+        "empty",
+        CLAIMS,
+        "- said with: `table/Good` `.turns`",
+        "- rules out:",
+        &["\"rules out\" holds nothing"],
+    );
+    TRIAL.after("words", CLAIMS, "`table/Good` `.turns`", "what there is", &["\"said with\" holds nothing"]);
+    TRIAL.after("indented", CLAIMS, "\n  `good-case`", "\n`good-case`", &["a line of \"says it\" is not indented"]);
+    let apart = ["table.md:18: an item that stands below no sentence", "table.md:16: it has no item \"says it\""];
+    TRIAL.after("apart", CLAIMS, "**two**\n", "**two**\n\n", &apart);
+    let bare = ["table.md:12: an item that stands below no", "table.md:14: an item that stands below no"];
+    TRIAL.after("bare", CLAIMS, "**one**", "one", &bare);
+}
+
+#[test]
+fn the_files_of_the_claims() {
+    let other = TRIAL.whole("unlisted").add("docs/claims/other.md", "# Other\n\nAbout `table/Bad`.\n");
+    TRIAL.found(&other, &["docs/claims/other.md is not listed", "other.md:3: there is no crates/table/specs/Bad.antt"]);
+    let gone = TRIAL.whole("file-gone").remove(CLAIMS);
+    let unnamed = ["there is no docs/claims/table.md", "table/wrong_number is not", "table/wrong_size is not"];
+    TRIAL.found(&gone, &unnamed);
+    TRIAL.after("no-about", CLAIMS, "What it is about.\n\n", "", &["table.md:1: it does not begin with a head"]);
+    TRIAL.after("no-head", CLAIMS, "# The table\n\n", "", &["table.md:1: it does not begin with a head"]);
+    TRIAL.found(&TRIAL.whole("no-index").remove(INDEX), &["docs/CLAIMS.md is not there"]);
 }
 
 #[test]
 fn the_reading_order() {
     TRIAL.after(
         "order-file",
-        README,
+        INDEX,
         "`Passing.antt`",
         "`Missing.antt`",
-        &["README.md:12: there is no crates/table/specs/Missing.antt"],
+        &["CLAIMS.md:28: there is no crates/table/specs/Missing.antt"],
     );
-    TRIAL.after("order-name", README, "`Good`, then", "`Best`, then", &["README.md:12: table/Good declares no `Best`"]);
-    TRIAL.after("order-gone", README, "## Reading on", "## Reading", &["no numbered reading order"]);
-}
-
-#[test]
-fn the_key_statements() {
-    TRIAL.after("key", README, "| `Good`; the", "| `deep`; the", &["`deep` stands in no spec of crate table"]);
-    TRIAL.after(
-        "key-function",
-        README,
-        "contract of `check`",
-        "contract of `silent`",
-        &["`silent` stands in no spec of crate table"],
-    );
-    TRIAL.after("key-column", README, "Key statements", "Statements", &["no table with the column"]);
+    TRIAL.after("order-name", INDEX, "`Good`, then", "`Best`, then", &["CLAIMS.md:28: table/Good declares no `Best`"]);
+    TRIAL.after("order-gone", INDEX, "## In which order", "## In what order", &["no numbered reading order"]);
 }

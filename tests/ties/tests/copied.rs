@@ -182,7 +182,7 @@ fn a_missing_function() {
             "is_dead calls `read`",
             "linked calls `read`",
             "check calls `read`",
-            "uses `counting::read::read`",
+            "uses `check_copy::read::read`",
         ],
     );
     TRIAL.found(&TRIAL.whole("no-below").remove(BELOW), &["is_dead is the copy of no", "check calls `is_dead`"]);
@@ -285,7 +285,7 @@ fn another_import() {
         "use crate::marks::MARKS;\n\npub const BLOCK",
         &["crates/table/src/block.rt uses `crate::marks::MARKS`"],
     );
-    let constant = "use table::other::EDGE;\nuse counting::read::read;";
+    let constant = "use table::other::EDGE;\nuse check_copy::read::read;";
     TRIAL.after("constant-of", COPY, "use check_copy::read::read;", constant, &["uses `table::other::EDGE`"]);
     TRIAL.after(
         "check-constant",
@@ -294,7 +294,7 @@ fn another_import() {
         "const BLOCK: usize = 16;\n\nfn linked",
         &["constant of its own"],
     );
-    let right = "use table::counted::Counted;\nuse table::layout::EDGE;\nuse counting::read::read;";
+    let right = "use table::counted::Counted;\nuse table::layout::EDGE;\nuse check_copy::read::read;";
     TRIAL.after("right", COPY, "use check_copy::read::read;", right, &[]);
 }
 

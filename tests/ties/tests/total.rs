@@ -45,7 +45,25 @@ fn an_exported_function_that_asks() {
 #[test]
 fn an_operation_that_asks() {
     let asks = "-> Answer\n    requires { ⌜ Good (now t) ⌝ }\n";
-    TRIAL.after("operation", LISTING, "-> Answer\n", asks, &["crates/tracing_listing/src/call.rt: list has a `requires`"]);
-    TRIAL.after("private", LISTING, "pub fn list", "fn list", &["crates/tracing_listing/src/call.rt: list is not public"]);
-    TRIAL.after("gone", LISTING, "pub fn list", "pub fn write", &["crates/tracing_listing/src/call.rt has no operation list"]);
+    TRIAL.after(
+        "operation",
+        LISTING,
+        "-> Answer\n",
+        asks,
+        &["crates/tracing_listing/src/call.rt: list has a `requires`"],
+    );
+    TRIAL.after(
+        "private",
+        LISTING,
+        "pub fn list",
+        "fn list",
+        &["crates/tracing_listing/src/call.rt: list is not public"],
+    );
+    TRIAL.after(
+        "gone",
+        LISTING,
+        "pub fn list",
+        "pub fn write",
+        &["crates/tracing_listing/src/call.rt has no operation list"],
+    );
 }

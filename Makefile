@@ -1,6 +1,6 @@
 # Build the library and the two programs, job and trial, check everything, and install them.
 PREFIX ?= /usr/local
-VERSION := 5.0.0
+VERSION := 5.0.1
 
 .PHONY: all check uninstall install
 
@@ -26,7 +26,7 @@ install:
 	install -m 644 include/planner.h $(DESTDIR)$(PREFIX)/include/planner.h
 	sed -e 's|@PREFIX@|$(PREFIX)|' -e 's|@VERSION@|$(VERSION)|' planner.pc.in > $(DESTDIR)$(PREFIX)/lib/pkgconfig/planner.pc
 
-# Draws the pictures of docs/GUIDE.md.
+# Draws the pictures of the documents.
 .PHONY: figures
 figures:
 	@CARGO_TARGET_DIR=target/cargo cargo run --quiet --offline --locked --release --manifest-path figures/Cargo.toml -- docs/figures

@@ -20,7 +20,7 @@ static uint8_t letters[LETTERS];
 
 /* A path: what is lent, in sixteenths of a millimetre, and what is written. */
 static int32_t points[POINTS], lifts[LIFTS];
-static uint16_t kinds[PIECES], remainders[3 * PIECES];
+static uint16_t forms[PIECES], remainders[3 * PIECES];
 static int32_t coords[3 * PIECES];
 static float floats[FLOATS];
 
@@ -196,7 +196,7 @@ static void place(void) {
 static void print_piece(long piece, int strip, int n) {
     static const char *const names[] = {"flat", "over", "under", "close"};
     int axis;
-    printf("%-8d%-5s", strip, names[kinds[piece]]);
+    printf("%-8d%-5s", strip, names[forms[piece]]);
     for (axis = 0; axis < 3; axis++) {
         printf("%9d %d/%d", (int)coords[3 * piece + axis], (int)remainders[3 * piece + axis], 2 * n);
     }
@@ -212,8 +212,8 @@ static void print_path(void) {
     steps = listing[0];
     dart = listing[1] / 2;
     type = listing[1] % 2;
-    in_floats = planner_float_path(table, WORDS, dart, type, points, POINTS, lifts, LIFTS, kinds, PIECES, floats, FLOATS);
-    pieces = planner_whole_path(table, WORDS, dart, type, points, POINTS, lifts, LIFTS, kinds, PIECES, coords, 3 * PIECES,
+    in_floats = planner_float_path(table, WORDS, dart, type, points, POINTS, lifts, LIFTS, forms, PIECES, floats, FLOATS);
+    pieces = planner_whole_path(table, WORDS, dart, type, points, POINTS, lifts, LIFTS, forms, PIECES, coords, 3 * PIECES,
                                 remainders, 3 * PIECES);
     ask(pieces, "whole path");
     printf("ribbon 0: the float path answers %d; the whole path has %d pieces, the last of them Close\n", (int)in_floats,

@@ -23,19 +23,29 @@ pub fn without_rule(a: Answer) -> Reply
     }
 }
 
-// The answer of an edit that met a rule: the face count as the rule says that it becomes.
-pub fn by_rule(ruling: Ruling) -> Reply
+// The face count after an edit that met a rule, as the rule says that it becomes.
+pub fn faces_after(ruling: Ruling) -> u32
     requires { ⌜ (ruling .faces ≤ places) × Allowed (ruling .faces) (ruling .rule) ⌝ }
-    ensures { λ r. ⌜ r ≡ ByRule (facesAfter (ruling .faces) (ruling .rule)) (ruling .rule) ⌝ }
+    ensures { λ n. ⌜ n ≡ facesAfter (ruling .faces) (ruling .rule) ⌝ }
 {
     let faces = ruling.faces;
     let rule = ruling.rule;
     match rule {
-        Rule::A => Reply::ByRule(faces - 1, Rule::A),
-        Rule::B1 => Reply::ByRule(faces + 1, Rule::B1),
-        Rule::B2 => Reply::ByRule(faces, Rule::B2),
-        Rule::E => Reply::ByRule(faces, Rule::E),
+        Rule::A => faces - 1,
+        Rule::B1 => faces + 1,
+        Rule::B2 => faces,
+        Rule::E => faces,
     }
+}
+
+// The answer of an edit that met a rule.
+pub fn by_rule(ruling: Ruling) -> Reply
+    requires { ⌜ (ruling .faces ≤ places) × Allowed (ruling .faces) (ruling .rule) ⌝ }
+    ensures { λ r. ⌜ r ≡ ByRule (facesAfter (ruling .faces) (ruling .rule)) (ruling .rule) ⌝ }
+{
+    let after = faces_after(ruling);
+    let rule = ruling.rule;
+    Reply::ByRule(after, rule)
 }
 
 // A rule's number.

@@ -1,7 +1,7 @@
 -- What the call for the float path answers, and what it leaves in the two slices, document 01, "When a call declines":
 -- "1, 2, 3, 4, 5, 6, 8, 9, with 7 tested after 4".
 use Prim.Native.Nat.{ℕ, _+_, _*_}
-use mathlib.Core.List.{List}
+use mathlib.Core.List.{List, flatMap}
 use lib.Dec.{leb}
 use lib.IntN.{ℤ}
 use lib.Ieee.{Float}
@@ -16,7 +16,7 @@ use Rattle.weave.specs.declared.named.Named.{Named}
 use Rattle.weave.specs.declared.named.Named.the-variants.{There, Refused}
 use Rattle.weave.specs.Calls.{namedStep}
 use Rattle.weave.specs.Ribbon.{some}
-use Rattle.floatpath_pieces.specs.Path.{pointWords, liftWords, pathFrom, formsOf, floatsOf, text, manyTurns, farStep}
+use Rattle.floatpath_pieces.specs.Path.{pointWords, liftWords, pathFrom, formsOf, floatsOf, manyTurns, farStep}
 use Rattle.table.specs.Output.{front}
 use Rattle.table.specs.Answers.{unless, ifDone}
 
@@ -28,8 +28,8 @@ pathAlong t points lifts m c s =
     let steps = walk (rotation t) s in
     unless (leb pointWords (length points)) (Declined ShortSlice)
     (unless (leb liftWords (length lifts)) (Declined ShortSlice)
-    (unless (leb (length (text formsOf path)) m) (Declined ShortSlice)
-    (unless (leb (length (text floatsOf path)) c) (Declined ShortSlice)
+    (unless (leb (length (flatMap formsOf path)) m) (Declined ShortSlice)
+    (unless (leb (length (flatMap floatsOf path)) c) (Declined ShortSlice)
     (unless (not (some (manyTurns t) steps)) (Declined ManyTurns)
     (unless (not (some (farStep t points lifts) steps)) (Declined Far)
     (Done (length path)))))))
@@ -44,7 +44,7 @@ pathAnswer t d k points lifts m c = pathBy t points lifts m c (namedStep t d k)
 
 -- "Written out it is two lent slices: a word per piece .. and three floats per piece"
 abbrev pub formsOut : List ℕ → ℕ → ℕ → List ℤ → List ℤ → List ℕ → List Float → List ℕ
-formsOut t d k points lifts forms coords = ifDone (pathAnswer t d k points lifts (length forms) (length coords)) (front (text formsOf (pathFrom t points lifts (2 * d + k))) forms) forms
+formsOut t d k points lifts forms coords = ifDone (pathAnswer t d k points lifts (length forms) (length coords)) (front (flatMap formsOf (pathFrom t points lifts (2 * d + k))) forms) forms
 
 abbrev pub coordsOut : List ℕ → ℕ → ℕ → List ℤ → List ℤ → List ℕ → List Float → List Float
-coordsOut t d k points lifts forms coords = ifDone (pathAnswer t d k points lifts (length forms) (length coords)) (front (text floatsOf (pathFrom t points lifts (2 * d + k))) coords) coords
+coordsOut t d k points lifts forms coords = ifDone (pathAnswer t d k points lifts (length forms) (length coords)) (front (flatMap floatsOf (pathFrom t points lifts (2 * d + k))) coords) coords

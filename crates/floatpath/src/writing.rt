@@ -6,9 +6,10 @@ use floatpath_pieces::piece::point_of;
 use tracing_walks::step::step;
 ghost use Prim.Native.Nat.{_+_, _*_, _<_};
 ghost use mathlib.Core.Path.{_≡_};
+ghost use mathlib.Core.List.{flatMap};
 ghost use lib.ListN.{length};
 ghost use Rattle.table.specs.Output.{front};
-ghost use Rattle.floatpath_pieces.specs.Path.{formsOf, floatsOf, text, pathFrom};
+ghost use Rattle.floatpath_pieces.specs.Path.{formsOf, floatsOf, pathFrom};
 ghost use Rattle.floatpath.specs.laws.Laying.{PieceWritten, PathRoom, Laid};
 
 // Piece n of a path.
@@ -58,8 +59,8 @@ pub fn write_path(
     s: u16,
 )
     requires { ⌜ PathRoom (now t) (now points) (now lifts) s (length (now forms)) (length (now coords)) ⌝ }
-    ensures { λ _. ⌜ (now (forms .exit) ≡ front (text formsOf (pathFrom (now (t .entry)) (now (points .entry)) (now (lifts .entry)) s)) (now (forms .entry)))
-        × (now (coords .exit) ≡ front (text floatsOf (pathFrom (now (t .entry)) (now (points .entry)) (now (lifts .entry)) s)) (now (coords .entry))) ⌝ }
+    ensures { λ _. ⌜ (now (forms .exit) ≡ front (flatMap formsOf (pathFrom (now (t .entry)) (now (points .entry)) (now (lifts .entry)) s)) (now (forms .entry)))
+        × (now (coords .exit) ≡ front (flatMap floatsOf (pathFrom (now (t .entry)) (now (points .entry)) (now (lifts .entry)) s)) (now (coords .entry))) ⌝ }
 {
     let n = write_pieces(t, points, lifts, forms, coords, s);
     write_piece(forms, coords, n, Piece::Close);

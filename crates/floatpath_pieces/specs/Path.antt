@@ -5,7 +5,7 @@
 --     letterOf, firstOf                          the letter of a step with one turn, 0 without turns
 --     sixteenths, firstEnd, secondEnd, liftAt    a lent word; where a step's two ends and its lift begin
 --     formOf, pointOf, positiveZero              the word of a piece; its point; the zero of Close
---     formsOf, floatsOf, text                    what is written for a piece; for all pieces
+--     formsOf, floatsOf                          what is written for a piece
 --     manyTurns, farStep, farThree, past         8, more than one turn; 9, out of range: of a step, of three words, of one
 --     pointWords, liftWords                      the sizes of the lent slices
 --     farthestPoint, farthestLift                how far a point and a lift may be
@@ -107,11 +107,6 @@ floatsOf p = let q = pointOf p in q .x ∷ q .y ∷ q .z ∷ []
 
 abbrev pub formsOf : Piece → List ℕ
 formsOf p = formOf p ∷ []
-
--- what is written for each piece, one after the other
-unfoldable pub text : {A : Type 0} → (Piece → List A) → List Piece → List A
-text f [] = []
-text f (p ∷ l) = f p ++ text f l
 
 -- 8, many turns: "an edge on the walk with more than one turn, of either hand"
 abbrev pub manyTurns : List ℕ → ℕ → Bool

@@ -1,7 +1,7 @@
 -- What the trial program writes for its arguments, document 02, request f. What the arguments are is not known to a proof,
 -- so the statements are about some bytes.
 --     outcome, withStart, withEdges                             what the arguments ask for
---     output, message                                           what goes to standard output; to standard error
+--     outputOf, message                                         what goes to standard output; to standard error
 --     startMost, arguments                                      the largest starting number; how many arguments there are
 --     usage, notNumber, not-a-number, start-word, edges-word    the text of the messages
 --     Laid                                                      a text stands at the front of a slice

@@ -1,4 +1,5 @@
 pub mod Strand
 pub mod Ribbon
+pub mod Tests
 pub mod Sense
 pub mod Calls

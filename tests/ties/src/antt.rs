@@ -84,7 +84,7 @@ fn note_declaration(found: &mut Declared, column: usize, of_module: bool, line: 
         rest = after;
     }
     if column > 0 && !public {
-        found.inner.extend(signed(rest).filter(|_| of_module));
+        found.inner.extend(named(rest).filter(|_| of_module));
         return None;
     }
     for (keyword, body) in [("record ", Body::Record), ("data ", Body::Data)] {
@@ -95,6 +95,12 @@ fn note_declaration(found: &mut Declared, column: usize, of_module: bool, line: 
     }
     found.names.extend(signed(rest));
     None
+}
+
+/// The name of a signature, of a record or of a data type.
+fn named(line: &str) -> Option<String> {
+    let of_type = ["record ", "data "].iter().find_map(|keyword| line.strip_prefix(keyword));
+    of_type.map_or_else(|| signed(line), |after| after.split_whitespace().next().map(String::from))
 }
 
 /// The name of a signature `name : type`.

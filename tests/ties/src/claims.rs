@@ -98,9 +98,9 @@ fn read_expressions(citations: &mut Citations, block: &Block, call: &str, functi
     }
 }
 
-/// A contract as the claims write it: `t` for the table and `x` for another lent slice, as they were before the call.
+/// A contract as the claims write it: `x` for a lent slice as it was before the call.
 fn plainly(contract: &str) -> String {
-    let text = contract.split_whitespace().collect::<Vec<_>>().join(" ").replace("(now (words .entry))", "t");
+    let text = contract.split_whitespace().collect::<Vec<_>>().join(" ");
     let mut pieces = text.split("(now (");
     let mut plain = pieces.next().unwrap_or("").to_string();
     for piece in pieces {

@@ -3,7 +3,7 @@
 //! And the numbers that a host works with as the sources do.
 //!
 //! In C a slice `x` is a pointer `x` and then its size, `n_x`, `x_words` or `x_bytes`. A struct `Name` of the sources is
-//! `struct planner_name`. Four names differ, and keep the documents' words in the header: the table's slice is `words` in the
+//! `struct planner_name`. Four names differ, and keep the documents' words in the header: the table's slice is `t` in the
 //! sources (where `table` is a crate), `table` and its size `words` in C; `kind` of a step is `type` in C; `strip`, the length of
 //! an edge, is `length` in C, since `length` in a contract is a list's; `Standing`, a reader without the table, is `struct
 //! planner_reader` in C, since `Reader` of the sources holds the table too.
@@ -127,7 +127,7 @@ struct Wanted {
 }
 
 fn in_c(argument: &str, kind: &str, lent: &mut BTreeSet<String>) -> Option<Vec<Wanted>> {
-    let pointer_name = if argument == "words" { "table".to_string() } else { name_in_c(argument) };
+    let pointer_name = if argument == "t" { "table".to_string() } else { name_in_c(argument) };
     let (constant, lent_kind) = match (kind.strip_prefix("&mut "), kind.strip_prefix('&')) {
         (Some(kind), _) => ("", kind),
         (None, Some(kind)) => ("const ", kind),

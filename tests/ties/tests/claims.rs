@@ -46,9 +46,9 @@ const FILES: [(&str, &str); 10] = [
     ("crates/planner/must-fail/another_call.edit", "wrong: another_call\nfile: src/lib.rt\n"),
     (
         "crates/planner/src/lib.rt",
-        "#[no_mangle]\npub extern \"C\" fn planner_check(words: &[u16], out: &mut [u16]) -> i64\n\
-         \x20   ensures { λ r. ⌜ (r ≡ codeOf (checkOf (now (words .entry)) (now (out .entry))))\n\
-         \x20       × (now (out .exit) ≡ checked (now (words .entry)) (now (out .entry))) ⌝ }\n{\n    code(check(words))\n}\n",
+        "#[no_mangle]\npub extern \"C\" fn planner_check(t: &[u16], out: &mut [u16]) -> i64\n\
+         \x20   ensures { λ r. ⌜ (r ≡ codeOf (checkOf (now (t .entry)) (now (out .entry))))\n\
+         \x20       × (now (out .exit) ≡ checked (now (t .entry)) (now (out .entry))) ⌝ }\n{\n    code(check(t))\n}\n",
     ),
     ("include/planner.h", "int64_t planner_check(const uint16_t *table, size_t words, uint16_t *out, size_t n_out);\n"),
 ];

@@ -30,9 +30,9 @@ const FILES: [(&str, &str); 6] = [
     (
         EXPORTS,
         "use reader::tally::Tally;\nuse table::answer::code;\n// pub extern \"C\" fn planner_no(x: i16) -> i64\n\n\
-         #[no_mangle]\npub extern \"C\" fn planner_insert(words: &mut [u16], e: u16, c1: u16, c2: u16, k: i16, strip: u16) -> i64\n\
-         \x20   ensures { λ r. ⌜ r ≡ insert (now (words .entry)) e c1 c2 k strip ⌝ }\n{\n    code(insert(words, e, c1, c2, k, strip))\n}\n\n\
-         #[no_mangle]\npub extern \"C\" fn planner_path(\n    words: &[u16],\n    dart: u16,\n    kind: u16,\n    points: &[i32],\n\
+         #[no_mangle]\npub extern \"C\" fn planner_insert(t: &mut [u16], e: u16, c1: u16, c2: u16, k: i16, strip: u16) -> i64\n\
+         \x20   ensures { λ r. ⌜ r ≡ insert (now (t .entry)) e c1 c2 k strip ⌝ }\n{\n    code(insert(t, e, c1, c2, k, strip))\n}\n\n\
+         #[no_mangle]\npub extern \"C\" fn planner_path(\n    t: &[u16],\n    dart: u16,\n    kind: u16,\n    points: &[i32],\n\
          \x20   out: &mut [f32],\n) -> i64\n    ensures { λ r. ⌜ r ≡ path ⌝ }\n{\n    0\n}\n\n\
          #[no_mangle]\npub extern \"C\" fn planner_step(tally: &mut Tally, from: &Tally) -> i64\n    ensures { λ r. ⌜ r ≡ 0 ⌝ }\n{\n    0\n}\n\n\
          fn own(x: u16) -> bool {\n    true\n}\n",

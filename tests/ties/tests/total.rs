@@ -11,7 +11,7 @@ const LISTING: &str = "crates/tracing_listing/src/call.rt";
 const FILES: [(&str, &str); 2] = [
     (
         INTERFACE,
-        "#[no_mangle]\npub extern \"C\" fn planner_check(words: &[u16]) -> i64\n    ensures { λ r. ⌜ r ≡ codeOf (checkOf (now (words .entry))) ⌝ }\n{\n    code(check(words))\n}\n\n\
+        "#[no_mangle]\npub extern \"C\" fn planner_check(t: &[u16]) -> i64\n    ensures { λ r. ⌜ r ≡ codeOf (checkOf (now (t .entry))) ⌝ }\n{\n    code(check(t))\n}\n\n\
          fn inner(n: u16) -> u16\n    requires { ⌜ n < 9 ⌝ }\n    ensures { λ r. ⌜ r ≡ n ⌝ }\n{\n    n\n}\n",
     ),
     (

@@ -17,7 +17,6 @@ use Rattle.table.specs.Layout.{vertices, edges, darts, nothing, isolated, nextW
 use Rattle.table.specs.Good.{Good}
 use Rattle.table.specs.Writes.{setVertex}
 use Rattle.table.specs.laws.Writes.{upd-at, upd-off, next-vertex, prev-vertex, leaves-vertex, edge-vertex, vertex-vertex, length-vertex}
-use Rattle.edits.specs.laws.Edge as edge
 
 -- the table with one vertex word changed between nothing and isolated: no live dart leaves that vertex
 module _ (t : List ℕ) (g : Good t) (v w : ℕ) (low : v < vertices) (bare : (d : ℕ) → Live t d → leaves t d ≢ v) (still : (w ≡ nothing) ⊎ (w ≡ isolated)) where

@@ -11,11 +11,11 @@
 --     closing-room, closing-forms, closing-coords    then Close: the path stands at the front of both slices
 use Prim.Native.Nat.{ℕ, suc, _+_, _*_, _<_, _≤_}
 use native.Mathlib.Omega.{arith}
-use native.Mathlib.Nat.{mul-suc, zero-add}
+use native.Mathlib.Nat.{zero-add}
 use native.Mathlib.Numerals.{add-one}
 use mathlib.Core.Path.{_≡_, refl, sym, _∙_, ap}
 use mathlib.Core.Bool.{false}
-use mathlib.Core.List.{List, [], _∷_, _++_, map, append-assoc, append-nil, map-append}
+use mathlib.Core.List.{List, [], _∷_, _++_, map, map-append, flatMap}
 use mathlib.Core.Logic.{_≢_}
 use lib.IntN.{ℤ}
 use lib.Ieee.{Float}
@@ -25,6 +25,7 @@ use Rattle.orbits.specs.laws.Truth.{truth, holds, fails, clash}
 use Rattle.table.specs.Rotation.{rotation}
 use Rattle.table.specs.laws.Lawful.{good-lawful}
 use Rattle.table.specs.Output.{front}
+use Rattle.table.specs.laws.Flat.{flat-append, flat-one, flat-length}
 use Rattle.table.specs.laws.Output.{sets-append, sets-front}
 use Rattle.tracing.specs.Step.{step}
 use Rattle.tracing.specs.Walk.{walk}
@@ -35,38 +36,23 @@ use Rattle.weave.specs.Ribbon.{some}
 use Rattle.floatpath_pieces.specs.declared.piece.Point.{Point}
 use Rattle.floatpath_pieces.specs.declared.piece.Piece.{Piece}
 use Rattle.floatpath_pieces.specs.declared.piece.Piece.the-variants.{Close}
-use Rattle.lengths.specs.laws.Summing.{walk-some}
-use Rattle.floatpath_pieces.specs.Path.{pieceOn, pathFrom, formOf, formsOf, pointOf, floatsOf, text, farStep}
+use Rattle.weave.specs.laws.Tests.{walk-some}
+use Rattle.floatpath_pieces.specs.Path.{pieceOn, pathFrom, formOf, formsOf, pointOf, floatsOf, farStep}
 use Rattle.floatpath_pieces.specs.laws.Places.{Lent}
 
 -- what is written for pieces, one after the other
 
-text-append : {A : Type 0} (f : Piece → List A) (a b : List Piece) → text f (a ++ b) ≡ text f a ++ text f b
-unfolding text
-text-append f [] b = refl
-text-append f (p ∷ a) b = rw (text-append f a b) (sym (append-assoc (f p) (text f a) (text f b)))
+pub forms-length : (l : List Piece) → length (flatMap formsOf l) ≡ length l
+forms-length l = let r = flat-length formsOf 1 (λ p. refl) l in omega arith
 
-text-one : {A : Type 0} (f : Piece → List A) (p : Piece) → text f (p ∷ []) ≡ f p
-unfolding text
-text-one f p = append-nil (f p)
-
--- each piece takes as much
-text-length : {A : Type 0} (f : Piece → List A) (k : ℕ) → ((p : Piece) → length (f p) ≡ k) → (l : List Piece) → length (text f l) ≡ k * length l
-unfolding text
-text-length f k e [] = omega arith
-text-length f k e (p ∷ l) = let r = text-length f k e l in let h = e p in rw (length-append, mul-suc) (omega arith)
-
-pub forms-length : (l : List Piece) → length (text formsOf l) ≡ length l
-forms-length l = let r = text-length formsOf 1 (λ p. refl) l in omega arith
-
-pub floats-length : (l : List Piece) → length (text floatsOf l) ≡ 3 * length l
-floats-length l = text-length floatsOf 3 (λ p. refl) l
+pub floats-length : (l : List Piece) → length (flatMap floatsOf l) ≡ 3 * length l
+floats-length l = flat-length floatsOf 3 (λ p. refl) l
 
 -- one piece more
-laid-more : {A : Type 0} (f : Piece → List A) (l : List Piece) (p : Piece) (out₀ : List A) {out out′ : List A} {at : ℕ} → out ≡ sets out₀ 0 (text f l) → length (text f l) ≡ at
-    → out′ ≡ sets out at (f p) → out′ ≡ sets out₀ 0 (text f (l ++ (p ∷ [])))
+laid-more : {A : Type 0} (f : Piece → List A) (l : List Piece) (p : Piece) (out₀ : List A) {out out′ : List A} {at : ℕ} → out ≡ sets out₀ 0 (flatMap f l) → length (flatMap f l) ≡ at
+    → out′ ≡ sets out at (f p) → out′ ≡ sets out₀ 0 (flatMap f (l ++ (p ∷ [])))
 laid-more f l p out₀ w e g =
-    g ∙ rw (text-append f l (p ∷ []), text-one f p, sets-append out₀ 0 (text f l) (f p), zero-add, e, w)
+    g ∙ rw (flat-append f l (p ∷ []), flat-one f p, sets-append out₀ 0 (flatMap f l) (f p), zero-add, e, w)
 
 -- a piece, written to both slices
 pub record PieceWritten (n : ℕ) (p : Piece) (forms : List ℕ) (coords : List Float) (forms′ : List ℕ) (coords′ : List Float) : Type 0 where
@@ -92,7 +78,7 @@ unfolding pathFrom
 path-length t points lifts s = rw (length-append, length-map)
 
 path-room : {t : List ℕ} {points lifts : List ℤ} {s m c : ℕ} → PathRoom t points lifts s m c
-    → (length (text formsOf (pathFrom t points lifts s)) ≤ m) × (length (text floatsOf (pathFrom t points lifts s)) ≤ c)
+    → (length (flatMap formsOf (pathFrom t points lifts s)) ≤ m) × (length (flatMap floatsOf (pathFrom t points lifts s)) ≤ c)
 path-room {t} {points} {lifts} {s} h =
     let a = h .forms in
     let b = h .coords in
@@ -118,19 +104,19 @@ walk-more {t} {s} w =
 -- the pieces of a walk's steps, r of them, written
 pub record Laid (t : List ℕ) (points lifts : List ℤ) (s : ℕ) (forms₀ : List ℕ) (coords₀ : List Float) (r : ℕ) (forms : List ℕ) (coords : List Float) : Type 0 where
   pub count : r ≡ length (walk (rotation t) s)
-  pub forms-laid : forms ≡ sets forms₀ 0 (text formsOf (map (pieceOn t points lifts) (walk (rotation t) s)))
-  pub coords-laid : coords ≡ sets coords₀ 0 (text floatsOf (map (pieceOn t points lifts) (walk (rotation t) s)))
+  pub forms-laid : forms ≡ sets forms₀ 0 (flatMap formsOf (map (pieceOn t points lifts) (walk (rotation t) s)))
+  pub coords-laid : coords ≡ sets coords₀ 0 (flatMap floatsOf (map (pieceOn t points lifts) (walk (rotation t) s)))
 
 -- the loop over the walk
 pub record Laying (t : List ℕ) (points lifts : List ℤ) (s at n : ℕ) (forms₀ : List ℕ) (coords₀ : List Float) (forms : List ℕ) (coords : List Float) : Type 0 where
   pub walking : Walking t s n at
   pub room : PathRoom t points lifts s (length forms₀) (length coords₀)
-  pub forms-laid : forms ≡ sets forms₀ 0 (text formsOf (piecesBefore t points lifts s n))
-  pub coords-laid : coords ≡ sets coords₀ 0 (text floatsOf (piecesBefore t points lifts s n))
+  pub forms-laid : forms ≡ sets forms₀ 0 (flatMap formsOf (piecesBefore t points lifts s n))
+  pub coords-laid : coords ≡ sets coords₀ 0 (flatMap floatsOf (piecesBefore t points lifts s n))
 
 pub laying-none : {t : List ℕ} {points lifts : List ℤ} {s : ℕ} {forms : List ℕ} {coords : List Float} → PathRoom t points lifts s (length forms) (length coords)
     → Laying t points lifts s s 0 forms coords forms coords
-unfolding iterates text
+unfolding iterates flatMap
 laying-none k = record { walking = walking-none (k .lent .stands); room = k; forms-laid = refl; coords-laid = refl }
 
 before-length : (t : List ℕ) (points lifts : List ℤ) (s n : ℕ) → length (piecesBefore t points lifts s n) ≡ n
@@ -149,10 +135,10 @@ module _ {t : List ℕ} {points lifts : List ℤ} {s at n : ℕ} {forms₀ : Lis
   ]
 
   forms-size : length forms ≡ length forms₀
-  forms-size = ap length (k .forms-laid) ∙ length-sets forms₀ 0 (text formsOf (piecesBefore t points lifts s n))
+  forms-size = ap length (k .forms-laid) ∙ length-sets forms₀ 0 (flatMap formsOf (piecesBefore t points lifts s n))
 
   coords-size : length coords ≡ length coords₀
-  coords-size = ap length (k .coords-laid) ∙ length-sets coords₀ 0 (text floatsOf (piecesBefore t points lifts s n))
+  coords-size = ap length (k .coords-laid) ∙ length-sets coords₀ 0 (flatMap floatsOf (piecesBefore t points lifts s n))
 
   pub laying-room : (n < length forms) × (3 * n + 2 < length coords)
   laying-room =
@@ -170,12 +156,12 @@ module _ {t : List ℕ} {points lifts : List ℤ} {s at n : ℕ} {forms₀ : Lis
         let f = step (rotation t) in
         sym (rw (add-one, run-suc, k .walking .along .here, map-append (pieceOn t points lifts) (iterates f s n) (at ∷ []), q))
 
-    forms-more : forms′ ≡ sets forms₀ 0 (text formsOf (piecesBefore t points lifts s (n + 1)))
+    forms-more : forms′ ≡ sets forms₀ 0 (flatMap formsOf (piecesBefore t points lifts s (n + 1)))
     forms-more =
         let l = piecesBefore t points lifts s n in
         rw (← before-more) (laid-more formsOf l p forms₀ (k .forms-laid) (forms-length l ∙ before-length t points lifts s n) (w .form))
 
-    coords-more : coords′ ≡ sets coords₀ 0 (text floatsOf (piecesBefore t points lifts s (n + 1)))
+    coords-more : coords′ ≡ sets coords₀ 0 (flatMap floatsOf (piecesBefore t points lifts s (n + 1)))
     coords-more =
         let l = piecesBefore t points lifts s n in
         rw (← before-more) (laid-more floatsOf l p coords₀ (k .coords-laid) (floats-length l ∙ ap (λ m. 3 * m) (before-length t points lifts s n)) (w .floats))
@@ -190,10 +176,10 @@ module _ {t : List ℕ} {points lifts : List ℤ} {s at n : ℕ} {forms₀ : Lis
 
     -- the slices keep their sizes
     pub laying-forms : length forms′ ≡ length forms₀
-    laying-forms = ap length forms-more ∙ length-sets forms₀ 0 (text formsOf (piecesBefore t points lifts s (n + 1)))
+    laying-forms = ap length forms-more ∙ length-sets forms₀ 0 (flatMap formsOf (piecesBefore t points lifts s (n + 1)))
 
     pub laying-coords : length coords′ ≡ length coords₀
-    laying-coords = ap length coords-more ∙ length-sets coords₀ 0 (text floatsOf (piecesBefore t points lifts s (n + 1)))
+    laying-coords = ap length coords-more ∙ length-sets coords₀ 0 (flatMap floatsOf (piecesBefore t points lifts s (n + 1)))
 
 -- "then Close"
 module _ {t : List ℕ} {points lifts : List ℤ} {s : ℕ} {forms₀ : List ℕ} {coords₀ : List Float} {r : ℕ} {forms : List ℕ} {coords : List Float}
@@ -204,8 +190,8 @@ module _ {t : List ℕ} {points lifts : List ℤ} {s : ℕ} {forms₀ : List ℕ
       let walked = map (pieceOn t points lifts) (walk (rotation t) s) in
       let a = h .forms in
       let b = h .coords in
-      let c = ap length (k .forms-laid) ∙ length-sets forms₀ 0 (text formsOf walked) in
-      let d = ap length (k .coords-laid) ∙ length-sets coords₀ 0 (text floatsOf walked) in
+      let c = ap length (k .forms-laid) ∙ length-sets forms₀ 0 (flatMap formsOf walked) in
+      let d = ap length (k .coords-laid) ∙ length-sets coords₀ 0 (flatMap floatsOf walked) in
       let e = k .count in
       (omega arith, omega arith)
 
@@ -213,18 +199,18 @@ module _ {t : List ℕ} {points lifts : List ℤ} {s : ℕ} {forms₀ : List ℕ
     walked-length : length (map (pieceOn t points lifts) (walk (rotation t) s)) ≡ r
     walked-length = length-map (walk (rotation t) s) (pieceOn t points lifts) ∙ sym (k .count)
 
-    pub closing-forms : forms′ ≡ front (text formsOf (pathFrom t points lifts s)) forms₀
+    pub closing-forms : forms′ ≡ front (flatMap formsOf (pathFrom t points lifts s)) forms₀
     unfolding pathFrom
     closing-forms =
         let walked = map (pieceOn t points lifts) (walk (rotation t) s) in
         let room = path-room h in
         laid-more formsOf walked Close forms₀ (k .forms-laid) (forms-length walked ∙ walked-length) (w .form)
-        ∙ sets-front (text formsOf (walked ++ (Close ∷ []))) forms₀ (room .0)
+        ∙ sets-front (flatMap formsOf (walked ++ (Close ∷ []))) forms₀ (room .0)
 
-    pub closing-coords : coords′ ≡ front (text floatsOf (pathFrom t points lifts s)) coords₀
+    pub closing-coords : coords′ ≡ front (flatMap floatsOf (pathFrom t points lifts s)) coords₀
     unfolding pathFrom
     closing-coords =
         let walked = map (pieceOn t points lifts) (walk (rotation t) s) in
         let room = path-room h in
         laid-more floatsOf walked Close coords₀ (k .coords-laid) (floats-length walked ∙ ap (λ m. 3 * m) walked-length) (w .floats)
-        ∙ sets-front (text floatsOf (walked ++ (Close ∷ []))) coords₀ (room .1)
+        ∙ sets-front (flatMap floatsOf (walked ++ (Close ∷ []))) coords₀ (room .1)

@@ -10,7 +10,7 @@ use Prim.Native.Nat.{ℕ, _+_, _*_, _<_, _≤_}
 use native.Mathlib.Omega.{arith}
 use mathlib.Core.Path.{_≡_, refl, sym, _∙_, ap}
 use mathlib.Core.Bool.{true, false, not}
-use mathlib.Core.List.{List}
+use mathlib.Core.List.{List, flatMap}
 use lib.Dec.{leb}
 use lib.IntN.{ℤ}
 use lib.Ieee.{Float}
@@ -34,7 +34,7 @@ use Rattle.weave.specs.Calls.{namedStep}
 use Rattle.weave.specs.laws.Calls.{there-steps}
 use Rattle.weave.specs.Ribbon.{some}
 use Rattle.floatpath.specs.declared.survey.Survey.{Survey}
-use Rattle.floatpath_pieces.specs.Path.{pointWords, liftWords, pathFrom, formsOf, floatsOf, text, manyTurns, farStep}
+use Rattle.floatpath_pieces.specs.Path.{pointWords, liftWords, pathFrom, formsOf, floatsOf, manyTurns, farStep}
 use Rattle.floatpath_pieces.specs.laws.Places.{Lent}
 use Rattle.floatpath.specs.laws.Survey.{surveyOf}
 use Rattle.floatpath.specs.laws.Laying.{forms-length, floats-length, path-length, PathRoom}
@@ -59,10 +59,10 @@ module _ (t : List ℕ) (points lifts : List ℤ) (m c s : ℕ) where
       unfolding surveyOf
       pieces-are = rw e (sym (path-length t points lifts s))
 
-      forms-are : length (text formsOf (pathFrom t points lifts s)) ≡ v .steps + 1
+      forms-are : length (flatMap formsOf (pathFrom t points lifts s)) ≡ v .steps + 1
       forms-are = forms-length (pathFrom t points lifts s) ∙ sym pieces-are
 
-      floats-are : length (text floatsOf (pathFrom t points lifts s)) ≡ 3 * (v .steps + 1)
+      floats-are : length (flatMap floatsOf (pathFrom t points lifts s)) ≡ 3 * (v .steps + 1)
       floats-are = floats-length (pathFrom t points lifts s) ∙ ap (λ n. 3 * n) (sym pieces-are)
 
       many-is : some (manyTurns t) (walk (rotation t) s) ≡ v .many
@@ -130,13 +130,13 @@ along-room {t} {s} h points lifts m c e =
     let steps = walk (rotation t) s in
     let a = let-through (leb pointWords (length points)) done-declined (sym e) in
     let b = let-through (leb liftWords (length lifts)) done-declined (a .rest) in
-    let d = let-through (leb (length (text formsOf path)) m) done-declined (b .rest) in
-    let f = let-through (leb (length (text floatsOf path)) c) done-declined (d .rest) in
+    let d = let-through (leb (length (flatMap formsOf path)) m) done-declined (b .rest) in
+    let f = let-through (leb (length (flatMap floatsOf path)) c) done-declined (d .rest) in
     let g = let-through (not (some (manyTurns t) steps)) done-declined (f .rest) in
     let far = let-through (not (some (farStep t points lifts) steps)) done-declined (g .rest) in
     let size = path-length t points lifts s in
-    let forms = leb-true (length (text formsOf path)) m (d .held) in
-    let coords = leb-true (length (text floatsOf path)) c (f .held) in
+    let forms = leb-true (length (flatMap formsOf path)) m (d .held) in
+    let coords = leb-true (length (flatMap floatsOf path)) c (f .held) in
     let x = forms-length path in
     let y = floats-length path in
     record {
@@ -151,15 +151,15 @@ along-room {t} {s} h points lifts m c e =
 -- what is answered and left where the path from step s is asked for
 pub record Left (t : List ℕ) (points lifts : List ℤ) (s : ℕ) (forms : List ℕ) (coords : List Float) (r : Answer) (forms′ : List ℕ) (coords′ : List Float) : Type 0 where
   pub answer : r ≡ pathAlong t points lifts (length forms) (length coords) s
-  pub forms-left : forms′ ≡ ifDone (pathAlong t points lifts (length forms) (length coords) s) (front (text formsOf (pathFrom t points lifts s)) forms) forms
-  pub coords-left : coords′ ≡ ifDone (pathAlong t points lifts (length forms) (length coords) s) (front (text floatsOf (pathFrom t points lifts s)) coords) coords
+  pub forms-left : forms′ ≡ ifDone (pathAlong t points lifts (length forms) (length coords) s) (front (flatMap formsOf (pathFrom t points lifts s)) forms) forms
+  pub coords-left : coords′ ≡ ifDone (pathAlong t points lifts (length forms) (length coords) s) (front (flatMap floatsOf (pathFrom t points lifts s)) coords) coords
 
 module _ {t : List ℕ} {points lifts : List ℤ} {s : ℕ} {forms : List ℕ} {coords : List Float} {a : Answer} (e : a ≡ pathAlong t points lifts (length forms) (length coords) s) where
   pub left-declined : {r : Refusal} → a ≡ Declined r → Left t points lifts s forms coords (Declined r) forms coords
   left-declined f = record { answer = sym f ∙ e; forms-left = rw (← e, f); coords-left = rw (← e, f) }
 
-  pub left-done : {n : ℕ} {forms′ : List ℕ} {coords′ : List Float} → a ≡ Done n → forms′ ≡ front (text formsOf (pathFrom t points lifts s)) forms
-      → coords′ ≡ front (text floatsOf (pathFrom t points lifts s)) coords → Left t points lifts s forms coords (Done n) forms′ coords′
+  pub left-done : {n : ℕ} {forms′ : List ℕ} {coords′ : List Float} → a ≡ Done n → forms′ ≡ front (flatMap formsOf (pathFrom t points lifts s)) forms
+      → coords′ ≡ front (flatMap floatsOf (pathFrom t points lifts s)) coords → Left t points lifts s forms coords (Done n) forms′ coords′
   left-done f g h = record { answer = sym f ∙ e; forms-left = rw (← e, f) g; coords-left = rw (← e, f) h }
 
 -- the ends of the call

@@ -6,7 +6,7 @@
 --     size-fits, handed-is                                   a small number fits, and keeps its value when handed on
 --     NearThree, Readable                                    the words of a point are in range; they are there, too
 --     readAt, point-made                                     a coordinate from the lent words; the point of three
-use Prim.Native.Nat.{ℕ, _+_, _*_, _≤_, _<_}
+use Prim.Native.Nat.{ℕ, _+_, _≤_, _<_}
 use native.Mathlib.Omega.{arith}
 use mathlib.Core.Path.{_≡_, _∙_, ap}
 use mathlib.Core.Logic.{_≢_}

@@ -1,19 +1,16 @@
 -- The cut length belongs to the face: it depends neither on the step that names the ribbon nor on the sense in which the face is traced.
 -- It is bounded, and an isolated vertex has none.
---     cut-named, cut-mirror      any step of the ribbon may name it; and either sense
---     cut-most                   the longest that a cut length can be
---     answer-named, answer-mirror  the same of what the call answers
---     lone-none                  an isolated vertex yields no ribbon
---     some-total                 one of a list passes a test exactly if their number is not 0
---     length-back, taken-back    the way back along an edge takes as much
+--     cut-named, cut-mirror          any step of the ribbon may name it; and either sense
+--     cut-most                       the longest that a cut length can be
+--     answer-named, answer-mirror    the same of what the call answers
+--     lone-none                      an isolated vertex yields no ribbon
+--     length-back, taken-back        the way back along an edge takes as much
 use Prim.Native.Nat.{ℕ, _+_, _*_, _/_, _<_, _≤_}
 use native.Mathlib.Omega.{arith}
 use mathlib.Core.Path.{_≡_, refl, sym, _∙_, ap, ap₂}
-use mathlib.Core.Bool.{Bool, true, false, _||_}
-use mathlib.Core.List.{List, [], _∷_}
+use mathlib.Core.Bool.{true}
+use mathlib.Core.List.{List}
 use mathlib.Core.Logic.{_≢_}
-use lib.Dec.{ltb}
-use borrow.Author.Tests.{lt-ltb}
 use Rattle.orbits.specs.laws.Count.{count-le}
 use Rattle.table.specs.Layout.{edges, leaves}
 use Rattle.table.specs.Good.{Good}
@@ -24,14 +21,13 @@ use Rattle.table.specs.declared.answer.Answer.the-variants.{Done}
 use Rattle.tracing.specs.Step.{steps, stepType, mirror, back}
 use Rattle.tracing.specs.laws.Step.{back-dart, back-type}
 use Rattle.tracing.specs.Walk.{walk}
-use Rattle.tracing.specs.Listing.{bit, has, loneCorner}
-use Rattle.tracing.specs.Met.{times, total, edgeCount}
+use Rattle.tracing.specs.Listing.{has, loneCorner}
+use Rattle.tracing.specs.Met.{times, edgeCount}
 use Rattle.tracing.specs.laws.Length.{walk-bound}
 use Rattle.tracing.specs.laws.Totals.{total-most, total-named, total-mirror}
 use Rattle.tracing_walks.specs.laws.Stands.{Stands, stands-low}
 use Rattle.tracing_walks.specs.laws.Along.{walk-stands}
 use Rattle.weave.specs.Letters.{over, wordOf, stepLetters}
-use Rattle.weave.specs.Ribbon.{some}
 use Rattle.weave.specs.declared.named.Named.{Named}
 use Rattle.weave.specs.declared.named.Named.the-variants.{There, Refused}
 use Rattle.weave.specs.Calls.{namedStep}
@@ -39,16 +35,6 @@ use Rattle.weave.specs.laws.Calls.{there-steps}
 use Rattle.weave_letters.specs.laws.Counts.{overs-back}
 use Rattle.lengths.specs.CutLength.{lengthOf, takenBy, lap, cutLength, cutLengthBy, cutLengthOf}
 use Rattle.lengths.specs.laws.Summing.{cut-total, takenMost, taken-most}
-
--- one passes exactly if a number of them does
-pub some-total : (q : ℕ → Bool) (l : List ℕ) → some q l ≡ ltb 0 (total (λ x. bit (q x)) l)
-unfolding some total
-some-total q [] = refl
-some-total q (x ∷ l) = by (q x) (total (λ y. bit (q y)) l) (some-total q l)
-  where
-    by : (b : Bool) (n : ℕ) {c : Bool} → c ≡ ltb 0 n → (b || c) ≡ ltb 0 (bit b + n)
-    by true n e = sym (lt-ltb 0 (1 + n) (omega arith))
-    by false n e = let rest : n ≡ 0 + n = omega arith in e ∙ ap (ltb 0) rest
 
 -- the way back along an edge takes as much, and its length is the same
 

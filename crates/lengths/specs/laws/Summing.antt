@@ -4,44 +4,28 @@
 --     length-most                                              the length of an edge on the way
 --     Summing                                                  the loop that sums what the steps take up
 --     summing-none, summing-room, summing-more, summing-all    it begins, has room for one step more, goes on, ends
---     walk-some                                                a step met on the way is one of the walk's
 use Prim.Native.Nat.{ℕ, zero, suc, _+_, _*_, _/_, _%_, _≤_}
 use native.Mathlib.Omega.{arith}
 use native.Mathlib.Numerals.{add-one}
 use mathlib.Core.Path.{_≡_, refl, _∙_, ap}
-use mathlib.Core.Bool.{Bool, true}
 use mathlib.Core.List.{List, [], _∷_}
 use mathlib.Core.Logic.{_≢_}
 use lib.Dec.{eqb}
 use Rattle.table.specs.Layout.{edgeOf, longest}
 use Rattle.table.specs.Rotation.{rotation}
-use Rattle.table.specs.laws.Lawful.{good-lawful}
-use Rattle.tracing.specs.Step.{step, steps}
+use Rattle.tracing.specs.Step.{step}
 use Rattle.tracing.specs.Walk.{walk}
-use Rattle.tracing.specs.laws.Walk.{iterates, walk-run, walk-period, walk-period-le}
+use Rattle.tracing.specs.laws.Walk.{iterates}
 use Rattle.tracing.specs.Listing.{gather}
 use Rattle.tracing.specs.Met.{times, countIn, total}
 use Rattle.tracing.specs.laws.Has.{countIn-append}
-use Rattle.tracing.specs.laws.Meets.{run-has}
 use Rattle.tracing.specs.laws.Totals.{total-last}
 use Rattle.tracing_walks.specs.laws.Stands.{Stands, stands-low}
-use Rattle.tracing_walks.specs.laws.Along.{Walking, walking-none, walking-more, walking-all, walking-few, along-few}
+use Rattle.tracing_walks.specs.laws.Along.{Walking, walking-none, walking-more, walking-all, walking-few}
 use Rattle.weave.specs.Letters.{over, lettersOn, stepLetters, letters}
-use Rattle.weave.specs.Ribbon.{some}
-use Rattle.weave.specs.laws.Ribbon.{passes-some}
 use Rattle.weave_letters.specs.laws.Crossing.{EdgeWord}
 use Rattle.weave_letters.specs.laws.Counts.{letters-few, overs-step}
 use Rattle.lengths.specs.CutLength.{lengthOf, stripLength, overAllowance, takenBy, lap, cutLength}
-
--- a step that passes a test, met on the way, is one of the walk's
-pub walk-some : {t : List ℕ} {s n at : ℕ} → Walking t s n at → (q : ℕ → Bool) → q at ≡ true → some q (walk (rotation t) s) ≡ true
-walk-some {t} {s} {n} {at} w q e =
-    let R = rotation t in
-    let L = good-lawful t (w .start .good) in
-    let low = stands-low (w .start) in
-    let p = walk-period R L s low in
-    rw (walk-run R s p (walk-period-le R L s low p))
-    (passes-some q (iterates (step R) s (p .steps)) at (run-has (step R) s at (p .steps) (record { steps = n; few = along-few (w .along) p; lands = w .along .here })) e)
 
 -- the cut length is what the steps take up, and the lap
 

@@ -28,8 +28,7 @@ use Rattle.tracing.specs.laws.Walk.{iterates, run-suc, run-length, walk-run, wa
 use Rattle.tracing.specs.Listing.{gather, bit}
 use Rattle.tracing.specs.laws.Totals.{total-last}
 use Rattle.tracing_walks.specs.laws.Stands.{Stands, stands-low, stands-step}
-use Rattle.weave.specs.declared.named.Named.{Named}
-use Rattle.weave.specs.declared.named.Named.the-variants.{There, Refused}
+use Rattle.weave.specs.declared.named.Named.the-variants.{There}
 use Rattle.weave.specs.Letters.{over, under, stepLetters, letters}
 use Rattle.weave_letters.specs.laws.Counts.{letters-few}
 use Rattle.weave_letters.specs.laws.Passing.{lettersBefore, before-suc}

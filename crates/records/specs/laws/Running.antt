@@ -23,7 +23,6 @@ use Rattle.records.specs.declared.records.Found.{Found}
 use Rattle.records.specs.declared.records.Found.the-variants.{Record, Stopped}
 use Rattle.records.specs.declared.records.Stop.{Stop}
 use Rattle.records.specs.declared.records.Stop.the-variants.{End, BadMark, CutRecord}
-use Rattle.records.specs.declared.run.Ran.{Ran}
 use Rattle.runs.specs.Run.{run}
 use Rattle.runs.specs.laws.Run.{run-append, run-one}
 use Rattle.records.specs.Records.{firstRecord}

@@ -5,7 +5,7 @@
 --     LineOf                                                                 the line that it gives
 --     Parting                                                                the loop over the rows
 --     parting-none, parting-near, parting-room, parting-more, parting-all    it begins, is far from any limit, has a row, goes on, ends
-use Prim.Native.Nat.{ℕ, suc, _+_, _*_, _<_, _≤_}
+use Prim.Native.Nat.{ℕ, _+_, _*_, _<_, _≤_}
 use native.Mathlib.Omega.{arith}
 use mathlib.Core.Path.{_≡_, refl, sym, _∙_, ap}
 use mathlib.Core.Bool.{Bool, true, false, _&&_}

@@ -18,7 +18,7 @@ use Rattle.edits.specs.Turns.{turnsIn}
 use Rattle.surface.specs.Links.{spot, links, joinedBy, moved, liveEdges}
 use Rattle.surface.specs.Labels.{twisted, agrees}
 use Rattle.surface.specs.Signed.{eulerOf}
-use Rattle.weave.specs.Letters.{crossings, letter, crossed, lettersOn, apart, alternating, every}
+use Rattle.weave.specs.Letters.{crossings, letter, crossed, lettersOn, neighboursDiffer, alternating, every}
 use Rattle.samples.specs.Samples.{Fact, F, Euler, Marks, Steps, Plain, Turns, Has, All, Sample, Holds, samples}
 use Rattle.samples.specs.laws.Sparse.{Writes, tableOf, lookup, read, put-read, span}
 use Rattle.samples.specs.laws.Few.{facesFew, eulerFew, spotsFew, ownLabels, marksFew, lengthsFew, faceFrom, typeFrom, meetingFrom, sidesFrom}
@@ -70,5 +70,5 @@ unfolding runOn answersOn editedOn answerOn replyOn ruleOn verdictOn writtenOn l
     facesFew eulerFew spotsFew ownLabels marksFew lengthsFew meetingFrom faceFrom typeFrom sidesFrom plainBy wellFormed present
     faceAmong typeAmong keep sidesBy
     starts fresh has gather corners walk onward step stepType around corner alones lone count eulerOf spot links joinedBy moved liveEdges
-    twisted agrees every alternating apart lettersOn crossed crossings letter
+    twisted agrees every alternating neighboursDiffer lettersOn crossed crossings letter
 samples-hold = all-map holds-computed samples (each-same computed samples refl)

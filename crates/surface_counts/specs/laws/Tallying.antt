@@ -10,7 +10,7 @@
 --     PartTally, tallied                                                the words of a part at the end: V, E, F, orientable
 --     Tallies                                                           a good table with its labels, and four arrays of zeros
 --     tallies-keyed, tallies-vertexing, tallies-edging                  the loops can begin on these
-use Prim.Native.Nat.{ℕ, _+_, _-_, _*_, _/_, _%_, _<_, _≤_}
+use Prim.Native.Nat.{ℕ, _+_, _*_, _/_, _%_, _<_, _≤_}
 use native.Mathlib.Omega.{arith}
 use mathlib.Core.Path.{_≡_, sym, _∙_, ap, ap₂}
 use mathlib.Core.Bool.{Bool, true, false, not, _&&_, and-comm}

@@ -3,7 +3,7 @@
 --     numbered-vertex, numbered-dart, free    its vertices are live; its darts are below 2e; the next edge is free
 --     vertex-passes, vertex-numbered          a vertex more is accepted, and leaves such a mesh
 --     numbered-vertices, numbered-edges       V and E
-use Prim.Native.Nat.{ℕ, suc, _+_, _*_, _<_, _≤_}
+use Prim.Native.Nat.{ℕ, suc, _*_, _<_, _≤_}
 use native.Mathlib.Omega.{arith}
 use native.Mathlib.Decide.{ℕ-discrete}
 use mathlib.Core.Path.{_≡_, sym, _∙_, ap}

@@ -26,7 +26,7 @@ use Rattle.weave.specs.Ribbon.{some}
 use Rattle.weave.specs.declared.named.Named.the-variants.{There}
 use Rattle.weave.specs.Calls.{namedStep}
 use Rattle.weave.specs.laws.Calls.{there-steps}
-use Rattle.lengths.specs.laws.Sense.{some-total}
+use Rattle.weave.specs.laws.Tests.{some-total}
 use Rattle.floatpath_pieces.specs.Path.{pointWords, liftWords, farStep}
 use Rattle.wholepath_pieces.specs.Pieces.{spotsOf, piecesAlong, wholePath}
 use Rattle.wholepath_pieces.specs.laws.Pieces.{pieces-total}

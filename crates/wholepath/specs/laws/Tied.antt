@@ -197,8 +197,8 @@ float-accepted t points lifts m c s n f =
     let path = float.pathFrom t points lifts s in
     let p = let-through (leb pointWords (length points)) done-declined f in
     let l = let-through (leb liftWords (length lifts)) done-declined (p .rest) in
-    let g = let-through (leb (length (float.text float.formsOf path)) m) done-declined (l .rest) in
-    let h = let-through (leb (length (float.text float.floatsOf path)) c) done-declined (g .rest) in
+    let g = let-through (leb (length (flatMap float.formsOf path)) m) done-declined (l .rest) in
+    let h = let-through (leb (length (flatMap float.floatsOf path)) c) done-declined (g .rest) in
     let many = let-through (not (some (manyTurns t) (walk (rotation t) s))) done-declined (h .rest) in
     let far = let-through (not (some (farStep t points lifts) (walk (rotation t) s))) done-declined (many .rest) in
     record {

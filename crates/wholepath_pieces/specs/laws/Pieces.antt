@@ -6,13 +6,12 @@
 --     for-over, for-under, for-flat                   a piece by its letter
 --     PieceRead, spot-read, piece-is                  the i-th piece of a step
 --     zeros                                           zeros for Close
---     up-length, flat-length, step-length             how many there are in a list that is made so
+--     up-length, step-length                          how many there are in a list that is made so
 --     pieces-total, pieces-most                       the pieces of some steps; of a ribbon, at most 202,752
 use Prim.Native.Nat.{ℕ, zero, suc, _+_, _-_, _*_, _/_, _%_, _≤_, _<_}
 use native.Mathlib.Omega.{arith}
-use native.Mathlib.Nat.{mul-suc}
 use mathlib.Core.Path.{_≡_, refl, sym, _∙_, ap}
-use mathlib.Core.List.{List, [], _∷_, _++_, flatMap}
+use mathlib.Core.List.{List, [], _∷_, flatMap}
 use mathlib.Core.Logic.{_≢_}
 use lib.Dec.{eqb}
 use lib.IntN.{ℤ, pos}
@@ -148,12 +147,6 @@ pub up-length : {A : Type 0} (f : ℕ → A) (n : ℕ) → length (upTo f n) ≡
 unfolding upTo
 up-length f zero = refl
 up-length f (suc n) = let r = up-length f n in rw length-append (omega arith)
-
--- each piece takes as much
-pub flat-length : {A B : Type 0} (f : A → List B) (k : ℕ) → ((x : A) → length (f x) ≡ k) → (l : List A) → length (flatMap f l) ≡ k * length l
-unfolding flatMap
-flat-length f k e [] = omega arith
-flat-length f k e (x ∷ l) = let r = flat-length f k e l in let h = e x in rw (length-append, mul-suc) (omega arith)
 
 -- the pieces of a step, and of some steps
 

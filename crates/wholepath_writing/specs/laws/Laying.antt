@@ -31,7 +31,7 @@ use Rattle.tracing_walks.specs.laws.Along.{Walking, walking-none, walking-more,
 use Rattle.weave.specs.Letters.{wordOf}
 use Rattle.weave.specs.Ribbon.{some}
 use Rattle.weave_letters.specs.laws.Crossing.{EdgeWord}
-use Rattle.lengths.specs.laws.Summing.{walk-some}
+use Rattle.weave.specs.laws.Tests.{walk-some}
 use Rattle.floatpath_pieces.specs.declared.place.Places.{Places}
 use Rattle.floatpath_pieces.specs.Path.{farStep}
 use Rattle.floatpath_pieces.specs.laws.Places.{placesOf, Lent}

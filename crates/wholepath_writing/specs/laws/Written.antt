@@ -24,8 +24,7 @@ use Rattle.table.specs.laws.Signed.{handed}
 use Rattle.wholepath_pieces.specs.declared.piece.Spot.{Spot}
 use Rattle.wholepath_pieces.specs.declared.piece.Piece.{Piece}
 use Rattle.wholepath_pieces.specs.Pieces.{wholeFormOf, spotOf, wholeFormsOf, wordsOf, restsOf}
-use Rattle.table.specs.laws.Flat.{flat-append, flat-one}
-use Rattle.wholepath_pieces.specs.laws.Pieces.{flat-length}
+use Rattle.table.specs.laws.Flat.{flat-append, flat-one, flat-length}
 
 -- the three slices
 pub record Out : Type 0 where

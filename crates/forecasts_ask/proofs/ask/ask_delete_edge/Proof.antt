@@ -22,16 +22,13 @@ enum-told c = search needs
 delete-rule-requires : tie.Need-delete-rule-requires
 delete-rule-requires c κs = delete-edge (may-delete _ _ (sym (c .before .before .delete-verdict .ensures) ∙ c .enum-told .given .1))
 
-by-rule-requires : tie.Need-by-rule-requires
-by-rule-requires c κs =
+foretell-requires : tie.Need-foretell-requires
+foretell-requires c κs =
     let start = c .before .before .before .before .before in
     let passes = sym (c .before .before .before .delete-verdict .ensures) ∙ c .before .enum-told .given .1 in
     let delete-rule = c .delete-rule in
     rule-allows (now (start .args .t)) (DeleteEdge (start .args .e)) passes (ap some (sym (delete-rule .ensures .1))) (delete-rule .ensures .0)
     (may-delete _ _ passes .good)
-
-foretell-requires : tie.Need-foretell-requires
-foretell-requires c κs = search needs
 
 returns : tie.Need-returns
 returns c =
@@ -40,11 +37,11 @@ returns c =
 
 returns-2 : tie.Need-returns-2
 returns-2 c =
-    let start = c .before .before .before .before .before .before .before in
-    let passes = sym (c .before .before .before .before .before .delete-verdict .ensures) ∙ c .before .before .before .enum-told .given .1 in
-    let delete-rule = c .before .before .delete-rule in
+    let start = c .before .before .before .before .before .before in
+    let passes = sym (c .before .before .before .before .delete-verdict .ensures) ∙ c .before .before .enum-told .given .1 in
+    let delete-rule = c .before .delete-rule in
     was-foretold (now (start .args .t)) (DeleteEdge (start .args .e)) passes (ap some (sym (delete-rule .ensures .1))) (delete-rule .ensures .0)
-    (c .before .by-rule .ensures) (c .foretell .ensures)
+    (c .foretell .ensures)
 
 pub ask-delete-edge-spec : {M : Type 1} → statement M
 ask-delete-edge-spec =
@@ -54,7 +51,6 @@ ask-delete-edge-spec =
     enum-known-r
     enum-told
     delete-rule-requires
-    by-rule-requires
     foretell-requires
     returns
     returns-2)

@@ -30,8 +30,8 @@ insert-rule-requires c κs =
     let length = start .args .length in
     insert-corners (may-insert t _ _ _ k length (insert-on t _ _ _ k length (start .fits .k) (c .before .before .before .insert-verdict .ensures) (c .before .enum-told .given .1)))
 
-by-rule-requires : tie.Need-by-rule-requires
-by-rule-requires c κs =
+foretell-requires : tie.Need-foretell-requires
+foretell-requires c κs =
     let start = c .before .before .before .before .before .before in
     let turned-word = c .before .turned-word in
     let t = now (start .args .t) in
@@ -40,9 +40,6 @@ by-rule-requires c κs =
     let m = may-insert t _ _ _ k (start .args .length) passes in
     rule-allows t (InsertEdge (start .args .e) (start .args .c1) (start .args .c2) k (start .args .length)) passes
     (insert-met m (amount-on 100 k (start .fits .k) (turned-word .ensures)) (c .insert-rule .ensures .1)) (c .insert-rule .ensures .0) (m .good)
-
-foretell-requires : tie.Need-foretell-requires
-foretell-requires c κs = search needs
 
 returns : tie.Need-returns
 returns c =
@@ -54,16 +51,16 @@ returns c =
 
 returns-2 : tie.Need-returns-2
 returns-2 c =
-    let start = c .before .before .before .before .before .before .before .before in
-    let enum-told = c .before .before .before .before .enum-told in
-    let turned-word = c .before .before .before .turned-word in
-    let insert-rule = c .before .before .insert-rule in
+    let start = c .before .before .before .before .before .before .before in
+    let enum-told = c .before .before .before .enum-told in
+    let turned-word = c .before .before .turned-word in
+    let insert-rule = c .before .insert-rule in
     let t = now (start .args .t) in
     let k = start .args .k in
     let w = amount-on 100 k (start .fits .k) (turned-word .ensures) in
-    let passes = insert-on t _ _ _ k (start .args .length) (start .fits .k) (c .before .before .before .before .before .before .insert-verdict .ensures) (enum-told .given .1) in
+    let passes = insert-on t _ _ _ k (start .args .length) (start .fits .k) (c .before .before .before .before .before .insert-verdict .ensures) (enum-told .given .1) in
     was-foretold t (InsertEdge (start .args .e) (start .args .c1) (start .args .c2) k (start .args .length)) passes
-    (insert-met (may-insert t _ _ _ k (start .args .length) passes) w (insert-rule .ensures .1)) (insert-rule .ensures .0) (c .before .by-rule .ensures) (c .foretell .ensures)
+    (insert-met (may-insert t _ _ _ k (start .args .length) passes) w (insert-rule .ensures .1)) (insert-rule .ensures .0) (c .foretell .ensures)
 
 pub ask-insert-edge-spec : {M : Type 1} → statement M
 ask-insert-edge-spec =
@@ -74,7 +71,6 @@ ask-insert-edge-spec =
     enum-told
     turned-word-requires
     insert-rule-requires
-    by-rule-requires
     foretell-requires
     returns
     returns-2)

@@ -47,8 +47,8 @@ turn-rule-requires c κs =
     let a = start .args .amount in
     turn-edge (may-turn t _ a (turn-on t _ a (start .fits .amount) (c .before .before .before .before .turn-verdict .ensures) (c .before .before .enum-told .given .1)))
 
-by-rule-requires : tie.Need-by-rule-requires
-by-rule-requires c κs =
+foretell-requires : tie.Need-foretell-requires
+foretell-requires c κs =
     let start = c .before .before .before .before .before .before .before in
     let turned-word = c .before .turned-word in
     let enum-told = c .before .before .before .enum-told in
@@ -59,9 +59,6 @@ by-rule-requires c κs =
     rule-allows t (TurnEdge (start .args .e) a) passes
     (turn-met m (amount-on (edgeWord t (start .args .e)) a (start .fits .amount) (turned-word .ensures)) (c .turn-rule .ensures .1)) (c .turn-rule .ensures .0) (m .good)
 
-foretell-requires : tie.Need-foretell-requires
-foretell-requires c κs = search needs
-
 returns : tie.Need-returns
 returns c =
     let start = c .before .before .before .before .before in
@@ -71,16 +68,16 @@ returns c =
 
 returns-2 : tie.Need-returns-2
 returns-2 c =
-    let start = c .before .before .before .before .before .before .before .before .before in
-    let enum-told = c .before .before .before .before .before .enum-told in
-    let turned-word = c .before .before .before .turned-word in
-    let turn-rule = c .before .before .turn-rule in
+    let start = c .before .before .before .before .before .before .before .before in
+    let enum-told = c .before .before .before .before .enum-told in
+    let turned-word = c .before .before .turned-word in
+    let turn-rule = c .before .turn-rule in
     let t = now (start .args .t) in
     let a = start .args .amount in
     let w = amount-on (edgeWord t (start .args .e)) a (start .fits .amount) (turned-word .ensures) in
-    let passes = turn-on t _ a (start .fits .amount) (c .before .before .before .before .before .before .before .turn-verdict .ensures) (enum-told .given .1) in
+    let passes = turn-on t _ a (start .fits .amount) (c .before .before .before .before .before .before .turn-verdict .ensures) (enum-told .given .1) in
     was-foretold t (TurnEdge (start .args .e) a) passes
-    (turn-met (may-turn t _ a passes) w (turn-rule .ensures .1)) (turn-rule .ensures .0) (c .before .by-rule .ensures) (c .foretell .ensures)
+    (turn-met (may-turn t _ a passes) w (turn-rule .ensures .1)) (turn-rule .ensures .0) (c .foretell .ensures)
 
 pub ask-turn-edge-spec : {M : Type 1} → statement M
 ask-turn-edge-spec =
@@ -94,7 +91,6 @@ ask-turn-edge-spec =
     shared-slice-read-turned-word
     turned-word-requires
     turn-rule-requires
-    by-rule-requires
     foretell-requires
     returns
     returns-2)

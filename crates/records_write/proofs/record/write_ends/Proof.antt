@@ -1,5 +1,4 @@
 -- `record::write_ends` meets its contract: mark and edge, two corners, then the turns in two's complement.
-use Prim.Native.Nat.{_+_}
 use lib.Seq.{sets}
 use mathlib.Core.Path.{ap, _∙_}
 use mathlib.Core.List.{_++_}

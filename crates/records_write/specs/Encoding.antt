@@ -84,7 +84,7 @@ Sixteen (TurnEdge e a) = Word e × SignedWord a
 -- a list of such edits
 pub data AllSixteen : List Edit → Type 0 where
   none : AllSixteen []
-  more : {E : Edit} {Es : List Edit} → Sixteen E → AllSixteen Es → AllSixteen (E ∷ Es)
+  one-more : {E : Edit} {Es : List Edit} → Sixteen E → AllSixteen Es → AllSixteen (E ∷ Es)
 
 -- a list of bytes
 pub record Bytes (l : List ℕ) : Type 0 where

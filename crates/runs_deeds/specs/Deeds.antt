@@ -20,19 +20,19 @@ use Rattle.runs.specs.Run.{callsBy, calls}
 
 -- a plain edit, or "the edit and those three answers"
 pub data Deed : Type 0 where
-  plain : Edit → Deed
+  edit : Edit → Deed
   commit : Edit → Forecast → Deed
 
 abbrev pub done : List ℕ → Deed → List ℕ
-done t (plain E) = edited t E
+done t (edit E) = edited t E
 done t (commit E f) = committed t E f
 
 abbrev pub deedReply : List ℕ → Deed → Reply
-deedReply t (plain E) = reply t E
+deedReply t (edit E) = reply t E
 deedReply t (commit E f) = commitReply t E f
 
 abbrev pub editIn : Deed → Edit
-editIn (plain E) = E
+editIn (edit E) = E
 editIn (commit E f) = E
 
 -- "Other edits in between are allowed": each deed gets the table as the last one left it
@@ -42,7 +42,7 @@ ran t (D ∷ Ds) = ran (done t D) Ds
 
 -- "a commit that goes through .. counts as that edit in a run"; one that is turned away counts 0, as a declined edit does
 abbrev pub due : List ℕ → Deed → ℤ
-due t (plain E) = calls t E
+due t (edit E) = calls t E
 due t (commit E f) = callsBy (commitVerdict t E f) (change t E)
 
 unfoldable pub dueIn : List ℕ → List Deed → ℤ
@@ -55,7 +55,7 @@ countsBy Passes E = E ∷ []
 countsBy (Declines r) E = []
 
 abbrev pub countsAs : List ℕ → Deed → List Edit
-countsAs t (plain E) = E ∷ []
+countsAs t (edit E) = E ∷ []
 countsAs t (commit E f) = countsBy (commitVerdict t E f) E
 
 unfoldable pub counted : List ℕ → List Deed → List Edit

@@ -11,7 +11,7 @@ use Rattle.table.specs.Rotation.{Rotation}
 -- "a chain of live edges joins them"; with no edge in it, a chain joins a vertex with itself: "an isolated vertex is a part alone"
 pub data Chain (R : Rotation) (u : ℕ) : ℕ → Type 0 where
   here : Chain R u u
-  along : (d : ℕ) → R .live d ≡ true → Chain R u (R .from d) → Chain R u (R .from (rev d))
+  by-edge : (d : ℕ) → R .live d ≡ true → Chain R u (R .from d) → Chain R u (R .from (rev d))
 
 -- Q is the part of r
 pub record PartOf (R : Rotation) (r : ℕ) (Q : ℕ → Bool) : Type 0 where

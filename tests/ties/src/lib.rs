@@ -1,6 +1,6 @@
 //! What ties the documents, the C header and the wrong programs to the code. `claims` checks the citations of docs/CLAIMS.md and docs/claims/, and the form
 //! of their `entries`; `readme` the README's tables of calls and crates; `prose` the width of the documents; `heads` that the specs begin with what they
-//! hold; `rooms` that what is believed names no law; `total` that exported functions and public operations ask nothing of their caller; `tried` that a wrong
+//! hold; `once` that a definition's name stands in one crate; `rooms` that what is believed names no law; `total` that exported functions and public operations ask nothing of their caller; `tried` that a wrong
 //! program of every public function is there; `copied` that the copy of the check that counts its reads has the check's shape; `refused` that each wrong
 //! program was refused at its own need, by its `sections`; `matching` compares include/planner.h with the exported signatures.
 //! The others read the files: `antt` the specs, `rattle` the sources, `wrong` the must-fail edits, `prover` what was said of them, `header` the C header,
@@ -16,6 +16,7 @@ pub mod header;
 pub mod heads;
 pub mod markdown;
 pub mod matching;
+pub mod once;
 pub mod prose;
 pub mod prover;
 pub mod rattle;

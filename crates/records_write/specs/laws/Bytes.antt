@@ -12,7 +12,7 @@ use Rattle.records.specs.Records.{plainLength}
 use lib.ListN.{getD}
 use Rattle.edits.specs.declared.edit.Edit.{Edit}
 use Rattle.edits.specs.declared.edit.Edit.the-variants.{AddVertex, RemoveVertex, InsertEdge, DeleteEdge, TurnEdge}
-use Rattle.records_write.specs.Encoding.{bytesOf, complement, insertionWords, recordOf, jobOf, Word, SignedWord, Sixteen, AllSixteen, none, more, Bytes}
+use Rattle.records_write.specs.Encoding.{bytesOf, complement, insertionWords, recordOf, jobOf, Word, SignedWord, Sixteen, AllSixteen, none, one-more, Bytes}
 
 bytes-none : Bytes []
 bytes-none = record { each = λ i. omega arith }
@@ -62,4 +62,4 @@ record-bytes (TurnEdge e a) h = marked 84 87 (omega arith) (omega arith) (bytes-
 pub job-bytes : (Es : List Edit) → AllSixteen Es → Bytes (jobOf Es)
 unfolding flatMap
 job-bytes [] none = bytes-none
-job-bytes (E ∷ Es) (more h k) = bytes-append (recordOf E) (record-bytes E h) (job-bytes Es k)
+job-bytes (E ∷ Es) (one-more h k) = bytes-append (recordOf E) (record-bytes E h) (job-bytes Es k)

@@ -23,7 +23,7 @@ use Rattle.records.specs.Records.{plainLength, word, signedWord, markOf, sizeOf
 use Rattle.records.specs.Reading.{Reading, after, reading}
 use Rattle.records.specs.laws.Reading.{reading-stopped, reading-record}
 use Rattle.records.specs.laws.Decoding.{first-nothing}
-use Rattle.records_write.specs.Encoding.{complement, recordBy, editFor, recordOf, jobOf, SignedWord, Sixteen, AllSixteen, none, more}
+use Rattle.records_write.specs.Encoding.{complement, recordBy, editFor, recordOf, jobOf, SignedWord, Sixteen, AllSixteen, none, one-more}
 
 -- a word's two bytes give it back
 whole : (w : ℕ) → w / 256 * 256 + w % 256 ≡ w
@@ -70,7 +70,7 @@ readAll Es = record { edits = Es; taken = length (jobOf Es); stop = End }
 pub job-read : (Es : List Edit) → AllSixteen Es → reading (jobOf Es) ≡ readAll Es
 unfolding flatMap
 job-read [] none = reading-stopped [] End (sym (first-nothing [] refl))
-job-read (E ∷ Es) (more h k) =
+job-read (E ∷ Es) (one-more h k) =
     reading-record (recordOf E ++ jobOf Es) E (length (recordOf E)) (record-read E h (jobOf Es))
     ∙ ap (λ l. after E (length (recordOf E)) (reading l)) (drop-append-seam (recordOf E) (jobOf Es))
     ∙ ap (after E (length (recordOf E))) (job-read Es k)

@@ -30,7 +30,7 @@ use Rattle.forecasts.specs.laws.Forecast.{asked-passes, commit-exactly, commit-
 use Rattle.runs.specs.Run.{run, calls, faceNumber}
 use Rattle.runs.specs.laws.Run.{run-append, run-one}
 use Rattle.runs.specs.laws.Theorem.{edited-good, edited-count, answered-count, run-laws}
-use Rattle.runs_deeds.specs.Deeds.{Deed, plain, commit, done, deedReply, editIn, ran, due, dueIn, countsAs, counted}
+use Rattle.runs_deeds.specs.Deeds.{Deed, edit, commit, done, deedReply, editIn, ran, due, dueIn, countsAs, counted}
 use Rattle.runs_deeds.specs.DeedLaws.{DeedLaws}
 
 -- a reply with a count is that of an edit that answered it, with the edit's rule
@@ -101,24 +101,24 @@ module _ (t : List ℕ) (E : Edit) (f : Forecast) where
 -- one deed
 
 done-good : (t : List ℕ) (D : Deed) → Good t → Good (done t D)
-done-good t (plain E) g = edited-good t E g
+done-good t (edit E) g = edited-good t E g
 done-good t (commit E f) g = commit-good t E f g
 
 done-count : (t : List ℕ) (D : Deed) → Good t → faceNumber (done t D) ≡ faceNumber t +ℤ due t D
-done-count t (plain E) g = edited-count t E g
+done-count t (edit E) g = edited-count t E g
 done-count t (commit E f) g = commit-count t E f g
 
 done-run : (t : List ℕ) (D : Deed) → run t (countsAs t D) ≡ done t D
-done-run t (plain E) = run-one t E
+done-run t (edit E) = run-one t E
 done-run t (commit E f) = commit-run t E f
 
 done-answered : (t : List ℕ) (D : Deed) (n : ℕ) (m : Option Rule) → deedReply t D ≡ withRule (Done n) m
     → (pos n ≡ faceNumber (done t D)) × (m ≡ ruleOf t (editIn D))
-done-answered t (plain E) n m e = let c = counts-in t E n m e in (answered-count t E n (c .0), c .1)
+done-answered t (edit E) n m e = let c = counts-in t E n m e in (answered-count t E n (c .0), c .1)
 done-answered t (commit E f) n m e = commit-answered t E f n m e
 
 done-away : (t : List ℕ) (D : Deed) (r : Refusal) → deedReply t D ≡ Refused r → done t D ≡ t
-done-away t (plain E) r e = refused-keeps t E r e
+done-away t (edit E) r e = refused-keeps t E r e
 done-away t (commit E f) r e = commit-away t E f r e
 
 -- the whole run

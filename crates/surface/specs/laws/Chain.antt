@@ -16,20 +16,20 @@ use Rattle.table.specs.laws.Lawful.{rev-rev}
 use Rattle.orbits.specs.laws.Truth.{same-truth}
 use Rattle.surgery.specs.laws.PlacesIn.{EndsTogether}
 use Rattle.tracing.specs.laws.Step.{type?, is-zero, is-one}
-use Rattle.surface.specs.Chain.{Chain, here, along, PartOf, Orientable}
+use Rattle.surface.specs.Chain.{Chain, here, by-edge, PartOf, Orientable}
 
 pub chain-ind : (R : Rotation) (u : ℕ) (P : ℕ → Type 0) → P u
     → ((d : ℕ) → R .live d ≡ true → Chain R u (R .from d) → P (R .from d) → P (R .from (rev d)))
     → (w : ℕ) → Chain R u w → P w
 chain-ind R u P base step w here = base
-chain-ind R u P base step w (along d l c) = step d l c (chain-ind R u P base step (R .from d) c)
+chain-ind R u P base step w (by-edge d l c) = step d l c (chain-ind R u P base step (R .from d) c)
 
 pub chain-trans : {R : Rotation} {u v w : ℕ} → Chain R u v → Chain R v w → Chain R u w
-chain-trans {R} {u} {v} {w} c k = chain-ind R v (Chain R u) c (λ d l m t. along d l t) w k
+chain-trans {R} {u} {v} {w} c k = chain-ind R v (Chain R u) c (λ d l m t. by-edge d l t) w k
 
 -- one live edge
 pub chain-edge : (R : Rotation) (d : ℕ) → R .live d ≡ true → Chain R (R .from d) (R .from (rev d))
-chain-edge R d l = along d l here
+chain-edge R d l = by-edge d l here
 
 pub chain-back : {R : Rotation} → Lawful R → (d : ℕ) → R .live d ≡ true → Chain R (R .from (rev d)) (R .from d)
 chain-back {R} L d l = rw (rev-rev d) at (chain-edge R (rev d) (L .live-rev d ∙ l))
@@ -42,7 +42,7 @@ pub part-kept : {R : Rotation} {r : ℕ} {Q : ℕ → Bool} → Lawful R → Par
 part-kept {R} {r} {Q} L P = record {
   edge = λ d l. same-truth (Q (R .from (rev d))) (Q (R .from d))
       (λ t. P .all (R .from d) (chain-trans (P .joins (R .from (rev d)) t) (chain-back L d l)))
-      (λ t. P .all (R .from (rev d)) (along d l (P .joins (R .from d) t)));
+      (λ t. P .all (R .from (rev d)) (by-edge d l (P .joins (R .from d) t)));
 }
 
 -- the same with a sum: the turns and the marks add to an even number

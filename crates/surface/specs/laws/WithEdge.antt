@@ -17,7 +17,7 @@ use Rattle.orbits.specs.laws.Count.{count-same, count-one}
 use Rattle.surgery.specs.laws.PlacesIn.{EndsTogether}
 use Rattle.surgery.specs.Without.{Without}
 use Rattle.surgery.specs.laws.Without.{were, gone, kept}
-use Rattle.surface.specs.Chain.{Chain, along}
+use Rattle.surface.specs.Chain.{Chain, by-edge}
 use Rattle.surface.specs.laws.Chain.{chain-ind, Fits, MarksOn}
 use Rattle.surface.specs.laws.Links.{live-edge-low}
 use Rattle.surface.specs.Counts.{verticesIn, edgesIn}
@@ -50,12 +50,12 @@ module _ {R R′ : Rotation} {e : ℕ} (L : Lawful R) (L′ : Lawful R′) (W : 
   ]
 
   pub weaken : {a b : ℕ} → Chain R′ a b → Chain R a b
-  weaken {a} {b} c = chain-ind R′ a (Chain R a) Chain.here (λ d l k t. rw (from-rev d l) (along d (were L L′ W d l) (rw (W .from d l) at t))) b c
+  weaken {a} {b} c = chain-ind R′ a (Chain R a) Chain.here (λ d l k t. rw (from-rev d l) (by-edge d (were L L′ W d l) (rw (W .from d l) at t))) b c
 
   -- a chain without the edge goes on along a dart of another
   pub onward : {a : ℕ} (d : ℕ) → R′ .live d ≡ true → R′ .from d ≡ R .from d → R′ .from (rev d) ≡ R .from (rev d) → Chain R′ a (R .from d) → Chain R′ a (R .from (rev d))
   onward {a} d l x y c =
-      let k : Chain R′ a (R′ .from (rev d)) = along d l (rw x c) in
+      let k : Chain R′ a (R′ .from (rev d)) = by-edge d l (rw x c) in
       rw y at k
 
   pub ends-kept : {Q : ℕ → Bool} → EndsTogether R Q → Q (R .from (2 * e + 1)) ≡ Q (R .from (2 * e))

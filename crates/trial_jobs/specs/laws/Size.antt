@@ -10,7 +10,7 @@ use Rattle.table.specs.laws.Flat.{flat-append, flat-one}
 use Rattle.edits.specs.declared.edit.Edit.{Edit}
 use Rattle.edits.specs.declared.edit.Edit.the-variants.{AddVertex}
 use Rattle.runs.specs.Run.{run}
-use Rattle.records_write.specs.Encoding.{recordOf, jobOf, Sixteen, AllSixteen, none, more}
+use Rattle.records_write.specs.Encoding.{recordOf, jobOf, Sixteen, AllSixteen, none, one-more}
 use Rattle.trial_jobs.specs.Trial.{additions, insertionOn, trialJob, trialBytes, trialSize}
 
 -- one record more
@@ -36,5 +36,5 @@ trial-size start zero = additions-size 8
 trial-size start (suc e) = let r = trial-size start e in rw (bytes-last start e, length-append, mul-suc) (omega arith)
 
 pub sixteen-last : (Es : List Edit) (E : Edit) → AllSixteen Es → Sixteen E → AllSixteen (Es ++ (E ∷ []))
-sixteen-last [] E none h = more h none
-sixteen-last (F ∷ Es) E (more q k) h = more q (sixteen-last Es E k h)
+sixteen-last [] E none h = one-more h none
+sixteen-last (F ∷ Es) E (one-more q k) h = one-more q (sixteen-last Es E k h)

@@ -4,7 +4,7 @@ use mathlib.Core.Bool.{Bool, true, false}
 use mathlib.Core.List.{List, [], _∷_}
 use lib.Dec.{eqb, ltb}
 use Rattle.table.specs.Rotation.{Rotation}
-use Rattle.orbits.specs.Count.{more, count}
+use Rattle.orbits.specs.Count.{moreIf, count}
 use Rattle.tracing.specs.Listing.{gather, starts, faces}
 use Rattle.table.specs.Layout.{darts, edges, loneAt}
 use Rattle.tracing.specs.Walk.{walk, corners}
@@ -28,7 +28,7 @@ onEdge e s = eqb (s / 4) e
 -- how many members pass a test
 unfoldable pub countIn : (ℕ → Bool) → List ℕ → ℕ
 countIn q [] = 0
-countIn q (x ∷ l) = more (q x) (countIn q l)
+countIn q (x ∷ l) = moreIf (q x) (countIn q l)
 
 -- how often x is among these
 abbrev pub times : ℕ → List ℕ → ℕ

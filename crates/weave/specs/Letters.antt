@@ -1,13 +1,13 @@
 -- The letters of a step and of a ribbon, alternating ribbons and plain weaves, document 01, "Over and under".
 -- A letter is the byte that is written for it.
---     over, under                        the letters O and U
---     unturned, positive, negative       the word of an edge without turns; the two hands
---     crossings                          how many crossings an edge has
---     letter, letterAt, crossed          the letter from a type; that of crossing j; those of n crossings
---     wordOf                             the word of a step's edge
---     lettersOn, stepLetters, letters    the letters of a step on an edge; of a step; of the ribbon through a step
---     alternating, alternates, neighboursDiffer  cyclic neighbours differ; the ribbon alternates; each differs from the one after it
---     plain, every                       all ribbons alternate; a test holds of each
+--     over, under                                  the letters O and U
+--     unturned, positive, negative                 the word of an edge without turns; the two hands
+--     crossings                                    how many crossings an edge has
+--     letter, letterAt, crossed                    the letter from a type; that of crossing j; those of n crossings
+--     wordOf                                       the word of a step's edge
+--     lettersOn, stepLetters, letters              the letters of a step on an edge; of a step; of the ribbon through a step
+--     alternating, alternates, neighboursDiffer    cyclic neighbours differ; the ribbon alternates; each differs from the one after it
+--     plain, every                                 all ribbons alternate; a test holds of each
 use Prim.Native.Nat.{ℕ, zero, suc, _+_, _-_, _*_, _/_, _%_}
 use mathlib.Core.Bool.{Bool, true, not, _&&_, cond}
 use mathlib.Core.List.{List, [], _∷_}

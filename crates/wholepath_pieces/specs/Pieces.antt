@@ -1,12 +1,12 @@
 -- The pieces of a whole path, document 02, e: those of one step, and what is written for them.
---     wholePath, piecesAlong          the pieces of the ribbon through a step, with Close; without it
---     stepPieces, pieceAt, wholePieceOn  the pieces of a step; the i-th of them, on the table; on an edge word
---     wholePieceFor, spotAt           the piece for a letter and a spot; three coordinates with their remainders
---     spotsOn, spotsOf                how many pieces an edge gives; how many a step gives
---     crossingNumber, letterOn        which crossing comes i-th on a step, counted from the first end; its letter
---     wholeFormOf, spotOf             the word of a piece; its spot, zeros for Close
---     wholeFormsOf, wordsOf, restsOf  what is written for a piece: its word, its coordinates, its remainders
---     upTo                            f 0, f 1 and so on, n of them
+--     wholePath, piecesAlong               the pieces of the ribbon through a step, with Close; without it
+--     stepPieces, pieceAt, wholePieceOn    the pieces of a step; the i-th of them, on the table; on an edge word
+--     wholePieceFor, spotAt                the piece for a letter and a spot; three coordinates with their remainders
+--     spotsOn, spotsOf                     how many pieces an edge gives; how many a step gives
+--     crossingNumber, letterOn             which crossing comes i-th on a step, counted from the first end; its letter
+--     wholeFormOf, spotOf                  the word of a piece; its spot, zeros for Close
+--     wholeFormsOf, wordsOf, restsOf       what is written for a piece: its word, its coordinates, its remainders
+--     upTo                                 f 0, f 1 and so on, n of them
 use Prim.Native.Nat.{ℕ, zero, suc, _+_, _-_, _/_, _%_}
 use mathlib.Core.Bool.{cond}
 use mathlib.Core.List.{List, [], _∷_, _++_, flatMap}

@@ -62,14 +62,16 @@ pub fn declared(text: &str) -> Declared {
     found
 }
 
-/// A field of a record, or a constructor of a data type.
+/// Fields of a record, or constructors of a data type; those of one type may share a line, `a b : T`.
 fn note_member(found: &mut Declared, kind: &Body, line: &str) {
     let line = line.strip_prefix("pub ").unwrap_or(line);
-    if let Some(name) = signed(line) {
-        match kind {
-            Body::Record => found.fields.insert(name),
-            Body::Data => found.names.insert(name),
-        };
+    let names = match line.split_once(" :") {
+        Some((names, after)) if after.is_empty() || after.starts_with(' ') => names.split(' ').map(String::from),
+        _ => return,
+    };
+    match kind {
+        Body::Record => found.fields.extend(names),
+        Body::Data => found.names.extend(names),
     }
 }
 

@@ -37,4 +37,11 @@ fn a_name_of_two_crates() {
     );
     TRIAL.after("record", RUN, "record Run", "record Step", &["`Step` is declared in runs/Run and tracing/Walk"]);
     TRIAL.after("constructor", RUN, "  plain :", "  walk :", &["`walk` is declared in runs/Run and tracing/Walk"]);
+    TRIAL.after(
+        "constructors",
+        RUN,
+        "  plain :",
+        "  plain walk :",
+        &["`walk` is declared in runs/Run and tracing/Walk"],
+    );
 }

@@ -1,3 +1,4 @@
+-- `read_job` meets its contract. The invariant: what came is read, and the bytes of a cut record wait
 -- at the front of the buffer. The measure is the bytes that may still come, and one more turn for the read that gives none.
 use Rattle.job.specs.laws.Progress.{Going, going-none, going-ready, waiting, going-less, going-more, going-over}
 use Rattle.orbits.specs.laws.Truth.{clash}

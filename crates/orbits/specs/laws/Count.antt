@@ -19,7 +19,7 @@ use native.Mathlib.Omega.{arith}
 use lib.Dec.{eqb}
 use borrow.Author.Tests.{eq-eqb, ne-eqb}
 use Rattle.orbits.specs.laws.Truth.{truth, holds, fails, clash, both-left, false-unless, First, first, found, none}
-use Rattle.orbits.specs.Count.{more, count, Partner}
+use Rattle.orbits.specs.Count.{moreIf, count, Partner}
 
 pub count-same : (p q : ℕ → Bool) (n : ℕ) → ((i : ℕ) → i < n → p i ≡ q i) → count p n ≡ count q n
 unfolding count
@@ -44,7 +44,7 @@ count-one p q a (suc n) h t f e = elim (ℕ-discrete a n) [
       rw (same, rest) (past (q n) (count q n))
 ]
   where
-    past : (b : Bool) (k : ℕ) → more b (suc k) ≡ suc (more b k)
+    past : (b : Bool) (k : ℕ) → moreIf b (suc k) ≡ suc (moreIf b k)
     past true k = refl
     past false k = refl
 
@@ -63,7 +63,7 @@ unfolding count
 count-le p zero = omega arith
 count-le p (suc n) = at (p n) (count-le p n)
   where
-    at : (b : Bool) {k : ℕ} → k ≤ n → more b k ≤ suc n
+    at : (b : Bool) {k : ℕ} → k ≤ n → moreIf b k ≤ suc n
     at true h = omega arith
     at false h = omega arith
 
@@ -121,7 +121,7 @@ count-split p q r (suc n) e apart =
     rw (e n (omega arith), count-split p q r n (λ i h. e i (omega arith)) (λ i h. apart i (omega arith)))
     (add (q n) (r n) (count q n) (count r n) (apart n (omega arith)))
   where
-    add : (a b : Bool) (k l : ℕ) → (a ≡ true → b ≡ true → ⊥) → more (a || b) (k + l) ≡ more a k + more b l
+    add : (a b : Bool) (k l : ℕ) → (a ≡ true → b ≡ true → ⊥) → moreIf (a || b) (k + l) ≡ moreIf a k + moreIf b l
     add true true k l h = absurd (h refl refl)
     add true false k l h = omega arith
     add false true k l h = omega arith
@@ -148,7 +148,7 @@ unfolding count
 count-sum p a zero = simp add-zero
 count-sum p a (suc b) = rw (add-suc a b, count-sum p a b) (over (p (a + b)) (count p a) (count (λ i. p (a + i)) b))
   where
-    over : (t : Bool) (k l : ℕ) → more t (k + l) ≡ k + more t l
+    over : (t : Bool) (k l : ℕ) → moreIf t (k + l) ≡ k + moreIf t l
     over true k l = omega arith
     over false k l = refl
 

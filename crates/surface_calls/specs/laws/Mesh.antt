@@ -18,7 +18,7 @@ use Rattle.table.specs.Layout.{vertices, edges, vertexWord, edgeWord, nothing}
 use Rattle.table.specs.Rotation.{Rotation, Lawful, rotation, there?, live?}
 use Rattle.table.specs.laws.Rotation.{there-yes, there-word, live-yes, yes-live}
 use Rattle.orbits.specs.laws.Truth.{Truth, truth, holds, fails, both, false-unless}
-use Rattle.orbits.specs.Count.{count, more}
+use Rattle.orbits.specs.Count.{count, moreIf}
 use Rattle.tracing.specs.Listing.{faceCount, only, bit}
 use Rattle.tracing.specs.laws.FaceCount.{faces-low}
 use mir.Syntax.{w32}
@@ -98,7 +98,7 @@ unfolding partsBelow count
 parts-below R zero = refl
 parts-below R (suc n) = rw (length-append (partsBelow R n) (only (root? R n) n), parts-below R n) (by (root? R n) (count (root? R) n))
   where
-    by : (b : Bool) (k : ℕ) → k + length (only b n) ≡ more b k
+    by : (b : Bool) (k : ℕ) → k + length (only b n) ≡ moreIf b k
     by true k = omega arith
     by false k = omega arith
 

@@ -15,7 +15,7 @@ use lib.Dec.{eqb}
 use borrow.Author.Tests.{eq-eqb, ne-eqb}
 use Rattle.table.specs.Layout.{rev}
 use Rattle.table.specs.Rotation.{Rotation, Lawful}
-use Rattle.orbits.specs.Count.{more}
+use Rattle.orbits.specs.Count.{moreIf}
 use Rattle.tracing.specs.laws.Step.{type?, is-zero, is-one}
 use Rattle.tracing.specs.Step.{stepType, back}
 use Rattle.tracing.specs.Met.{countIn, times, listedSteps, onEdge}
@@ -45,7 +45,7 @@ of-edge e y = elim (ℕ-discrete (y / 4) e) [
 ]
 
 edge-more : (e y : ℕ) → OfEdge e y → (k a b c d : ℕ) → k ≡ a + b + c + d
-    → more (onEdge e y) k ≡ more (eqb (4 * e) y) a + more (eqb (4 * e + 1) y) b + more (eqb (4 * e + 2) y) c + more (eqb (4 * e + 3) y) d
+    → moreIf (onEdge e y) k ≡ moreIf (eqb (4 * e) y) a + moreIf (eqb (4 * e + 1) y) b + moreIf (eqb (4 * e + 2) y) c + moreIf (eqb (4 * e + 3) y) d
 edge-more e y (first q) k a b c d r =
     rw (
       eq-eqb (y / 4) e (omega arith),

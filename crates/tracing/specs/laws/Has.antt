@@ -17,7 +17,7 @@ use lib.Dec.{eqb}
 use lib.ListN.{length}
 use borrow.Author.Tests.{eq-eqb, ne-eqb}
 use Rattle.orbits.specs.laws.Truth.{clash, false-unless}
-use Rattle.orbits.specs.Count.{more, count}
+use Rattle.orbits.specs.Count.{moreIf, count}
 use Rattle.orbits.specs.laws.Count.{count-one, count-none}
 use Rattle.tracing.specs.Listing.{has, gather}
 use Rattle.tracing.specs.laws.Listing.{has-here, has-there}
@@ -104,7 +104,7 @@ unfolding countIn
 countIn-append q [] b = omega arith
 countIn-append q (x ∷ a) b = rw (countIn-append q a b) (add (q x) (countIn q a) (countIn q b))
   where
-    add : (t : Bool) (k l : ℕ) → more t (k + l) ≡ more t k + l
+    add : (t : Bool) (k l : ℕ) → moreIf t (k + l) ≡ moreIf t k + l
     add true k l = omega arith
     add false k l = refl
 
@@ -118,7 +118,7 @@ unfolding countIn
 countIn-few q [] = omega arith
 countIn-few q (x ∷ l) = one (q x) (countIn-few q l)
   where
-    one : (b : Bool) {n m : ℕ} → n ≤ m → more b n ≤ suc m
+    one : (b : Bool) {n m : ℕ} → n ≤ m → moreIf b n ≤ suc m
     one true h = omega arith
     one false h = omega arith
 

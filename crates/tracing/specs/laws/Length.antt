@@ -14,7 +14,7 @@ use lib.ListN.{length}
 use borrow.Author.Tests.{lt-ltb, le-ltb}
 use Rattle.table.specs.Layout.{darts, edges}
 use Rattle.table.specs.Rotation.{Rotation, Lawful}
-use Rattle.orbits.specs.Count.{count, more}
+use Rattle.orbits.specs.Count.{count, moreIf}
 use Rattle.orbits.specs.laws.Count.{count-same, count-short}
 use Rattle.orbits.specs.Iterate.{iter}
 use Rattle.orbits.specs.laws.Iterate.{iter-zero, iter-suc, iter-low, Period}
@@ -41,7 +41,7 @@ count-halves p (suc n) =
     let high : suc (2 * n) / 2 ≡ n = omega arith in
     rw (double, low, high, count-halves p n) (twice (p n) (count p n))
   where
-    twice : (b : Bool) (k : ℕ) → more b (more b (2 * k)) ≡ 2 * more b k
+    twice : (b : Bool) (k : ℕ) → moreIf b (moreIf b (2 * k)) ≡ 2 * moreIf b k
     twice true k = omega arith
     twice false k = refl
 

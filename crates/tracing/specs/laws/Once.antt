@@ -16,7 +16,7 @@ use borrow.Author.Tests.{eq-eqb, eqb-true, lt-ltb, le-ltb}
 use Rattle.table.specs.Layout.{vertices, darts, loneAt}
 use Rattle.table.specs.Rotation.{Rotation, Lawful}
 use Rattle.orbits.specs.laws.Truth.{both, both-right, false-unless, not-both}
-use Rattle.orbits.specs.Count.{count, more}
+use Rattle.orbits.specs.Count.{count, moreIf}
 use Rattle.orbits.specs.laws.Count.{count-none}
 use Rattle.orbits.specs.Iterate.{iter}
 use Rattle.orbits.specs.laws.Iterate.{Period, period-apart}
@@ -46,7 +46,7 @@ run-count q f s (suc n) =
     countIn-append q (iterates f s n) (iter f n s ∷ [])
     ∙ rw (run-count q f s n) (last (q (iter f n s)) (count (λ k. q (iter f k s)) n))
   where
-    last : (b : Bool) (k : ℕ) → k + more b 0 ≡ more b k
+    last : (b : Bool) (k : ℕ) → k + moreIf b 0 ≡ moreIf b k
     last true k = omega arith
     last false k = omega arith
 

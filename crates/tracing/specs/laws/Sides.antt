@@ -21,7 +21,7 @@ use borrow.Author.Tests.{eq-eqb, ne-eqb, eqb-true}
 use Rattle.table.specs.Layout.{rev}
 use Rattle.table.specs.Rotation.{Rotation, Lawful}
 use Rattle.orbits.specs.laws.Truth.{truth, holds, fails, clash}
-use Rattle.orbits.specs.Count.{more}
+use Rattle.orbits.specs.Count.{moreIf}
 use Rattle.orbits.specs.Reach.{Reach}
 use Rattle.orbits.specs.laws.Reach.{reach-here, reach-trans, reach-sym, reach-ind}
 use Rattle.orbits.specs.Orbits.{On}
@@ -95,11 +95,11 @@ keep-times q x (y ∷ l) =
       | fails e ↦ rw (e, keep) (skip (eqb x y) less)
     ]
   where
-    mono : (b : Bool) {m n : ℕ} → m ≤ n → more b m ≤ more b n
+    mono : (b : Bool) {m n : ℕ} → m ≤ n → moreIf b m ≤ moreIf b n
     mono true h = omega arith
     mono false h = h
 
-    skip : (b : Bool) {m n : ℕ} → m ≤ n → m ≤ more b n
+    skip : (b : Bool) {m n : ℕ} → m ≤ n → m ≤ moreIf b n
     skip true h = omega arith
     skip false h = h
 
@@ -130,7 +130,7 @@ times-some x (y ∷ l) h = elim (has-cons x y l h) [
   | later t ↦ let some = times-some x l t in up (eqb x y) some
 ]
   where
-    up : (b : Bool) {n : ℕ} → 0 < n → 0 < more b n
+    up : (b : Bool) {n : ℕ} → 0 < n → 0 < moreIf b n
     up true h = omega arith
     up false h = h
 

@@ -12,7 +12,7 @@ use mathlib.Core.Bool.{Bool, true, false, not, _&&_}
 use mathlib.Core.List.{[], _∷_, _++_}
 use Rattle.table.specs.Rotation.{Rotation}
 use Rattle.orbits.specs.laws.Truth.{truth, holds, fails, clash, both-left, both-right}
-use Rattle.orbits.specs.Count.{count, more}
+use Rattle.orbits.specs.Count.{count, moreIf}
 use Rattle.tracing.specs.Listing.{has, metBy, only, fresh, starts, lone, alones}
 use Rattle.tracing.specs.laws.Listing.{has-here, fresh-dead, fresh-met, fresh-start, starts-zero, starts-suc, alones-zero, alones-suc}
 use Rattle.tracing.specs.laws.Has.{has-empty, has-parts, left, right, has-left, has-right, has-cons, here, later, countIn-append}
@@ -82,11 +82,11 @@ module _ (R : Rotation) where
     | no q ↦ rw (starts-more R n) (has-left d (starts R n) (only (start? R n) n) (start-has n d (omega arith) e))
   ]
 
-  pub one-more : (q : ℕ → Bool) (b : Bool) (x k : ℕ) → k + countIn q (only b x) ≡ more (b && q x) k
+  pub one-more : (q : ℕ → Bool) (b : Bool) (x k : ℕ) → k + countIn q (only b x) ≡ moreIf (b && q x) k
   unfolding countIn
   one-more q true x k = bit (q x)
     where
-      bit : (t : Bool) → k + more t 0 ≡ more t k
+      bit : (t : Bool) → k + moreIf t 0 ≡ moreIf t k
       bit true = omega arith
       bit false = omega arith
   one-more q false x k = omega arith

@@ -2,7 +2,7 @@
 --     output                         all that is printed on some bytes
 --     goesOn                         whether more is read after a read
 --     afterBlock, failedAt, Turn     what one read and the records that it makes whole change
---     Over                           why a reading that went well is over
+--     Finished                       why a reading that went well is over
 --     Read, Ended                    what the reading leaves;  what the program leaves
 use Prim.Native.Nat.{ℕ, zero, suc, _+_, _≤_, _^_}
 use mathlib.Core.Path.{_≡_}
@@ -57,10 +57,10 @@ pub data Turn (t₀ buf₀ : List ℕ) (p : Progress) (t buf : List ℕ) (r : Pr
 
 -- why a reading that went well is over: the last read gave nothing, which is the end of the input; or a record stopped it, "10 .. end the reading"; or
 -- 2 ^ 60 bytes have come
-pub data Over (came : ℕ) (stop : Stop) (read : ℕ) : Type 0 where
-  nothing-came : came ≡ 0 → Over came stop read
-  stopped : readsOn stop ≡ false → Over came stop read
-  so-many : 2 ^ 60 ≤ read → Over came stop read
+pub data Finished (came : ℕ) (stop : Stop) (read : ℕ) : Type 0 where
+  nothing-came : came ≡ 0 → Finished came stop read
+  stopped : readsOn stop ≡ false → Finished came stop read
+  so-many : 2 ^ 60 ≤ read → Finished came stop read
 
 -- all that came has been read: there are so many bytes, and what their reading gives is what the program has. "Records count from 1."
 pub record Read (t₀ t : List ℕ) (p : Progress) : Type 0 where
@@ -70,7 +70,7 @@ pub record Read (t₀ t : List ℕ) (p : Progress) : Type 0 where
   pub next : p .next ≡ 1 + length (reading input .edits)
   pub stop : p .stop ≡ reading input .stop
   pub printed : p .printed ≡ length (lines t₀ 1 (reading input .edits))
-  pub over : p .fine ≡ true → Over (p .came) (reading input .stop) (p .read)
+  pub over : p .fine ≡ true → Finished (p .came) (reading input .stop) (p .read)
   pub low : p .read ≤ 2 ^ 60 + 4096
 
 -- the program's end: the table is that of all that came; never more bytes were handed over than the output has, and, unless something failed, so many, and
@@ -81,4 +81,4 @@ pub record Ended (t₀ t : List ℕ) (r : Job) : Type 0 where
   pub table : t ≡ run t₀ (reading input .edits)
   pub most : r .printed ≤ length (output t₀ input)
   pub whole : r .fine ≡ true → r .printed ≡ length (output t₀ input)
-  pub over : r .fine ≡ true → Over (r .came) (reading input .stop) (r .read)
+  pub over : r .fine ≡ true → Finished (r .came) (reading input .stop) (r .read)

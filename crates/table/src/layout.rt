@@ -23,7 +23,7 @@ pub const NOTHING: u16 = 65535;
 
 pub const ISOLATED: u16 = 65534;
 
-// The word of an edge without turns, and the largest edge word: its turns plus 100, of which there are at most 99 either way.
+// The word of an edge without turns; the most turns that an edge may have, either way; the largest edge word.
 pub const UNTURNED: u16 = 100;
 
 pub const MOST_TURNS: u16 = 99;

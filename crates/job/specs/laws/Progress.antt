@@ -33,7 +33,7 @@ use Rattle.records.specs.laws.Blocks.{left-some, reading-left, left-again, left
 use Rattle.records.specs.laws.Running.{Ready}
 use Rattle.records.specs.laws.Moving.{block-fits}
 use Rattle.job.specs.declared.Progress.{Progress}
-use Rattle.job.specs.Job.{goesOn, afterBlock, Turn, came, failed, Over, nothing-came, stopped, so-many, Read}
+use Rattle.job.specs.Job.{goesOn, afterBlock, Turn, came, failed, Finished, nothing-came, stopped, so-many, Read}
 
 -- the first n bytes of the buffer, and a buffer for the lines
 module _ (number n : ℕ) (t buf out : List ℕ) (e : length buf ≡ 4096) (l : n ≤ 4096) (h : number ≤ 2 ^ 61) (f : 65536 ≡ length out) where
@@ -79,7 +79,7 @@ goes-reads false new stop e = absurd (clash e refl)
 goes-reads true zero stop e = absurd (clash e refl)
 goes-reads true (suc new) stop e = e
 
-goes-over : {came read : ℕ} (fine : Bool) (new : ℕ) (stop : Stop) → fine ≡ true → goesOn fine new stop ≡ false → came ≡ new → Over came stop read
+goes-over : {came read : ℕ} (fine : Bool) (new : ℕ) (stop : Stop) → fine ≡ true → goesOn fine new stop ≡ false → came ≡ new → Finished came stop read
 goes-over false new stop f e c = absurd (clash f refl)
 goes-over true zero stop f e c = nothing-came c
 goes-over true (suc new) stop f e c = stopped e
@@ -122,7 +122,7 @@ pub record Going (t₀ t buf : List ℕ) (p : Progress) : Type 0 where
   pub waits : p .left ≡ length (left input)
   pub front : take (p .left) buf ≡ left input
   pub on : p .going ≡ true → readsOn (reading input .stop) ≡ true
-  pub over : p .fine ≡ true → p .going ≡ false → Over (p .came) (reading input .stop) (p .read)
+  pub over : p .fine ≡ true → p .going ≡ false → Finished (p .came) (reading input .stop) (p .read)
 
 nothing-read : reading [] ≡ ended End
 unfolding reading readUpTo

@@ -8,7 +8,7 @@ use weave_letters::letter::overs;
 use weave_letters::named::named_step;
 ghost use mathlib.Core.Path.{_≡_};
 ghost use Rattle.tracing_walks.specs.laws.Stands.{Stands};
-ghost use Rattle.lengths.specs.CutLength.{lengthOf, cutLength, cutLengthOf};
+ghost use Rattle.lengths.specs.CutLength.{lengthOf, takenBy, cutLength, cutLengthOf};
 
 // What a strand that rides over takes up, and the lap that closes a ribbon, in sixteenths of a millimetre.
 pub const OVER_ALLOWANCE: u32 = 8;
@@ -23,6 +23,16 @@ pub fn edge_length(t: &[u16], s: u16) -> u16
     t[LENGTH + (s / 2 / 2) as usize]
 }
 
+// What step s takes up: the length of its edge, and the allowance for each of its own O's.
+pub fn taken_by(t: &[u16], s: u16) -> u32
+    requires { ⌜ Stands (now t) s ⌝ }
+    ensures { λ r. ⌜ r ≡ takenBy (now (t .entry)) s ⌝ }
+{
+    let l = edge_length(t, s);
+    let o = overs(edge_word(t, s), s % 2);
+    l as u32 + OVER_ALLOWANCE * o as u32
+}
+
 // The cut length of the ribbon through step s.
 fn length_along(t: &[u16], s: u16) -> u32
     requires { ⌜ Stands (now t) s ⌝ }
@@ -31,9 +41,7 @@ fn length_along(t: &[u16], s: u16) -> u32
     let mut at = s;
     let mut sum: u32 = 0;
     loop {
-        let l = edge_length(t, at);
-        let o = overs(edge_word(t, at), at % 2);
-        sum += l as u32 + OVER_ALLOWANCE * o as u32;
+        sum += taken_by(t, at);
         at = step(t, at);
         if at == s {
             return sum + LAP;

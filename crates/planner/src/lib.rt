@@ -3,6 +3,7 @@
 use edits_rule::reply::reply_code;
 use forecasts_number::number::asked_code;
 use forecasts_number::number::forecast_in;
+use prices::quote::quote_code;
 use reader::standing::Standing;
 use reader::standing::step_call;
 use reader_tally::tally::Tally;
@@ -20,6 +21,7 @@ ghost use Rattle.forecasts.specs.Number.{askedCode, forecastIn};
 ghost use Rattle.surface.specs.Calls.{countsAnswer, countsOut, partsAnswer, partsOut};
 ghost use Rattle.weave.specs.Calls.{alternatesOf, plainOf, lettersOf, lettersOut};
 ghost use Rattle.lengths.specs.CutLength.{cutLengthOf};
+ghost use Rattle.prices.specs.Sheet.{sheetAnswer, sheetOut, quoteCode};
 ghost use Rattle.reader.specs.Standing.{calledOf};
 ghost use Rattle.floatpath.specs.PathCall.{pathAnswer, formsOut, coordsOut};
 ghost use Rattle.wholepath.specs.WholePath.{wholeAnswer, wholeFormsOut, wholeCoordsOut, wholeRemaindersOut};
@@ -220,6 +222,14 @@ pub extern "C" fn planner_cut_length(t: &[u16], dart: u16, kind: u16) -> i64
     ensures { λ r. ⌜ r ≡ codeOf (cutLengthOf (now (t .entry)) dart kind) ⌝ }
 {
     code(lengths::length::cut_length(t, dart, kind))
+}
+
+// Writes four words for each ribbon, in listing order: its cut length, the metres started, how far the last is unused, its price. Answers the sum of the prices.
+#[no_mangle]
+pub extern "C" fn planner_price_sheet(t: &[u16], p: u16, m: u16, out: &mut [u32]) -> i64
+    ensures { λ r. ⌜ (r ≡ quoteCode (sheetAnswer (now (t .entry)) p m (length (now (out .entry))))) × (now (out .exit) ≡ sheetOut (now (t .entry)) p m (now (out .entry))) ⌝ }
+{
+    quote_code(prices::call::price_sheet(t, p, m, out))
 }
 
 // Writes the float path of the ribbon through the step of dart and type: a word and three floats for each piece. Answers the number of pieces.

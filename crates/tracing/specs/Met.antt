@@ -1,11 +1,11 @@
 -- What the listed walks meet and pass: their corners, their steps, and how often. "A step is on its dart's edge"; "E: live edges".
-use Prim.Native.Nat.{ℕ, _+_, _*_, _/_}
+use Prim.Native.Nat.{ℕ, zero, suc, _+_, _*_, _/_}
 use mathlib.Core.Bool.{Bool, true, false}
-use mathlib.Core.List.{List, [], _∷_}
+use mathlib.Core.List.{List, [], _∷_, _++_}
 use lib.Dec.{eqb, ltb}
 use Rattle.table.specs.Rotation.{Rotation}
 use Rattle.orbits.specs.Count.{moreIf, count}
-use Rattle.tracing.specs.Listing.{gather, starts, faces}
+use Rattle.tracing.specs.Listing.{gather, only, starts, faces}
 use Rattle.table.specs.Layout.{darts, edges, loneAt}
 use Rattle.tracing.specs.Walk.{walk, corners}
 
@@ -42,3 +42,8 @@ total f (x ∷ l) = f x + total f l
 -- "E: live edges"
 unfoldable pub edgeCount : Rotation → ℕ
 edgeCount R = count (λ e. R .live (2 * e)) edges
+
+-- the live edges below n, upward
+unfoldable pub liveEdges : Rotation → ℕ → List ℕ
+liveEdges R zero = []
+liveEdges R (suc e) = liveEdges R e ++ only (R .live (2 * e)) e

@@ -18,3 +18,4 @@ pub mod Met
 pub mod Sides
 pub mod Back
 pub mod Totals
+pub mod EdgeTotals

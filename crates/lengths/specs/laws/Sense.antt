@@ -45,7 +45,7 @@ overs-of-back : (t : List ℕ) (x : ℕ) → times over (stepLetters t (back (ro
 unfolding stepLetters stepType turnsOf
 overs-of-back t x = rw (back-dart (rotation t) x, back-type (rotation t) x, rev-edge (x / 2)) (overs-back (wordOf t x) x)
 
-taken-back : (t : List ℕ) (x : ℕ) → takenBy t (back (rotation t) x) ≡ takenBy t x
+pub taken-back : (t : List ℕ) (x : ℕ) → takenBy t (back (rotation t) x) ≡ takenBy t x
 taken-back t x = ap₂ (λ l o. l + 8 * o) (length-back t x) (overs-of-back t x)
 
 module _ (t : List ℕ) (g : Good t) where

@@ -1,7 +1,10 @@
--- The loop that sums the lengths along a walk: what it knows, and how it ends.
+-- What the steps of a ribbon take up, summed along it: what a loop that does so knows, and how it ends.
 --     cut-total                                                the cut length is what the steps take up, and the lap
 --     takenBefore, takenMost, taken-most                       what the first n steps take up; the most that one step does
+--     taken-step                                               a step's share, from the word of its edge
 --     length-most                                              the length of an edge on the way
+--     TakenUp                                                  the first n steps take up a sum
+--     taken-none, taken-room, taken-more, taken-all            none yet, room for one more, one more, all and the lap
 --     Summing                                                  the loop that sums what the steps take up
 --     summing-none, summing-room, summing-more, summing-all    it begins, has room for one step more, goes on, ends
 use Prim.Native.Nat.{ℕ, zero, suc, _+_, _*_, _/_, _%_, _≤_}
@@ -53,47 +56,54 @@ takenBefore t s n = total (takenBy t) (iterates (step (rotation t)) s n)
 abbrev pub takenMost : ℕ
 takenMost = 66327
 
+pub taken-step : {t : List ℕ} {s n w o : ℕ} → n ≡ lengthOf t s → EdgeWord t s w → o ≡ times over (lettersOn w (s % 2)) → n + 8 * o ≡ takenBy t s
+taken-step long e f = let own = overs-step e f in omega arith
+
 pub taken-most : {t : List ℕ} {x : ℕ} → Stands t x → takenBy t x ≤ takenMost
 taken-most h = let few = letters-few h .0 in let long = length-most h in omega arith
 
--- what the steps so far take up is summed
+-- the first n steps from s take up `sum`
+pub record TakenUp (t : List ℕ) (s n sum : ℕ) : Type 0 where
+  pub total : sum ≡ takenBefore t s n
+  pub most : sum ≤ takenMost * n
+
+pub taken-none : {t : List ℕ} {s : ℕ} → TakenUp t s zero 0
+unfolding iterates total
+taken-none = record { total = refl; most = omega arith }
+
+module _ {t : List ℕ} {s n at sum x : ℕ} (w : Walking t s n at) (k : TakenUp t s n sum) (e : x ≡ takenBy t at) where
+  -- room for one step more
+  pub taken-room : sum + x ≤ takenMost * 4096
+  taken-room = let most = k .most in let few = walking-few w in let one = taken-most (w .there) in omega arith
+
+  total-more : sum + x ≡ takenBefore t s (n + 1)
+  total-more =
+      let total = k .total in
+      let next : takenBefore t s (suc n) ≡ takenBefore t s n + takenBy t at =
+      total-last (step (rotation t)) s (takenBy t) n ∙ ap (λ y. takenBefore t s n + takenBy t y) (w .along .here) in
+      rw add-one (omega arith)
+
+  pub taken-more : TakenUp t s (n + 1) (sum + x)
+  taken-more = let most = k .most in let one = taken-most (w .there) in record { total = total-more; most = omega arith }
+
+  pub taken-all : {next : ℕ} → next ≡ step (rotation t) at → next ≡ s → sum + x + lap ≡ cutLength t s
+  taken-all f b = rw (cut-total t s, walking-all w f b) (ap (λ y. y + lap) total-more)
+
+-- the loop along a ribbon: what its steps so far take up is summed
 pub record Summing (t : List ℕ) (s at sum : ℕ) : Type 0 where
   pub so-far : ℕ
   pub walking : Walking t s so-far at
-  pub total : sum ≡ takenBefore t s so-far
-  pub most : sum ≤ takenMost * so-far
+  pub taken : TakenUp t s so-far sum
 
 pub summing-none : {t : List ℕ} {s : ℕ} → Stands t s → Summing t s s 0
-unfolding iterates total
-summing-none h = record { so-far = zero; walking = walking-none h; total = refl; most = omega arith }
+summing-none h = record { so-far = zero; walking = walking-none h; taken = taken-none }
 
-module _ {t : List ℕ} {s at sum : ℕ} (k : Summing t s at sum) where
-  -- room for one step more
-  pub summing-room : sum ≤ takenMost * 4095
-  summing-room = let most = k .most in let few = walking-few (k .walking) in omega arith
+module _ {t : List ℕ} {s at sum x : ℕ} (k : Summing t s at sum) (e : x ≡ takenBy t at) where
+  pub summing-room : sum + x ≤ takenMost * 4096
+  summing-room = taken-room (k .walking) (k .taken) e
 
-  module _ {n w o : ℕ} (g : n ≡ lengthOf t at) (e : EdgeWord t at w) (f : o ≡ times over (lettersOn w (at % 2))) where
-    abbrev more : ℕ
-    more = sum + (n + 8 * o)
+  pub summing-more : {next : ℕ} → next ≡ step (rotation t) at → next ≢ s → Summing t s next (sum + x)
+  summing-more f b = record { so-far = k .so-far + 1; walking = walking-more (k .walking) f b; taken = taken-more (k .walking) (k .taken) e }
 
-    total-more : more ≡ takenBefore t s (k .so-far + 1)
-    total-more =
-        let total = k .total in
-        let own = overs-step e f in
-        let next : takenBefore t s (suc (k .so-far)) ≡ takenBefore t s (k .so-far) + takenBy t at =
-        total-last (step (rotation t)) s (takenBy t) (k .so-far) ∙ ap (λ x. takenBefore t s (k .so-far) + takenBy t x) (k .walking .along .here) in
-        rw add-one (omega arith)
-
-    most-more : more ≤ takenMost * (k .so-far + 1)
-    most-more = let most = k .most in let own = overs-step e f in let taken = taken-most (k .walking .there) in omega arith
-
-    pub summing-more : {next : ℕ} → next ≡ step (rotation t) at → next ≢ s → Summing t s next more
-    summing-more e b = record {
-      so-far = k .so-far + 1;
-      walking = walking-more (k .walking) e b;
-      total = total-more;
-      most = most-more;
-    }
-
-    pub summing-all : {next : ℕ} → next ≡ step (rotation t) at → next ≡ s → more + lap ≡ cutLength t s
-    summing-all e b = rw (cut-total t s, walking-all (k .walking) e b) (ap (λ n. n + lap) total-more)
+  pub summing-all : {next : ℕ} → next ≡ step (rotation t) at → next ≡ s → sum + x + lap ≡ cutLength t s
+  summing-all f b = taken-all (k .walking) (k .taken) e f b

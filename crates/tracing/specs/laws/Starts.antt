@@ -2,14 +2,16 @@
 --     start?                                  is dart d the start of a listed walk
 --     starts-more, start-live, start-unmet    one dart more; a start is live, and no walk before meets its corner
 --     StartBelow, has-start, start-has        the starts below n are those darts
+--     starts-most                             there are at most as many starts as darts
 --     starts-count, alones-count              how many starts, how many isolated vertices pass a test
 --     only-has, one-more, lone-there          members that are listed if a test holds
-use Prim.Native.Nat.{ℕ, zero, suc, _+_, _<_}
+use Prim.Native.Nat.{ℕ, zero, suc, _+_, _<_, _≤_}
 use native.Mathlib.Omega.{arith}
 use native.Mathlib.Decide.{ℕ-discrete}
 use mathlib.Core.Path.{_≡_, refl, _∙_, ap}
 use mathlib.Core.Bool.{Bool, true, false, not, _&&_}
 use mathlib.Core.List.{[], _∷_, _++_}
+use lib.ListN.{length, length-append}
 use Rattle.table.specs.Rotation.{Rotation}
 use Rattle.orbits.specs.laws.Truth.{truth, holds, fails, clash, both-left, both-right}
 use Rattle.orbits.specs.Count.{count, moreIf}
@@ -96,6 +98,14 @@ module _ (R : Rotation) where
   starts-count q zero = refl
   starts-count q (suc n) =
       rw (starts-more R n, countIn-append q (starts R n) (only (start? R n) n), starts-count q n) (one-more q (start? R n) n (count (λ d. start? R d && q d) n))
+
+  pub starts-most : (n : ℕ) → length (starts R n) ≤ n
+  starts-most zero = rw (starts-zero R) (omega arith)
+  starts-most (suc n) = let r = starts-most n in let one = few (start? R n) in rw (starts-more R n, length-append) (omega arith)
+    where
+      few : (b : Bool) → length (only b n) ≤ 1
+      few true = omega arith
+      few false = omega arith
 
   pub alones-count : (q : ℕ → Bool) (n : ℕ) → countIn q (alones R n) ≡ count (λ v. R .alone v && q v) n
   unfolding count countIn alones lone

@@ -2,6 +2,7 @@
 --     total-named                 any step of the walk may name it
 --     total-mirror                and either sense may
 --     total-append, total-last    the sum over two lists; over a run of one step more
+--     total-map, total-gather     the sum over what a function makes of each; over what is gathered from each
 --     total-most                  where each has at most m, the sum has at most m times the length
 --     period-next                 a step and the next one come back after as many steps
 use Prim.Native.Nat.{ℕ, zero, suc, _+_, _*_, _<_, _≤_}
@@ -15,7 +16,7 @@ use Rattle.orbits.specs.laws.Iterate.{iter-zero, iter-suc, iter-step, iter-low,
 use Rattle.table.specs.Rotation.{Rotation, Lawful}
 use Rattle.tracing.specs.Step.{steps, step, mirror, back}
 use Rattle.tracing.specs.Walk.{walk}
-use Rattle.tracing.specs.Listing.{has}
+use Rattle.tracing.specs.Listing.{has, gather}
 use Rattle.tracing.specs.Met.{total}
 use Rattle.tracing.specs.laws.Listing.{has-here}
 use Rattle.tracing.specs.laws.Has.{has-tail}
@@ -38,10 +39,15 @@ unfolding total
 total-reverse g [] = refl
 total-reverse g (x ∷ l) = ap (total g) (reverse-cons x l) ∙ total-append g (reverse l) (x ∷ []) ∙ (let r = total-reverse g l in omega arith)
 
-total-map : (g h : ℕ → ℕ) (l : List ℕ) → total g (map h l) ≡ total (λ x. g (h x)) l
+pub total-map : (g h : ℕ → ℕ) (l : List ℕ) → total g (map h l) ≡ total (λ x. g (h x)) l
 unfolding total
 total-map g h [] = refl
 total-map g h (x ∷ l) = ap (λ n. g (h x) + n) (total-map g h l)
+
+pub total-gather : (g : ℕ → ℕ) (f : ℕ → List ℕ) (l : List ℕ) → total g (gather f l) ≡ total (λ x. total g (f x)) l
+unfolding total gather
+total-gather g f [] = refl
+total-gather g f (x ∷ l) = total-append g (f x) (gather f l) ∙ ap (λ n. total g (f x) + n) (total-gather g f l)
 
 pub total-most : (g : ℕ → ℕ) (m : ℕ) (l : List ℕ) → ((x : ℕ) → has x l ≡ true → g x ≤ m) → total g l ≤ m * length l
 unfolding total

@@ -4,6 +4,7 @@
 --     marking-none, marking-more, marking-all, marking-corner      it begins, goes on, ends; the present corner has a mark
 --     LookReady, Looked                                            what the look at dart d asks; what it leaves
 --     unmet, Unmet, unmet-case, unmet-fresh                        dart d, if a walk starts there, as the marks tell
+--     unmet-dead, unmet-marked, unmet-start, edge-live             none on an edge that is not live or where marked, else one
 --     looked-dead, looked-met, looked-walk, looked-begins          the ways through the look
 --     start-stands, Begins                                         the first step of a walk that starts at d; its words
 --     Seen, seen-none, seen-range, seen-more                       the loop over the darts: the corners of walks so far are marked
@@ -100,18 +101,24 @@ pub record Looked (t : List ℕ) (d : ℕ) (m : List ℕ) (r : Size) (m′ : Lis
   pub few : r .walks ≤ 1
   pub low : r .words ≤ 4097
 
-unmet-dead : (t m : List ℕ) (d : ℕ) → live? t d ≡ false → unmet t m d ≡ []
-unfolding unmet
-unmet-dead t m d e = rw (e, unmet)
+edge-dead : (t : List ℕ) (d : ℕ) → edgeWord t (edgeOf d) ≡ 0 → live? t d ≡ false
+edge-dead t d e = elim (live-case t d) [ holds l p ↦ absurd (p .on e) | fails l p ↦ l ]
 
-unmet-marked : (t m : List ℕ) (d : ℕ) → getD m d 0 ≢ 0 → unmet t m d ≡ []
+unmet-none : (t m : List ℕ) (d : ℕ) → live? t d ≡ false → unmet t m d ≡ []
+unfolding unmet
+unmet-none t m d e = rw (e, unmet)
+
+pub unmet-dead : (t m : List ℕ) (d : ℕ) → edgeWord t (edgeOf d) ≡ 0 → unmet t m d ≡ []
+unmet-dead t m d e = unmet-none t m d (edge-dead t d e)
+
+pub unmet-marked : (t m : List ℕ) (d : ℕ) → getD m d 0 ≢ 0 → unmet t m d ≡ []
 unfolding unmet
 unmet-marked t m d e = elim (truth (live? t d)) [
   | yes-true l ↦ rw (l, unmet, ne-eqb (getD m d 0) 0 e)
-  | yes-false l ↦ unmet-dead t m d l
+  | yes-false l ↦ unmet-none t m d l
 ]
 
-unmet-start : (t m : List ℕ) (d : ℕ) → live? t d ≡ true → getD m d 0 ≡ 0 → unmet t m d ≡ d ∷ []
+pub unmet-start : (t m : List ℕ) (d : ℕ) → live? t d ≡ true → getD m d 0 ≡ 0 → unmet t m d ≡ d ∷ []
 unfolding unmet
 unmet-start t m d l e = rw (l, unmet, eq-eqb (getD m d 0) 0 e)
 
@@ -122,25 +129,22 @@ pub data Unmet (t m : List ℕ) (d : ℕ) : Type 0 where
 
 pub unmet-case : (t m : List ℕ) (d : ℕ) → Unmet t m d
 unmet-case t m d = elim (truth (live? t d)) [
-  | yes-false l ↦ no-start (unmet-dead t m d l)
+  | yes-false l ↦ no-start (unmet-none t m d l)
   | yes-true l ↦ elim (ℕ-discrete (getD m d 0) 0) [
     | yes e ↦ begins l (unmet-start t m d l e)
     | no e ↦ no-start (unmet-marked t m d e)
   ]
 ]
 
-edge-live : {t m : List ℕ} {d : ℕ} → LookReady t m d → edgeWord t (edgeOf d) ≢ 0 → live? t d ≡ true
+pub edge-live : {t m : List ℕ} {d : ℕ} → LookReady t m d → edgeWord t (edgeOf d) ≢ 0 → live? t d ≡ true
 edge-live {t} {m} {d} h e = yes-live t d (record { low = h .low; on = e })
-
-edge-dead : (t : List ℕ) (d : ℕ) → edgeWord t (edgeOf d) ≡ 0 → live? t d ≡ false
-edge-dead t d e = elim (live-case t d) [ holds l p ↦ absurd (p .on e) | fails l p ↦ l ]
 
 looked-none : (t : List ℕ) (d : ℕ) (m : List ℕ) → unmet t m d ≡ [] → Looked t d m (record { walks = 0; words = 0 }) m
 unfolding gather mark
 looked-none t d m e = record { walks = rw e; words = rw e; marks = rw e; few = omega arith; low = omega arith }
 
 pub looked-dead : (t : List ℕ) (d : ℕ) (m : List ℕ) → edgeWord t (edgeOf d) ≡ 0 → Looked t d m (record { walks = 0; words = 0 }) m
-looked-dead t d m e = looked-none t d m (unmet-dead t m d (edge-dead t d e))
+looked-dead t d m e = looked-none t d m (unmet-dead t m d e)
 
 pub looked-met : (t : List ℕ) (d : ℕ) (m : List ℕ) → getD m d 0 ≢ 0 → Looked t d m (record { walks = 0; words = 0 }) m
 looked-met t d m e = looked-none t d m (unmet-marked t m d e)

@@ -1,5 +1,6 @@
 -- How many of a step's letters are O and U: every other one.
 --     overs-positive, overs-negative    how many letters of a step are O, by hand, type and crossings
+--     overs-both                        each crossing is O from one of the two types on
 --     unders-left                       the letters that are not O are U
 --     crossings-most                    the crossings of a 16-bit edge word
 --     letters-few                       a step has at most 99 letters of either kind
@@ -63,6 +64,15 @@ module _ {w n kind : ℕ} (e : n ≡ crossings w) (h : kind < 2) where
     | is-zero z ↦ rw z (let r = halves n .negative-zero in omega arith)
     | is-one z ↦ rw z (let r = halves n .negative-one in omega arith)
   ])
+
+-- an edge's crossings are O from one of the two types on
+pub overs-both : (w : ℕ) → times over (lettersOn w 0) + times over (lettersOn w 1) ≡ crossings w
+unfolding lettersOn
+overs-both w = by (positive w) (crossings w)
+  where
+    by : (h : Bool) (n : ℕ) → times over (crossed h 0 n) + times over (crossed h 1 n) ≡ n
+    by true n = let r = halves n in let a = r .positive-zero in let b = r .positive-one in omega arith
+    by false n = let r = halves n in let a = r .negative-zero in let b = r .negative-one in omega arith
 
 -- the letters that are not O are U
 pub unders-left : (w kind : ℕ) {n o : ℕ} → n ≡ crossings w → o ≡ times over (lettersOn w kind) → kind < 2 → (o ≤ n) × (n - o ≡ times under (lettersOn w kind))

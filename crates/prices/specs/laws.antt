@@ -1,0 +1,4 @@
+pub mod Ribbons
+pub mod Rows
+pub mod Sense
+pub mod Call

@@ -21,7 +21,7 @@
 #define LACKING ""
 #endif
 
-enum { WORDS = PLANNER_TABLE_WORDS, OUT = 4096, LETTERS = 2048 * 99, PIECES = LETTERS + 1, ROUNDS = 21 };
+enum { WORDS = PLANNER_TABLE_WORDS, OUT = 4096, SHEET = PLANNER_ROW_WORDS * PLANNER_DARTS, LETTERS = 2048 * 99, PIECES = LETTERS + 1, ROUNDS = 21 };
 
 /* A table under test and what calls are lent beside it. Edits leave it as it was, two by two. One more to be filled, and one whose live names lie
    apart. Two with more turns on every edge and the same walks: those of a ropework shell, and as many as there can be. */
@@ -39,6 +39,7 @@ struct output {
     int32_t counts[OUT];
     uint8_t letters[LETTERS];
     float coords[3 * OUT];
+    uint32_t sheet[SHEET];
     int64_t forecasts[2];
     uint16_t kinds[PIECES];
     int32_t wholes[3 * PIECES];
@@ -104,6 +105,11 @@ static int64_t our_turned_path(void) { return our_whole(turned_table); }
 static int64_t their_turned_path(void) { return their_whole(turned_table); }
 
 CALL(cut_length, (table, WORDS, 0, 0), (table, WORDS, 0, 0))
+CALL(price_sheet, (table, WORDS, 180, 300, ours.sheet, SHEET), (table, WORDS, 180, 300, theirs.sheet, SHEET))
+
+/* The sheet of the table whose names lie apart. */
+static int64_t our_spread_sheet(void) { return planner_price_sheet(spread_table, WORDS, 180, 300, ours.sheet, SHEET); }
+static int64_t their_spread_sheet(void) { return plain_price_sheet(spread_table, WORDS, 180, 300, theirs.sheet, SHEET); }
 
 /* The answer of a step, and what it leaves, in one number; less than 0 if it was declined. */
 static int64_t stepped(int64_t ends, const struct planner_reader *reader, const struct planner_tally *tally) {
@@ -215,6 +221,8 @@ static const struct {
     {"planner_plain", our_plain, their_plain, 1, FEW},
     {"planner_letters", our_letters, their_letters, 1, FEW},
     {"planner_cut_length", our_cut_length, their_cut_length, 1, FEW},
+    {"planner_price_sheet", our_price_sheet, their_price_sheet, 1, FEW},
+    {"planner_price_sheet, 32 edges, each in another block", our_spread_sheet, their_spread_sheet, 1, FEW},
     {"planner_float_path", our_float_path, their_float_path, 1, FEW},
     {"planner_whole_path", our_whole_path, their_whole_path, 1, ALL},
     {"planner_whole_path, two or three turns an edge", our_rope_path, their_rope_path, 1, ALL},

@@ -26,6 +26,7 @@ int64_t plain_alternates(const uint16_t *t, size_t words, uint16_t dart, uint16_
 int64_t plain_plain(const uint16_t *t, size_t words);
 int64_t plain_letters(const uint16_t *t, size_t words, uint16_t dart, uint16_t type, uint8_t *out, size_t n);
 int64_t plain_cut_length(const uint16_t *t, size_t words, uint16_t dart, uint16_t type);
+int64_t plain_price_sheet(const uint16_t *t, size_t words, uint16_t p, uint16_t m, uint32_t *out, size_t n);
 int64_t plain_float_path(const uint16_t *t, size_t words, uint16_t dart, uint16_t type, const int32_t *points, size_t n_points,
                          const int32_t *lifts, size_t n_lifts, uint16_t *kinds, size_t n_kinds, float *coords, size_t n_coords);
 int64_t plain_whole_path(const uint16_t *t, size_t words, uint16_t dart, uint16_t type, const int32_t *points, size_t n_points,

@@ -1,8 +1,7 @@
 /*
  * A host to start from. It builds a small shell through the library and prints a line for each edit: how many faces there are
- * now, and why. Then it asks for the counts and prints the ribbon-lengths sheet, as CSV and as an aligned table: for each ribbon
- * its steps, overs, unders, whether it alternates, and what the saw takes, in millimetres: the strip along its sides, the
- * allowance for its overs, the lap, and their total, the cut length; then the totals of all ribbons. Last it makes ropework of
+ * now, and why. Then it asks for the counts and prints the price sheet, as CSV and as an aligned table: for each ribbon its cut
+ * length, the metres that it starts, how far the last of them is unused, and its price; then their sum. Last it makes ropework of
  * two strips and prints a ribbon's path over them, point by point. Build it with -I include and libplanner.a.
  */
 #include "planner.h"
@@ -10,13 +9,19 @@
 #include <stdio.h>
 #include <stdlib.h>
 
-enum { WORDS = PLANNER_TABLE_WORDS, LISTING = 4096, LETTERS = 2048 * 99, PIECES = LETTERS + 1 };
+enum { WORDS = PLANNER_TABLE_WORDS, LISTING = 4096, RIBBONS = PLANNER_DARTS, PIECES = PLANNER_DARTS * 99 + 1 };
 enum { POINTS = 3 * PLANNER_VERTICES, LIFTS = 3 * PLANNER_EDGES, FLOATS = 3 * (PLANNER_DARTS + 1) };
 #define LONE(v) (PLANNER_LONE_CORNER + (v))
 
+/* What the shop asks: for each metre that a ribbon starts, and for a ribbon at least. */
+enum { CENTS_A_METRE = 240, LEAST_CENTS = 500 };
+
 static uint16_t table[WORDS];
 static uint16_t listing[LISTING];
-static uint8_t letters[LETTERS];
+
+/* The price sheet: for each ribbon four words, in this order. There are no more ribbons than darts: each is listed from its own. */
+enum { LENGTH, METRES, UNUSED, PRICE, ROW };
+static uint32_t sheet[ROW * RIBBONS];
 
 /* A path: what is lent, in sixteenths of a millimetre, and what is written. */
 static int32_t points[POINTS], lifts[LIFTS];
@@ -35,6 +40,10 @@ static const struct {
     {9, 11, 2400.0}, {11, 13, 1800.5}, {13, 15, 2400.0}, {15, 16, 1800.5}, /* the eaves */
 };
 enum { POLES = 8, STRIPS = sizeof strips / sizeof strips[0] };
+
+/* A ring hangs in it: a strip with one turn, looped at a pole of its own. */
+enum { HOOK = POLES, RING = STRIPS };
+static const double ring_millimetres = 489.75;
 
 /* The answer of a call, or the end of the program: every call answers 0 or more, or minus the number of a refusal. */
 static int64_t ask(int64_t answer, const char *what) {
@@ -94,6 +103,8 @@ static void build(void) {
         const uint16_t length = length_of(strips[i].millimetres);
         print_edit("add strip", i, planner_insert_edge(table, WORDS, i, strips[i].first, strips[i].second, 1, length));
     }
+    print_edit("add pole", HOOK, planner_add_vertex(table, WORDS, HOOK));
+    print_edit("add strip", RING, planner_insert_edge(table, WORDS, RING, LONE(HOOK), LONE(HOOK), 1, length_of(ring_millimetres)));
     printf("\n");
 }
 
@@ -104,78 +115,45 @@ static void print_counts(void) {
            (int)counts[2], (int)counts[3], (int)counts[4], ask(planner_plain(table, WORDS), "plain") ? "plain" : "mixed");
 }
 
-/* Lengths in sixteenths of a millimetre. */
-struct row {
-    long steps, overs, unders, strip, allowance, lap, total;
-    int alternates;
-};
-
-/* The row of the ribbon of these steps, each 2*dart+type. The library answers the total; the host adds up the three parts
-   that the sheet shows, and ends if they are not the total. */
-static struct row row_of(const uint16_t *steps, long n_steps) {
-    const uint16_t dart = steps[0] / 2, type = steps[0] % 2;
-    struct row r = {0, 0, 0, 0, 0, 0, 0, 0};
-    long i, n_letters = (long)ask(planner_letters(table, WORDS, dart, type, letters, LETTERS), "letters");
-    r.steps = n_steps;
-    for (i = 0; i < n_letters; i++) {
-        r.overs += letters[i] == 'O';
-        r.unders += letters[i] == 'U';
-    }
-    for (i = 0; i < n_steps; i++) {
-        r.strip += table[PLANNER_LENGTH_AT + steps[i] / 4]; /* dart d is on edge d/2 */
-    }
-    r.allowance = PLANNER_OVER_ALLOWANCE * r.overs;
-    r.lap = PLANNER_LAP;
-    r.total = (long)ask(planner_cut_length(table, WORDS, dart, type), "cut length");
-    if (r.strip + r.allowance + r.lap != r.total) {
-        fprintf(stderr, "ribbon of dart %d: strip %ld, over-allowance %ld and lap %ld do not add up to %ld\n", (int)dart, r.strip,
-                r.allowance, r.lap, r.total);
-        exit(1);
-    }
-    r.alternates = (int)ask(planner_alternates(table, WORDS, dart, type), "alternates");
-    return r;
-}
-
 /* Whole millimetres, and sixteenths as four decimals: nothing is rounded. */
-static const char *millimetres(long sixteenths, char *text, size_t size) {
-    snprintf(text, size, "%ld.%04ld", sixteenths / 16, sixteenths % 16 * 625);
+static const char *millimetres(uint32_t sixteenths, char *text, size_t size) {
+    snprintf(text, size, "%lu.%04lu", (unsigned long)(sixteenths / 16), (unsigned long)(sixteenths % 16 * 625));
     return text;
 }
 
-static void print_row(const char *format, const char *name, struct row r) {
-    char texts[4][32];
-    const char *strip = millimetres(r.strip, texts[0], sizeof texts[0]);
-    const char *allowance = millimetres(r.allowance, texts[1], sizeof texts[1]);
-    const char *lap = millimetres(r.lap, texts[2], sizeof texts[2]);
-    const char *total = millimetres(r.total, texts[3], sizeof texts[3]);
-    printf(format, name, r.steps, r.overs, r.unders, r.alternates ? "yes" : "no", strip, allowance, lap, total);
+/* A ribbon is a walk with steps, so every listed walk but those of the isolated poles. */
+static int count_ribbons(void) {
+    int32_t counts[5];
+    int v, ribbons;
+    ask(planner_counts(table, WORDS, counts, 5), "counts");
+    ribbons = (int)counts[2];
+    for (v = 0; v < PLANNER_VERTICES; v++) {
+        ribbons -= table[PLANNER_VERTEX_AT + v] == PLANNER_ISOLATED;
+    }
+    return ribbons;
 }
 
-/* The sheet, a line for each listed walk that has steps, then the totals. */
-static void print_sheet(const char *format) {
-    struct row total = {0, 0, 0, 0, 0, 0, 0, 1};
-    long at = 0, ribbon = 0, n = (long)ask(planner_listing(table, WORDS, listing, LISTING), "listing");
-    while (at < n) {
-        long steps = listing[at++];
-        if (steps == 0) { /* an isolated pole: one word names it */
-            at++;
-            continue;
-        }
-        struct row r = row_of(listing + at, steps);
-        char name[16];
-        snprintf(name, sizeof name, "%ld", ribbon++);
-        print_row(format, name, r);
-        total.steps += r.steps;
-        total.overs += r.overs;
-        total.unders += r.unders;
-        total.strip += r.strip;
-        total.allowance += r.allowance;
-        total.lap += r.lap;
-        total.total += r.total;
-        total.alternates &= r.alternates;
-        at += steps;
+static void print_rows(const char *format, int ribbons) {
+    char length[32], unused[32];
+    int i;
+    for (i = 0; i < ribbons; i++) {
+        const uint32_t *row = sheet + ROW * i;
+        printf(format, i, millimetres(row[LENGTH], length, sizeof length), (unsigned long)row[METRES],
+               millimetres(row[UNUSED], unused, sizeof unused), (unsigned long)row[PRICE]);
     }
-    print_row(format, "total", total);
+}
+
+/* One call fills the sheet, a row for each ribbon in the order of the listing, and answers the sum of the prices. It is lent as much
+   as the ribbons need; a host that counted too few of them would be declined. */
+static void print_sheet(void) {
+    const int ribbons = count_ribbons();
+    const int64_t sum = ask(planner_price_sheet(table, WORDS, CENTS_A_METRE, LEAST_CENTS, sheet, ROW * ribbons), "price sheet");
+    printf("ribbon,length mm,metres,unused mm,cents\n");
+    print_rows("%d,%s,%lu,%s,%lu\n", ribbons);
+    printf("sum,,,,%lld\n\n", (long long)sum);
+    printf("%-8s%12s%8s%12s%8s\n", "ribbon", "length mm", "metres", "unused mm", "cents");
+    print_rows("%-8d%12s%8lu%12s%8lu\n", ribbons);
+    printf("%-8s%40lld\n", "sum", (long long)sum);
 }
 
 /* Where the poles stand, and how far a ribbon is lifted where it crosses: 10 mm, across a post and upward elsewhere. */
@@ -241,11 +219,7 @@ static void rope(void) {
 int main(void) {
     build();
     print_counts();
-    printf("ribbon,steps,overs,unders,alternates,strip mm,over-allowance mm,lap mm,total mm\n");
-    print_sheet("%s,%ld,%ld,%ld,%s,%s,%s,%s,%s\n");
-    printf("\n%-8s%6s%7s%8s%12s%12s%19s%9s%12s\n", "ribbon", "steps", "overs", "unders", "alternates", "strip mm",
-           "over-allowance mm", "lap mm", "total mm");
-    print_sheet("%-8s%6ld%7ld%8ld%12s%12s%19s%9s%12s\n");
+    print_sheet();
     rope();
     return 0;
 }

@@ -8,7 +8,7 @@
 //! From the bottom upward: `table` (the words), `check` (good or torn), `trace` (step and walk), `faces` (the listed
 //! walks, corners and sides), `listing` (their words), `rule` and `edit` (the five edits), `forecast` (ask and commit), `run`
 //! (runs of them), `counts` (parts, Euler numbers), `weave` (over and under), `length`, `path`, `whole` and `reader` (one
-//! ribbon), `job` (the program), `trial_job` (a job from two numbers).
+//! ribbon), `price` (what the ribbons cost), `job` (the program), `trial_job` (a job from two numbers).
 //! `trial` makes tables, edits and damage from a seed, for tests.
 
 pub mod check;
@@ -20,6 +20,7 @@ pub mod job;
 pub mod length;
 pub mod listing;
 pub mod path;
+pub mod price;
 pub mod reader;
 pub mod refusal;
 pub mod rule;

@@ -138,6 +138,26 @@ static void try_dart_and_type(void) {
           "whole path: dart and type");
 }
 
+/* p and m, and the four words of a ribbon. The mesh of the two ribbons above, with lengths of 5,000, 11,000 and 20,000. From (0, 0): type 1,
+   before 1 is 3; (3, 1): type 0, next after 2 is 0. So the ribbon over edges 0 and 1 alone is listed first, with one O: 16,328, two metres less
+   15,672. The other one has three O's: 56,344, four metres less 7,656.
+   150 cents a metre and 400 at least: 400 and 600. 400 a metre and 150 at least: 800 and 1,600. */
+static void try_the_price_sheet(void) {
+    static const uint32_t rows[] = {16328, 2, 15672, 400, 56344, 4, 7656, 600, 77};
+    static const uint32_t exchanged[] = {16328, 2, 15672, 800, 56344, 4, 7656, 1600, 77};
+    uint32_t out[9];
+    out[8] = 77;
+    check(begin(0, 1) && insert(0, LONE, LONE, 1, 5000) == 2 + B2 && insert(1, 0, 1, 1, 11000) == 3 + B1 && insert(2, 2, LONE + 1, -2, 20000) == 2 + A,
+          "two ribbons of more than a metre");
+    check(planner_price_sheet(table, WORDS, 150, 400, out, 9) == 1000 && memcmp(out, rows, sizeof rows) == 0,
+          "length, metres, unused and price of each ribbon, and the sum");
+    check(planner_price_sheet(table, WORDS, 400, 150, out, 9) == 2400 && memcmp(out, exchanged, sizeof exchanged) == 0, "p and m");
+    memset(out, 0xa5, sizeof out);
+    check(planner_price_sheet(table, WORDS, 400, 150, out, 7) == -PLANNER_SHORT_SLICE && out[0] == 0xa5a5a5a5u &&
+              memcmp(out, out + 1, sizeof out - sizeof out[0]) == 0,
+          "seven words are too short for them, and stay");
+}
+
 /* A chain of edge 0 with one turn from vertex 0 to 1, edge 1 with none to 2, edge 2 with turns -1 to 3; their lengths are 100, 1,000 and
    10,000. Around vertex 1 stand 1 and 2, around vertex 2 stand 3 and 4. The walk from (0, 0), and its letters:
    (0, 0) type 1, before 1 is 2: O. (2, 1) before 3 is 4. (4, 1) type 0, next after 5 is 5: with negative turns O. (5, 0) type 1, before 4 is 3: U.
@@ -375,6 +395,7 @@ int main(void) {
     try_the_forecasts();
     try_the_counts();
     try_dart_and_type();
+    try_the_price_sheet();
     try_points_and_lifts();
     try_the_whole_path();
     try_the_reader();

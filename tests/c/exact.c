@@ -179,6 +179,12 @@ static int64_t cut_length(uint16_t dart, uint16_t type) {
     return back(planner_cut_length(t, words, dart, type), 1);
 }
 
+static int64_t price_sheet(uint16_t p, uint16_t m, size_t n) {
+    uint16_t *t = lend_mesh();
+    uint32_t *out = (uint32_t *)lend_output(n * sizeof *out);
+    return back(planner_price_sheet(t, words, p, m, out, n), 1);
+}
+
 static int64_t float_path(uint16_t dart, uint16_t type, size_t n_kinds, size_t n_coords) {
     uint16_t *t = lend_mesh();
     int32_t *p = (int32_t *)lend(points, n_points * sizeof *p);
@@ -237,7 +243,7 @@ static int64_t job_record(uint16_t mark, size_t n) {
 static int all_torn(void) {
     int torn = checked() == -1 && listing(0) == -1 && counts(0) == -1 && parts(0) == -1 && plain() == -1;
     torn = torn && alternates(65535, 65535) == -1 && letters(0, 0, 0) == -1 && cut_length(0, 0) == -1 && float_path(0, 0, 0, 0) == -1;
-    torn = torn && whole_path(0, 0, 0, 0, 0) == -1;
+    torn = torn && whole_path(0, 0, 0, 0, 0) == -1 && price_sheet(0, 0, 0) == -1 && price_sheet(65535, 65535, 4) == -1;
     torn = torn && step_at(0, 0) == -1 && add(65535) == -1 && removal(0) == -1 && insert(0, 0, 0, 0, 0) == -1 && deletion(0) == -1;
     torn = torn && ask_insert(0, 0, 0, 0, 0) == -1 && ask_deletion(0) == -1 && ask_turn(0, 0) == -1;
     torn = torn && commit_insert(0, 0, 0, 0, 0, 0) == -1 && commit_deletion(0, 2 * BEFORE) == -1 && commit_turn(0, 0, -1) == -1;
@@ -340,6 +346,18 @@ static void try_the_names(void) {
 static void try_the_lengths(void) {
     const int64_t length = 2 * 300 + 2 * 65535 + 8 + 320;
     check(cut_length(0, 0) == length && cut_length(2046, 1) == length, "a cut length");
+}
+
+/* The ribbon's 131,998 sixteenths are nine metres less 12,002: four words. */
+static void try_the_price_sheet(void) {
+    check(price_sheet(1, 0, 4) == 9 && price_sheet(65535, 65535, 4) == 589815 && price_sheet(0, 65535, 5) == 65535, "a price sheet");
+    check(price_sheet(1, 0, 3) == -7 && price_sheet(65535, 65535, 1) == -7 && price_sheet(0, 0, 0) == -7, "one word too few: 7");
+}
+
+/* Isolated vertices have no row. */
+static void try_no_ribbons(void) {
+    check(empty() == 0 && price_sheet(65535, 65535, 0) == 0 && price_sheet(65535, 65535, 4) == 0, "a price sheet of the empty mesh");
+    check(add(0) == 1 && add(511) == 2 && price_sheet(65535, 65535, 0) == 0 && price_sheet(65535, 65535, 4) == 0, "and of isolated vertices");
 }
 
 /* Four steps and Close: five kinds and fifteen floats. */
@@ -490,11 +508,13 @@ int main(int argc, char **argv) {
     try_the_outputs();
     try_the_names();
     try_the_lengths();
+    try_the_price_sheet();
     try_the_path();
     try_the_whole_path();
     try_the_reader();
     try_the_trial_job();
     try_the_job_record();
     try_the_torn();
+    try_no_ribbons();
     return verdict();
 }

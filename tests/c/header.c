@@ -148,6 +148,20 @@ static void try_the_lengths(void) {
     check(PLANNER_OVER_ALLOWANCE == 8 && PLANNER_LAP == 320 && PLANNER_LAP == 16 * 20, "8 for each O, 320 for the lap");
 }
 
+/* Document 02: "the started metre (16,000 sixteenths)", "The four numbers of a ribbon". The edge's ribbon is 2 + 8 + 320 long. */
+static void try_the_price_sheet(void) {
+    uint32_t out[PLANNER_ROW_WORDS + 1];
+    check(PLANNER_METRE == 16000 && PLANNER_METRE == 16 * 1000 && PLANNER_ROW_WORDS == 4, "a metre, and four words a ribbon");
+    check(planner_empty(table, WORDS) == 0 && planner_price_sheet(table, WORDS, 65535, 65535, NULL, 0) == 0, "no ribbons cost nothing, in no words");
+    write_an_edge();
+    out[PLANNER_ROW_WORDS] = GUARD;
+    check(planner_price_sheet(table, WORDS, 65535, 65534, out, PLANNER_ROW_WORDS + 1) == 65535, "one metre at 65,535 cents");
+    check(out[0] == 330 && out[1] == 1 && out[2] == PLANNER_METRE - 330 && out[3] == 65535 && out[4] == GUARD, "its row, and no word more");
+    check(planner_price_sheet(table, WORDS, 1, 1, NULL, 0) == -PLANNER_SHORT_SLICE &&
+              planner_price_sheet(table, WORDS - 1, 1, 1, NULL, 0) == -PLANNER_TORN,
+          "no words are short, and a torn table is declined before");
+}
+
 /* Document 02: "13, N above 1,024; otherwise 7 for an output shorter than 32 + 10N bytes". */
 static void try_the_trial_job(void) {
     static uint8_t out[PLANNER_TRIAL_BYTES(PLANNER_EDGES) + 1];
@@ -201,6 +215,7 @@ int main(void) {
     try_the_rules();
     try_the_forecasts();
     try_the_lengths();
+    try_the_price_sheet();
     try_the_trial_job();
     try_the_job_record();
     return verdict();

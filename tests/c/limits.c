@@ -37,7 +37,7 @@ static void *lend(size_t bytes) {
 }
 
 static uint16_t *table;
-static int64_t answers[36];
+static int64_t answers[38];
 
 /* The largest length of an edge. */
 enum { LONGEST = 65535 };
@@ -87,6 +87,7 @@ static uint16_t *listing, *kinds, *remainders;
 static struct planner_reader *reader;
 static struct planner_tally *tally;
 static int32_t *counts, *parts, *points, *lifts, *wholes;
+static uint32_t *sheet;
 static uint8_t *letters, *trial, *record;
 static float *coords;
 static size_t steps, words;
@@ -103,6 +104,7 @@ static void calls_that_read(void) {
     answers[8] = planner_float_path(table, WORDS, 0, 0, points, 3 * VERTICES, lifts, 3 * EDGES, kinds, steps + 1, coords, 3 * (steps + 1));
     answers[24] = planner_whole_path(table, WORDS, 0, 0, points, 3 * VERTICES, lifts, 3 * EDGES, kinds, steps + 1, wholes, 3 * (steps + 1),
                                      remainders, 3 * (steps + 1));
+    answers[36] = planner_price_sheet(table, WORDS, 65535, 65535, sheet, PLANNER_ROW_WORDS);
 }
 
 /* The largest trial job. */
@@ -142,7 +144,7 @@ static void read_the_longest_path(void) {
     answers[25] = planner_whole_path(table, WORDS, 0, 0, points, 3 * VERTICES, lifts, 3 * EDGES, kinds, MOST, wholes, 3 * MOST, remainders, 3 * MOST);
 }
 
-/* Every edge by an even number, so that the walks stay. */
+/* Every edge. By an even number the walks stay. */
 static int turn_all(int16_t amount) {
     uint16_t e;
     int fine = 1;
@@ -177,6 +179,23 @@ static void try_the_longest_path(void) {
     check(turn_all(-98), "and one turn again");
 }
 
+/* Without turns the chain has one ribbon, and each of the 513 loops beside it one more. */
+enum { RIBBONS = 1 + EDGES - (VERTICES - 1) };
+
+static void price_many_ribbons(void) {
+    answers[37] = planner_price_sheet(table, WORDS, 1, 1, sheet, PLANNER_ROW_WORDS * RIBBONS);
+}
+
+/* The first ribbon goes over both sides of the chain and one of each loop, 1,535 steps; each other one over the other side of a loop. */
+static void try_many_ribbons(void) {
+    sheet = (uint32_t *)lend(PLANNER_ROW_WORDS * RIBBONS * sizeof *sheet);
+    check(turn_all(-1), "no turns");
+    on_small_stack(price_many_ribbons);
+    check(answers[37] == 6288 + 513 * 5 && RIBBONS == 514, "the prices of 514 ribbons");
+    check(sheet[0] == 1535 * 65535 + 320 && sheet[4] == 65535 + 320 && sheet[4 * 513 + 3] == 5, "the first row, the second and the last");
+    check(turn_all(1), "and one turn again");
+}
+
 /* An edit asked for and committed, three times; the last commit again, which finds the table changed. */
 static void calls_that_forecast(void) {
     answers[17] = planner_ask_turn_edge(table, WORDS, EDGES - 1, -1);
@@ -207,6 +226,7 @@ static void measure(void) {
     listing = (uint16_t *)lend(words * sizeof *listing);
     counts = (int32_t *)lend(5 * sizeof *counts);
     parts = (int32_t *)lend(6 * sizeof *parts);
+    sheet = (uint32_t *)lend(PLANNER_ROW_WORDS * sizeof *sheet);
     letters = (uint8_t *)lend(steps);
     trial = (uint8_t *)lend(TRIAL);
     record = (uint8_t *)lend(PLANNER_RECORD_BYTES);
@@ -231,7 +251,12 @@ int main(void) {
     check(answers[0] == 0 && answers[1] == (int64_t)words && answers[2] == 5 && answers[3] == 6, "the listing, the counts, the part");
     check(answers[4] == 1 && answers[5] == 1 && answers[6] == (int64_t)steps, "one hand: the ribbons alternate");
     check(steps == 2048 && answers[7] == length && answers[8] == 2049 && answers[24] == 2049, "a cut length, a float path and a whole path");
+    /* 134,224,192 sixteenths are 8,389 metres and 192 more. */
+    check(length == 134224192 && answers[36] == 8390 * (int64_t)65535 && sheet[0] == length && sheet[1] == 8390 && sheet[2] == 15808 &&
+              sheet[3] == answers[36],
+          "a price sheet");
     try_the_longest_path();
+    try_many_ribbons();
     on_small_stack(make_a_trial_job);
     /* Its last record is that of edge 1,023. */
     check(answers[26] == 10272 && trial[TRIAL - 10] == 'I' && trial[TRIAL - 8] == 3 && trial[TRIAL - 7] == 255, "a trial job of 1,024 edges");

@@ -55,6 +55,14 @@ mod c {
             out_bytes: usize,
         ) -> i64;
         pub fn planner_cut_length(table: *const u16, words: usize, dart: u16, kind: u16) -> i64;
+        pub fn planner_price_sheet(
+            table: *const u16,
+            words: usize,
+            p: u16,
+            m: u16,
+            out: *mut u32,
+            out_words: usize,
+        ) -> i64;
         pub fn planner_float_path(
             table: *const u16,
             words: usize,
@@ -232,6 +240,15 @@ pub fn letters(table: &[u16], dart: u16, kind: u16, out: &mut [u8]) -> i64 {
 
 pub fn cut_length(table: &[u16], dart: u16, kind: u16) -> i64 {
     unsafe { c::planner_cut_length(table.as_ptr(), table.len(), dart, kind) }
+}
+
+pub fn price_sheet(table: &[u16], (p, m): (u16, u16), out: &mut [u32]) -> i64 {
+    unsafe { c::planner_price_sheet(table.as_ptr(), table.len(), p, m, out.as_mut_ptr(), out.len()) }
+}
+
+/// The price sheet into an output of no words whose pointer is null.
+pub fn price_sheet_to_null(table: &[u16], (p, m): (u16, u16)) -> i64 {
+    unsafe { c::planner_price_sheet(table.as_ptr(), table.len(), p, m, std::ptr::null_mut(), 0) }
 }
 
 /// The float path of the ribbon through the step, into two outputs.

@@ -10,6 +10,7 @@ use reference::counts::counts;
 use reference::edit::Edit;
 use reference::faces::Faces;
 use reference::listing::words;
+use reference::price::price_sheet;
 use reference::table::*;
 use reference::trial::random::Random;
 use reference::trial::tables::random_length;
@@ -18,7 +19,7 @@ use reference::weave::plain;
 const GUARD: u16 = 0xa5c3;
 const LIES: [Lie; 2] = [Lie::Loops, Lie::Anywhere];
 
-/// Check, listing, counts, parts, and whether the weave is plain, of a good table.
+/// Check, listing, counts, parts, whether the weave is plain, and the price sheet, of a good table.
 fn compare(table: &[u16]) {
     assert_eq!(check(table), Ok(()));
     assert_eq!(planner::check(table), 0);
@@ -27,6 +28,10 @@ fn compare(table: &[u16]) {
     assert_eq!(planner::listing(table, &mut out), as_number(Ok(listing.len())));
     assert_eq!(out.split_last(), Some((&GUARD, &listing[..])));
     assert_eq!(planner::plain(table), as_number(plain(table).map(usize::from)));
+    let (mut sheet, mut expected) = (vec![u32::MAX; 8_192], vec![u32::MAX; 8_192]);
+    let sum = price_sheet(table, 180, 300, &mut expected);
+    assert_eq!(planner::price_sheet(table, (180, 300), &mut sheet), as_number(sum.map(|sum| sum as usize)));
+    assert_eq!(sheet, expected);
     let counts = counts(table).unwrap();
     for (call, expected) in
         [(planner::counts as fn(&[u16], &mut [i32]) -> i64, as_counts(&counts)), (planner::parts, as_parts(&counts))]

@@ -35,7 +35,7 @@ impl Beside {
 
 type Call = fn(&mut [u16], Beside) -> i64;
 
-const CALLS: [(&str, Call); 23] = [
+const CALLS: [(&str, Call); 24] = [
     ("empty", |table, _| planner::empty(table)),
     ("check", |table, _| planner::check(table)),
     ("listing", |table, beside| kept(beside, 0_u16, |out| planner::listing(table, out))),
@@ -58,6 +58,7 @@ const CALLS: [(&str, Call); 23] = [
         kept(beside, 7_u8, |out| planner::letters(table, beside.pick(0, 2_048), beside.pick(0, 2), out))
     }),
     ("cut_length", |table, beside| planner::cut_length(table, beside.pick(0, 2_048), beside.pick(0, 2))),
+    ("price_sheet", |table, beside| kept(beside, 7_u32, |out| planner::price_sheet(table, (180, 300), out))),
     ("float_path", float_path),
     ("whole_path", whole_path),
     ("walk_step", walk_step),

@@ -1,26 +1,25 @@
+-- `planner::planner_price_sheet` meets its contract. Writes four words for each ribbon, and answers the sum of the prices.
+use Rattle.prices.specs.laws.Call.{quote-payable}
+use Rattle.prices.specs.Sheet.{quoteCode}
+use Rattle.table.specs.laws.Answers.{handed-on}
+use mathlib.Core.Path.{_∙_, ap}
+use native.Mathlib.Omega.{arith}
 use borrow.Author.Needs.{needs}
 use Rattle.planner.proofs.planner_price_sheet.Statement.{statement}
 use Rattle.planner.proofs.planner_price_sheet.Tie as tie
-use Rattle.planner.proofs.planner_price_sheet.Reads as reads
-use Rattle.planner.proofs.planner_price_sheet.Lts as lts
-use Rattle.prices.proofs.call.price_sheet.Reads as price-sheet-reads
-use Rattle.prices.proofs.quote.quote_code.Reads as quote-code-reads
 
--- src/lib.rt:232:16
 price-sheet-requires : tie.Need-price-sheet-requires
 price-sheet-requires c κs = search needs
 
--- src/lib.rt:232:5
 quote-code-requires : tie.Need-quote-code-requires
-quote-code-requires c κs = ?
+quote-code-requires c κs = quote-payable _ _ _ _ (omega arith) (omega arith) (c .before .before .price-sheet .ensures .0)
 
--- src/lib.rt:228:1
 same-length : tie.Need-same-length
 same-length c = search needs
 
--- src/lib.rt:228:1
 returns : tie.Need-returns
-returns c = ?
+returns c = let sheet = c .before .before .before .price-sheet in
+    (handed-on (c .quote-code .ok) (c .quote-code .ensures ∙ ap quoteCode (sheet .ensures .0)), sheet .ensures .1)
 
 pub planner-price-sheet-spec : {M : Type 1} → statement M
 planner-price-sheet-spec =

@@ -9,7 +9,8 @@ use lib.Dec.{eqb}
 use Rattle.table.specs.Layout.{edges}
 use Rattle.table.specs.Rotation.{Rotation}
 use Rattle.orbits.specs.Count.{count}
-use Rattle.surface.specs.Links.{Spot, spot, links, liveEdges}
+use Rattle.tracing.specs.Met.{liveEdges}
+use Rattle.surface.specs.Links.{Spot, spot, links}
 
 -- is the vertex labelled r
 abbrev pub labelled : (ℕ → Spot) → ℕ → ℕ → Bool

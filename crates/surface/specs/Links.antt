@@ -2,12 +2,11 @@
 -- from itself to the label of its part. Two vertices have one label exactly if a chain joins them, and the label is the smallest of them.
 --     Link, Spot, spot     a link; where a vertex has come to, and its mark there
 --     links                one link for each edge of a list
-use Prim.Native.Nat.{ℕ, zero, suc, _+_, _*_, _%_, min, max}
+use Prim.Native.Nat.{ℕ, _+_, _*_, _%_, min, max}
 use mathlib.Core.Bool.{true, false}
-use mathlib.Core.List.{List, [], _∷_, _++_}
+use mathlib.Core.List.{List, [], _∷_}
 use lib.Dec.{eqb}
 use Rattle.table.specs.Rotation.{Rotation}
-use Rattle.tracing.specs.Listing.{only}
 
 -- the vertices labelled `high` get the label `low`, and `shift` is added to their marks
 pub record Link : Type 0 where
@@ -35,11 +34,6 @@ joinedBy R e a b = record { high = max (a .label) (b .label); low = min (a .labe
 unfoldable pub links : Rotation → List ℕ → List Link
 links R [] = []
 links R (e ∷ es) = let ks = links R es in joinedBy R e (spot ks (R .from (2 * e))) (spot ks (R .from (2 * e + 1))) ∷ ks
-
--- the live edges below n, upward
-unfoldable pub liveEdges : Rotation → ℕ → List ℕ
-liveEdges R zero = []
-liveEdges R (suc e) = liveEdges R e ++ only (R .live (2 * e)) e
 
 -- at the beginning each vertex is its own label
 abbrev pub own : ℕ → Spot

@@ -17,11 +17,13 @@ const HEADER: &str = "include/planner.h";
 const EXPORTS: &str = "crates/planner/src/lib.rt";
 
 /// Numbers of the header, each with the source and the constant that it is.
-const NUMBERS: [(&str, &str, &str); 10] = [
+const NUMBERS: [(&str, &str, &str); 12] = [
     ("PLANNER_TABLE_WORDS", "crates/table/src/layout.rt", "WORDS"),
     ("PLANNER_LENGTH_AT", "crates/table/src/layout.rt", "LENGTH"),
     ("PLANNER_OVER_ALLOWANCE", "crates/lengths/src/length.rt", "OVER_ALLOWANCE"),
     ("PLANNER_LAP", "crates/lengths/src/length.rt", "LAP"),
+    ("PLANNER_METRE", "crates/prices/src/rows.rt", "METRE"),
+    ("PLANNER_ROW_WORDS", "crates/prices/src/rows.rt", "ROW"),
     ("PLANNER_MARK_AV", "crates/records/src/records.rt", "MARK_AV"),
     ("PLANNER_MARK_RV", "crates/records/src/records.rt", "MARK_RV"),
     ("PLANNER_MARK_IE", "crates/records/src/records.rt", "MARK_IE"),

@@ -4,7 +4,7 @@
 use crate::tree::Tree;
 
 /// The public operations: documents 01 and 02 name what each of them declines, and that is all they decline.
-const OPERATIONS: [(&str, &[&str]); 20] = [
+const OPERATIONS: [(&str, &[&str]); 21] = [
     ("table/src/empty.rt", &["empty"]),
     ("check_table/src/whole.rt", &["check"]),
     ("check_counted/src/whole.rt", &["counted_check"]),
@@ -18,6 +18,7 @@ const OPERATIONS: [(&str, &[&str]); 20] = [
     ("weave_letters/src/call.rt", &["letters"]),
     ("weave_plain/src/call.rt", &["alternates", "plain"]),
     ("lengths/src/length.rt", &["cut_length"]),
+    ("prices/src/call.rt", &["price_sheet"]),
     ("floatpath/src/path.rt", &["float_path"]),
     ("wholepath/src/path.rt", &["whole_path"]),
     ("reader/src/place.rt", &["begin"]),

@@ -12,11 +12,14 @@ const LAYOUT: &str = "crates/table/src/layout.rt";
 
 const RECORDS: &str = "crates/records/src/records.rt";
 
-const FILES: [(&str, &str); 6] = [
+const ROWS: &str = "crates/prices/src/rows.rt";
+
+const FILES: [(&str, &str); 7] = [
     (
         HEADER,
         "/* int64_t planner_no(int x); */\n#include <stdint.h>\n#ifdef __cplusplus\nextern \"C\" {\n#endif\n#define A 1\n#define B(x) \\\n    (x)\n\
          /* #define PLANNER_LAP 5 */\n#define PLANNER_OVER_ALLOWANCE 8 /* each */\n#define PLANNER_LAP 320\n\
+         #define PLANNER_METRE 16000 /* started */\n#define PLANNER_ROW_WORDS 4\n\
          #define PLANNER_TABLE_WORDS 8704\n#define PLANNER_LENGTH_AT 7680 /* for each edge */\n\
          #define PLANNER_MARK_AV 0x4156\n#define PLANNER_MARK_RV 0x5256\n#define PLANNER_MARK_IE 0x4945\n\
          #define PLANNER_MARK_IL 0x494C\n#define PLANNER_MARK_DE 0x4445\n#define PLANNER_MARK_TW 0x5457\n\
@@ -42,6 +45,7 @@ const FILES: [(&str, &str); 6] = [
         LENGTH,
         "// pub const LAP: u32 = 5;\npub const OVER_ALLOWANCE: u32 = 8;\n\n// once\npub const LAP: u32 = 320; // sixteenths\n",
     ),
+    (ROWS, "pub const METRE: u32 = 16000;\n\npub const ROW: usize = 4;\n"),
     (
         RECORDS,
         "pub const MARK_AV: u16 = 0x4156;\npub const MARK_RV: u16 = 0x5256;\npub const MARK_IE: u16 = 0x4945;\n\
@@ -239,6 +243,13 @@ fn numbers() {
         "OVER_ALLOWANCE: u32 = 8",
         "OVER_ALLOWANCE: u32 = 16",
         &["PLANNER_OVER_ALLOWANCE is 8, OVER_ALLOWANCE of crates/lengths/src/length.rt is 16"],
+    );
+    TRIAL.after(
+        "metre",
+        ROWS,
+        "METRE: u32 = 16000",
+        "METRE: u32 = 1000",
+        &["PLANNER_METRE is 16000, METRE of crates/prices/src/rows.rt is 1000"],
     );
     TRIAL.after(
         "table",

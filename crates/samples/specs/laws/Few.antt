@@ -26,13 +26,13 @@ use Rattle.tracing.specs.Sides.{keep, sidesBy, sidesOf}
 use Rattle.tracing.specs.declared.meeting.Meeting.{Meeting}
 use Rattle.tracing.specs.declared.meeting.Sides.{Sides}
 use Rattle.tracing.specs.laws.Listing.{starts-suc, fresh-dead, alones-suc, lone-no}
-use Rattle.surface.specs.Links.{Spot, spot, links, liveEdges}
+use Rattle.surface.specs.Links.{Spot, spot, links}
 use Rattle.surface.specs.Labels.{twisted, untwisted, spots, label, orientable}
 use Rattle.surface.specs.Counts.{vertexCount}
 use Rattle.surface.specs.Parts.{root?, partsBelow, parts}
 use Rattle.surface.specs.Signed.{eulerOf, meshEuler}
 use Rattle.samples.specs.Samples.{walkLengths}
-use Rattle.tracing.specs.Met.{edgeCount, listedSteps, onEdge}
+use Rattle.tracing.specs.Met.{edgeCount, listedSteps, liveEdges, onEdge}
 
 pub record Few (R : Rotation) (m n : ℕ) : Type 0 where
   pub edges-room : m ≤ edges

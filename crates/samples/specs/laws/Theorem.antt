@@ -15,7 +15,8 @@ use Rattle.tracing.specs.Listing.{has, gather, fresh, starts, lone, alones}
 use Rattle.tracing.specs.Corner.{wellFormed, present, faceAmong, typeAmong}
 use Rattle.tracing.specs.Sides.{keep, sidesBy}
 use Rattle.edits.specs.Turns.{turnsIn}
-use Rattle.surface.specs.Links.{spot, links, joinedBy, moved, liveEdges}
+use Rattle.surface.specs.Links.{spot, links, joinedBy, moved}
+use Rattle.tracing.specs.Met.{liveEdges}
 use Rattle.surface.specs.Labels.{twisted, agrees}
 use Rattle.surface.specs.Signed.{eulerOf}
 use Rattle.weave.specs.Letters.{crossings, letter, crossed, lettersOn, neighboursDiffer, alternating, every}

@@ -18,14 +18,15 @@ use borrow.Author.Tests.{eq-eqb, ne-eqb}
 use Rattle.table.specs.Layout.{edges, rev}
 use Rattle.table.specs.Rotation.{Rotation, Lawful}
 use Rattle.tracing.specs.Listing.{has, only}
+use Rattle.tracing.specs.Met.{liveEdges}
+use Rattle.tracing.specs.laws.EdgeTotals.{listed-edge}
 use Rattle.tracing.specs.laws.Listing.{has-here}
-use Rattle.tracing.specs.laws.Has.{has-empty, has-cons, here, later, has-tail, has-head, has-parts, has-left, has-right, left, right}
-use Rattle.orbits.specs.laws.Truth.{Truth, truth, holds, fails}
+use Rattle.tracing.specs.laws.Has.{has-empty, has-cons, here, later, has-tail, has-head, has-left, has-right}
 use Rattle.tracing.specs.laws.Step.{type?, is-zero, is-one}
 use Rattle.surgery.specs.laws.PlacesIn.{EndsTogether}
 use Rattle.surface.specs.Chain.{Chain}
 use Rattle.surface.specs.laws.Chain.{chain-trans, chain-sym, chain-edge, Fits}
-use Rattle.surface.specs.Links.{Link, Spot, moved, spot, joinedBy, links, liveEdges, own}
+use Rattle.surface.specs.Links.{Link, Spot, moved, spot, joinedBy, links, own}
 
 -- marks that agree with each edge of the part of w
 pub record FitsAt (R : Rotation) (w : ℕ) (m : ℕ → ℕ) : Type 0 where
@@ -176,21 +177,6 @@ edge-listed R (suc n) e h l = elim (ℕ-discrete e n) [
   | no q ↦ has-left e (liveEdges R n) (only (R .live (2 * n)) n) (edge-listed R n e (omega arith) l)
 ]
 
-listed-live : (R : Rotation) (n e : ℕ) → has e (liveEdges R n) ≡ true → R .live (2 * e) ≡ true
-unfolding liveEdges
-listed-live R zero e h = absurd (has-empty e h)
-listed-live R (suc n) e h = elim (has-parts e (liveEdges R n) (only (R .live (2 * n)) n) h) [
-  | left t ↦ listed-live R n e t
-  | right t ↦ by (truth (R .live (2 * n))) t
-]
-  where
-    by : Truth (R .live (2 * n)) → has e (only (R .live (2 * n)) n) ≡ true → R .live (2 * e) ≡ true
-    by (holds l) t = elim (has-cons e n [] (rw l at t)) [
-      | here q ↦ rw q l
-      | later z ↦ absurd (has-empty e z)
-    ]
-    by (fails l) t = absurd (has-empty e (rw l at t))
-
 -- each live dart is a dart of a live edge: the first, or the second
 pub data Side (d : ℕ) : Type 0 where
   first-side : d ≡ 2 * (d / 2) → rev d ≡ 2 * (d / 2) + 1 → Side d
@@ -234,7 +220,7 @@ edge-kept {R} {Q} K d l = elim (side d) [
 
 pub links-label : {R : Rotation} → Lawful R → Labelling R (spot (links R (liveEdges R edges)))
 links-label {R} L = record {
-  sound = links-sound L (liveEdges R edges) (listed-live R edges);
+  sound = links-sound L (liveEdges R edges) (λ e h. listed-edge R edges e h .1);
   same = λ d l.
       let on : R .live (2 * (d / 2)) ≡ true = live-edge L d ∙ l in
       let s = links-same R (liveEdges R edges) (d / 2) (edge-listed R edges (d / 2) (live-edge-low L (d / 2) on) on) in

@@ -1,9 +1,9 @@
 -- What is summed over the steps of all listed walks, taken edge by edge: of a step and its way back exactly one is listed.
 --     total-listed                            each live edge has what the two steps by its first dart have
---     live-edges, live-edge, live-few         a sum over the live edges, as one over all; which they are; how many at most
+--     live-edges, listed-edge, live-few       a sum over the live edges, as one over all; which they are; how many at most
 --     sumBelow, sum-same, sum-at, sum-four    the sum over the numbers below n: term by term, one term more, by fours
 --     total-times                             a sum over a list, by how often each number is in it
---     listed-live, listed-none                a listed step is on a live edge; the steps of another edge are not listed
+--     listed-step, listed-none                a listed step is on a live edge; the steps of another edge are not listed
 --     one-of-two, edge-sum                    what an edge's four steps have, as often as they are listed
 use Prim.Native.Nat.{ℕ, zero, suc, _+_, _-_, _*_, _/_, _%_, _<_, _≤_}
 use native.Mathlib.Omega.{arith}
@@ -104,11 +104,11 @@ live-edges R f (suc n) =
 
 -- a live edge below n is one, and there are at most n
 
-pub live-edge : (R : Rotation) (n e : ℕ) → has e (liveEdges R n) ≡ true → (e < n) × (R .live (2 * e) ≡ true)
+pub listed-edge : (R : Rotation) (n e : ℕ) → has e (liveEdges R n) ≡ true → (e < n) × (R .live (2 * e) ≡ true)
 unfolding liveEdges
-live-edge R zero e h = absurd (has-empty e h)
-live-edge R (suc n) e h = elim (has-parts e (liveEdges R n) (only (R .live (2 * n)) n) h) [
-  | left k ↦ let r = live-edge R n e k in let low = r .0 in (omega arith, r .1)
+listed-edge R zero e h = absurd (has-empty e h)
+listed-edge R (suc n) e h = elim (has-parts e (liveEdges R n) (only (R .live (2 * n)) n) h) [
+  | left k ↦ let r = listed-edge R n e k in let low = r .0 in (omega arith, r .1)
   | right k ↦ let o = only-has (R .live (2 * n)) n e k in let q = o .0 in (omega arith, rw q (o .1))
 ]
 
@@ -130,9 +130,9 @@ one-of-two a b u e = elim (ℕ-discrete a 0) [
 
 module _ (R : Rotation) (L : Lawful R) where
   -- a listed step is a step word, on a live dart
-  listed-live : (x : ℕ) → has x (listedSteps R) ≡ true → (x < steps) × (R .live (x / 2) ≡ true)
+  listed-step : (x : ℕ) → has x (listedSteps R) ≡ true → (x < steps) × (R .live (x / 2) ≡ true)
   unfolding listedSteps
-  listed-live x e =
+  listed-step x e =
       let from = has-gathered (λ a. walk R (2 * a)) (starts R darts) x e in
       let start = has-start R darts (from .at) (from .among) in
       let low = start .low in
@@ -147,7 +147,7 @@ module _ (R : Rotation) (L : Lawful R) where
 
   -- the steps of a dart that is not live are not listed
   listed-none : (x d : ℕ) → x / 2 ≡ d → R .live d ≡ false → times x (listedSteps R) ≡ 0
-  listed-none x d on dead = times-none x (listedSteps R) (false-unless (has x (listedSteps R)) (λ e. clash (listed-live x e .1) (rw on dead)))
+  listed-none x d on dead = times-none x (listedSteps R) (false-unless (has x (listedSteps R)) (λ e. clash (listed-step x e .1) (rw on dead)))
 
   module _ (g : ℕ → ℕ) (same : (x : ℕ) → g (back R x) ≡ g x) where
     -- what a step has, as often as it is listed
@@ -195,7 +195,7 @@ module _ (R : Rotation) (L : Lawful R) where
     -- so each live edge has what the two steps by its first dart have
     pub total-listed : total g (listedSteps R) ≡ total (λ e. g (4 * e) + g (4 * e + 1)) (liveEdges R edges)
     total-listed =
-        total-times g steps (listedSteps R) (λ x e. listed-live x e .0)
+        total-times g steps (listedSteps R) (λ x e. listed-step x e .0)
         ∙ sum-four often edges
         ∙ sum-same _ (λ e. cond (R .live (2 * e)) (g (4 * e) + g (4 * e + 1)) 0) edges edge-sum
         ∙ live-edges R (λ e. g (4 * e) + g (4 * e + 1)) edges

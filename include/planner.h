@@ -229,11 +229,11 @@ int64_t planner_letters(const uint16_t *table, size_t words, uint16_t dart, uint
 int64_t planner_cut_length(const uint16_t *table, size_t words, uint16_t dart, uint16_t type);
 
 /*
- * The price sheet, over all ribbons: no step names one here. Writes four words for each ribbon, in the order of the listing, to the
- * front of `out`: its cut length; the metres that it starts, PLANNER_METRE sixteenths each; how far the last of them is unused, in
+ * The price sheet of all ribbons. Writes PLANNER_ROW_WORDS words for each ribbon, in the order of the listing, to the front of
+ * `out`: its cut length; the metres that it starts, PLANNER_METRE sixteenths each; how far the last of them is unused, in
  * sixteenths; its price, which is p for each metre started, or m where that is more. A length of a whole number of metres leaves 0
- * unused and starts no other. An isolated vertex has no ribbon, and so no row. Answers the sum, exactly that of the prices written; 0
- * without ribbons. Prices are in whole cents, as p and m are.
+ * unused and starts no other. An isolated vertex has no ribbon, and so no row. Answers the sum, exactly that of the prices written,
+ * which is at most 689,952,480; 0 without ribbons. Prices are in whole cents, as p and m are.
  * Declines, in this order: PLANNER_TORN; PLANNER_SHORT_SLICE if out_words is less than PLANNER_ROW_WORDS for each ribbon. The
  * ribbons are F of planner_counts, less the isolated vertices; PLANNER_ROW_WORDS * PLANNER_DARTS words are enough for every table,
  * since no two ribbons are listed from one dart. Words of `out` past the rows are not changed.

@@ -27,7 +27,7 @@ use Rattle.tracing.specs.laws.Step.{type?, is-zero, is-one, step-live}
 use Rattle.tracing.specs.laws.Listing.{has-here}
 use Rattle.tracing.specs.laws.Has.{has-empty, has-parts, left, right, has-tail, has-gathered, times-none}
 use Rattle.tracing.specs.laws.Meets.{has-walk, trace-reach}
-use Rattle.tracing.specs.laws.Starts.{only-has, has-start, start-live}
+use Rattle.tracing.specs.laws.Starts.{only-few, only-has, has-start, start-live}
 use Rattle.tracing.specs.laws.Twice.{one-way}
 use Rattle.tracing.specs.laws.Edges.{back-edge}
 use Rattle.tracing.specs.laws.Totals.{total-append}
@@ -115,11 +115,7 @@ listed-edge R (suc n) e h = elim (has-parts e (liveEdges R n) (only (R .live (2 
 pub live-few : (R : Rotation) (n : ℕ) → length (liveEdges R n) ≤ n
 unfolding liveEdges
 live-few R zero = omega arith
-live-few R (suc n) = let r = live-few R n in let one = by (R .live (2 * n)) in rw length-append (omega arith)
-  where
-    by : (b : Bool) → length (only b n) ≤ 1
-    by true = omega arith
-    by false = omega arith
+live-few R (suc n) = let r = live-few R n in let one = only-few (R .live (2 * n)) n in rw length-append (omega arith)
 
 -- of a step and its way back one is listed, and they have as much
 one-of-two : (a b u : ℕ) → a + b ≡ 1 → a * u + b * u ≡ u

@@ -4,7 +4,8 @@
 --     StartBelow, has-start, start-has        the starts below n are those darts
 --     starts-most                             there are at most as many starts as darts
 --     starts-count, alones-count              how many starts, how many isolated vertices pass a test
---     only-has, one-more, lone-there          members that are listed if a test holds
+--     only-few, only-has, one-more            at most one member is listed by a test, that one, and if the test holds
+--     lone-there                              a listed isolated vertex is one
 use Prim.Native.Nat.{ℕ, zero, suc, _+_, _<_, _≤_}
 use native.Mathlib.Omega.{arith}
 use native.Mathlib.Decide.{ℕ-discrete}
@@ -54,6 +55,10 @@ pub record StartBelow (R : Rotation) (n d : ℕ) : Type 0 where
   pub low : d < n
   pub start : start? R d ≡ true
 
+pub only-few : (b : Bool) (x : ℕ) → length (only b x) ≤ 1
+only-few true x = omega arith
+only-few false x = omega arith
+
 pub only-has : (b : Bool) (x c : ℕ) → has c (only b x) ≡ true → (c ≡ x) × (b ≡ true)
 only-has true x c e = elim (has-cons c x [] e) [
   | here q ↦ (q, refl)
@@ -101,11 +106,7 @@ module _ (R : Rotation) where
 
   pub starts-most : (n : ℕ) → length (starts R n) ≤ n
   starts-most zero = rw (starts-zero R) (omega arith)
-  starts-most (suc n) = let r = starts-most n in let one = few (start? R n) in rw (starts-more R n, length-append) (omega arith)
-    where
-      few : (b : Bool) → length (only b n) ≤ 1
-      few true = omega arith
-      few false = omega arith
+  starts-most (suc n) = let r = starts-most n in let one = only-few (start? R n) n in rw (starts-more R n, length-append) (omega arith)
 
   pub alones-count : (q : ℕ → Bool) (n : ℕ) → countIn q (alones R n) ≡ count (λ v. R .alone v && q v) n
   unfolding count countIn alones lone

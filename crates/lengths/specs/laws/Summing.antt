@@ -48,6 +48,10 @@ cut-total t s = ap (λ n. n + lap) (taken-total t (walk (rotation t) s))
 pub length-most : {t : List ℕ} {x : ℕ} → Stands t x → lengthOf t x ≤ longest
 length-most {t} {x} h = let low = stands-low h in h .good .lengths (edgeOf (x / 2)) (omega arith) .most
 
+-- what a step takes up, from the word of its edge
+pub taken-step : {t : List ℕ} {s n w o : ℕ} → n ≡ lengthOf t s → EdgeWord t s w → o ≡ times over (lettersOn w (s % 2)) → n + 8 * o ≡ takenBy t s
+taken-step long e f = let own = overs-step e f in omega arith
+
 -- what the steps so far take up
 abbrev pub takenBefore : List ℕ → ℕ → ℕ → ℕ
 takenBefore t s n = total (takenBy t) (iterates (step (rotation t)) s n)
@@ -55,9 +59,6 @@ takenBefore t s n = total (takenBy t) (iterates (step (rotation t)) s n)
 -- the most that a step takes up: the longest edge and 99 O's
 abbrev pub takenMost : ℕ
 takenMost = 66327
-
-pub taken-step : {t : List ℕ} {s n w o : ℕ} → n ≡ lengthOf t s → EdgeWord t s w → o ≡ times over (lettersOn w (s % 2)) → n + 8 * o ≡ takenBy t s
-taken-step long e f = let own = overs-step e f in omega arith
 
 pub taken-most : {t : List ℕ} {x : ℕ} → Stands t x → takenBy t x ≤ takenMost
 taken-most h = let few = letters-few h .0 in let long = length-most h in omega arith

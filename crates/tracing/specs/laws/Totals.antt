@@ -3,7 +3,7 @@
 --     total-mirror                and either sense may
 --     total-append, total-last    the sum over two lists; over a run of one step more
 --     total-map, total-gather     the sum over what a function makes of each; over what is gathered from each
---     total-most                  where each has at most m, the sum has at most m times the length
+--     total-most, total-least     where each has at most m, or at least m, the sum is so to m times the length
 --     period-next                 a step and the next one come back after as many steps
 use Prim.Native.Nat.{ℕ, zero, suc, _+_, _*_, _<_, _≤_}
 use native.Mathlib.Omega.{arith}
@@ -55,6 +55,15 @@ total-most g m [] most = omega arith
 total-most g m (x ∷ l) most =
     let here = most x (has-here x l) in
     let r = total-most g m l (λ y h. most y (has-tail y x l h)) in
+    let all : m * suc (length l) ≡ m + m * length l = omega arith in
+    omega arith
+
+pub total-least : (g : ℕ → ℕ) (m : ℕ) (l : List ℕ) → ((x : ℕ) → has x l ≡ true → m ≤ g x) → m * length l ≤ total g l
+unfolding total
+total-least g m [] least = omega arith
+total-least g m (x ∷ l) least =
+    let here = least x (has-here x l) in
+    let r = total-least g m l (λ y h. least y (has-tail y x l h)) in
     let all : m * suc (length l) ≡ m + m * length l = omega arith in
     omega arith
 

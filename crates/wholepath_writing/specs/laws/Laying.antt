@@ -91,7 +91,10 @@ module _ {t : List ℕ} {points lifts : List ℤ} {s start w n first second lift
     module _ {p : Piece} (e : p ≡ wholePieceOn w s i points lifts first second lift) {o′ : Out} (v : Written (p ∷ []) (start + i) o o′) where
       piece-is : p ≡ pieceAt t points lifts s i
       unfolding pieceAt placesOf
-      piece-is = e ∙ ap (λ x. wholePieceOn x s i points lifts first second lift) (k .word .word) ∙ ap (λ q. wholePieceOn (wordOf t s) s i points lifts (q .first) (q .second) (q .lift)) (k .places)
+      piece-is =
+          e
+          ∙ ap (λ x. wholePieceOn x s i points lifts first second lift) (k .word .word)
+          ∙ ap (λ q. wholePieceOn (wordOf t s) s i points lifts (q .first) (q .second) (q .lift)) (k .places)
 
       pub stepping-more : Stepping t points lifts s start w n first second lift (i + 1) o₀ o′
       unfolding upTo

@@ -1,2 +1,3 @@
 // What a program reads in the bytes of its arguments.
+#![tactic(auto)]
 pub mod number;

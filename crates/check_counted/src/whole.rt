@@ -12,7 +12,7 @@ use table::counted::Counted;
 use table::layout::WORDS;
 
 // What the check answers, and how many words it read.
-#[derive(Drop)]
+#[derive(Clone, Copy)]
 pub struct Checked {
     pub answer: Answer,
     pub reads: usize,

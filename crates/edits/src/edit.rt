@@ -1,7 +1,7 @@
 // An edit as data, and whether it goes through.
 use table::answer::Refusal;
 
-#[derive(Drop)]
+#[derive(Clone, Copy)]
 pub enum Edit {
     AddVertex(u16),
     RemoveVertex(u16),
@@ -19,7 +19,7 @@ pub enum Edit {
     },
 }
 
-#[derive(Drop)]
+#[derive(Clone, Copy)]
 pub enum Verdict {
     Passes,
     Declines(Refusal),

@@ -2,7 +2,7 @@
 use table::answer::Refusal;
 
 // Document 02, request a: two faces become one, one becomes two, one stays one; a turn by an even amount.
-#[derive(Drop)]
+#[derive(Clone, Copy)]
 pub enum Rule {
     A,
     B1,
@@ -14,7 +14,7 @@ pub enum Rule {
 pub const RULE_PLACE: u64 = 65536;
 
 // The new face count: alone for a vertex, for an edge with the rule met; or the refusal alone.
-#[derive(Drop)]
+#[derive(Clone, Copy)]
 pub enum Reply {
     Faces(u32),
     ByRule(u32, Rule),

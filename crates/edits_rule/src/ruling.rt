@@ -2,7 +2,7 @@
 use edits::rule::Rule;
 
 // The face count before an edit, and the rule that it falls under.
-#[derive(Drop)]
+#[derive(Clone, Copy)]
 pub struct Ruling {
     pub faces: u32,
     pub rule: Rule,

@@ -13,7 +13,7 @@ use tracing_walks::step::step;
 use weave_letters::letter::{crossings, edge_word};
 
 // The number of steps; has an edge more than one turn; is a point or a lift out of range.
-#[derive(Drop)]
+#[derive(Clone, Copy)]
 pub struct Survey {
     pub steps: usize,
     pub many: bool,

@@ -12,7 +12,7 @@ use table::layout::UNTURNED;
 use weave_letters::letter::{OVER, UNDER, edge_word, letter};
 
 // In millimetres.
-#[derive(Drop)]
+#[derive(Clone, Copy)]
 pub struct Point {
     pub x: f32,
     pub y: f32,
@@ -20,7 +20,7 @@ pub struct Point {
 }
 
 // Close ends a path.
-#[derive(Drop)]
+#[derive(Clone, Copy)]
 pub enum Piece {
     Over(Point),
     Under(Point),

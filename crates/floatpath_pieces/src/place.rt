@@ -11,7 +11,7 @@ pub const FARTHEST_POINT: u32 = 65536;
 pub const FARTHEST_LIFT: u32 = 4096;
 
 // Three words each: the points of the two ends of the step's edge, and the lift of the edge.
-#[derive(Drop)]
+#[derive(Clone, Copy)]
 pub struct Places {
     pub first: usize,
     pub second: usize,

@@ -2,7 +2,7 @@
 use table::answer::Refusal;
 
 // The face count before the edit and after it, and the number of the rule that it falls under.
-#[derive(Drop)]
+#[derive(Clone, Copy)]
 pub struct Forecast {
     pub before: u32,
     pub after: u32,
@@ -10,7 +10,7 @@ pub struct Forecast {
 }
 
 // The forecast, or the edit's own refusal.
-#[derive(Drop)]
+#[derive(Clone, Copy)]
 pub enum Asked {
     Foretold(Forecast),
     Refused(Refusal),

@@ -1,2 +1,3 @@
 // An edit of an edge done if its forecast still holds.
+#![tactic(auto)]
 pub mod commit;

@@ -2,6 +2,7 @@
 // The texts and the table are those of proved functions; here are the calls that read and write. Nothing can be said of the bytes that a
 // read gives, and nothing of what becomes of those that are written: so the contracts speak of some bytes, as many as came, and of
 // the number of those that are handed over.
+#![tactic(auto)]
 ghost use Rattle.std.specs.Prelude.{◌+◌, ◌≤◌, ◌<◌, ◌^◌, ◌≡◌, true, length, take};
 ghost use Rattle.table.specs.Good.{Good};
 ghost use Rattle.table.specs.Layout.{words};
@@ -23,7 +24,7 @@ use table::empty::empty;
 use table::layout::WORDS;
 
 // How far the reading has come.
-#[derive(Drop)]
+#[derive(Clone, Copy)]
 struct Progress {
     // nothing says yet that no more is to be read
     going: bool,
@@ -44,14 +45,14 @@ struct Progress {
 }
 
 // What was handed to standard output.
-#[derive(Drop)]
+#[derive(Clone, Copy)]
 struct Printed {
     fine: bool,
     bytes: usize,
 }
 
 // What the program did.
-#[derive(Drop)]
+#[derive(Clone, Copy)]
 struct Job {
     fine: bool,
     // how many bytes the last read gave

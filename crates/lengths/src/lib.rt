@@ -1,2 +1,3 @@
 // The cut length of a ribbon.
+#![tactic(auto)]
 pub mod length;

@@ -10,7 +10,7 @@ use weave_letters::named::named_step;
 
 // "A step is a dart d with a trace type t": a reader stands at the one that it hands out next, and keeps the one that its
 // walk began at, which tells where it ends.
-#[derive(Drop)]
+#[derive(Clone, Copy)]
 pub struct Step {
     pub dart: u16,
     pub kind: u16,

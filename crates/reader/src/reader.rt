@@ -10,7 +10,7 @@ use reader_tally::tally::Tally;
 use table::answer::Answer;
 
 // The table, the dart and the type of the step that is handed out next, and the step that the walk began at.
-#[derive(Drop)]
+#[derive(Clone, Copy)]
 pub struct Reader<'a> {
     pub table: &'a [u16],
     pub dart: u16,

@@ -9,7 +9,7 @@ use table::answer::code;
 
 // Dart and type of the step that it hands out next, then those of the step that its walk began at.
 #[repr(C)]
-#[derive(Drop)]
+#[derive(Clone, Copy)]
 pub struct Standing {
     pub dart: u16,
     pub kind: u16,
@@ -18,7 +18,7 @@ pub struct Standing {
 }
 
 // What a call leaves: the answer as C gets it, the reader and the tally.
-#[derive(Drop)]
+#[derive(Clone, Copy)]
 pub struct Called {
     pub code: i64,
     pub reader: Standing,

@@ -11,7 +11,7 @@ use weave::named::Named;
 
 // The step handed out is the one that the reader stood at, and the answer is 1 where the walk ends there, else 0. `at` is where
 // the reader then stands. A declined step leaves it and the tally as they were.
-#[derive(Drop)]
+#[derive(Clone, Copy)]
 pub struct Stepped {
     pub answer: Answer,
     pub at: Step,

@@ -1,2 +1,3 @@
 // The tally of a walk, brought forward by one step.
+#![tactic(auto)]
 pub mod tally;

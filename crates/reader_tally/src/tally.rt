@@ -9,7 +9,7 @@ use weave_letters::letter::{crossings, edge_word, overs};
 
 // "steps, overs, unders, length"
 #[repr(C)]
-#[derive(Drop)]
+#[derive(Clone, Copy)]
 pub struct Tally {
     pub steps: u32,
     pub overs: u32,
@@ -18,7 +18,7 @@ pub struct Tally {
 }
 
 // The tally with one step more, or the refusal of that step.
-#[derive(Drop)]
+#[derive(Clone, Copy)]
 pub enum Tallied {
     Brought(Tally),
     Kept(Refusal),

@@ -11,7 +11,7 @@ use crate::records::{Stop, reads_on};
 use crate::run::run_records;
 
 // What became of a block.
-#[derive(Drop)]
+#[derive(Clone, Copy)]
 pub struct Block {
     // the bytes that are left
     pub left: usize,

@@ -22,7 +22,7 @@ pub const MARK_DE: u16 = 0x4445;
 pub const MARK_TW: u16 = 0x5457;
 
 // The marks, by document 01's names, and document 02's.
-#[derive(Drop)]
+#[derive(Clone, Copy)]
 pub enum Mark {
     AV,
     RV,
@@ -32,14 +32,14 @@ pub enum Mark {
     TW,
 }
 
-#[derive(Drop)]
+#[derive(Clone, Copy)]
 pub enum Marked {
     Known(Mark),
     Unknown,
 }
 
 // Why no whole record follows.
-#[derive(Drop)]
+#[derive(Clone, Copy)]
 pub enum Stop {
     // nothing follows
     End,
@@ -50,7 +50,7 @@ pub enum Stop {
 }
 
 // What stands first among some bytes.
-#[derive(Drop)]
+#[derive(Clone, Copy)]
 pub enum Found {
     // a whole record of so many bytes
     Record { edit: Edit, size: usize },

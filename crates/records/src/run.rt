@@ -17,7 +17,7 @@ use edits_do::apply::apply;
 use table::answer::number_of;
 
 // What became of some bytes.
-#[derive(Drop)]
+#[derive(Clone, Copy)]
 pub struct Ran {
     // the bytes of the whole records
     pub taken: usize,

@@ -1,4 +1,5 @@
 // The lines that the job program prints after reading.
+#![tactic(auto)]
 pub mod line;
 pub mod part;
 pub mod report;

@@ -23,7 +23,7 @@ pub fn report(t: &[u16], from: usize, out: &mut [u8]) -> usize
 }
 
 // A part of the report, as it is written to an output.
-#[derive(Drop)]
+#[derive(Clone, Copy)]
 pub struct Window {
     // the bytes that are written next
     pub shown: usize,

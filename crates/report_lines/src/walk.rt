@@ -14,7 +14,7 @@ use text::window::{byte, bytes};
 use tracing_walks::count::look;
 
 // Where the text stands, and the index of the next walk.
-#[derive(Drop)]
+#[derive(Clone, Copy)]
 pub struct Place {
     pub at: usize,
     pub index: u32,

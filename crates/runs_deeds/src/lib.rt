@@ -1,1 +1,3 @@
 // Runs that hold commits beside plain edits. No code.
+
+#![tactic(auto)]

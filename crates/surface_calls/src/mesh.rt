@@ -13,7 +13,7 @@ use surface_parts::forest::label_parts;
 use table::layout::{EDGE, EDGES, NOTHING, VERTEX, VERTICES};
 use tracing_walks::count::face_count;
 
-#[derive(Drop)]
+#[derive(Clone, Copy)]
 pub struct Mesh {
     pub vertices: u16,
     pub edges: u16,

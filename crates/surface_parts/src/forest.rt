@@ -8,7 +8,7 @@ ghost use Rattle.surface_parts.specs.laws.Linking.{Taking, Taken, Labelled, Fres
 use table::layout::{EDGE, EDGES, LEAVES, VERTICES};
 
 // The root of a vertex, and the vertex's mark.
-#[derive(Drop)]
+#[derive(Clone, Copy)]
 pub struct Root {
     pub label: usize,
     pub mark: u8,

@@ -1,2 +1,3 @@
 // The connected parts of a table found: for each vertex the label of its part, and a mark.
+#![tactic(auto)]
 pub mod forest;

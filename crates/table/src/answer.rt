@@ -3,7 +3,7 @@ ghost use Rattle.std.specs.Prelude.{◌≡◌};
 ghost use Rattle.table.specs.Answers.{number_of, refusal_code, code_of};
 
 // Document 01, "When a call declines"; document 02 adds the last three.
-#[derive(Drop)]
+#[derive(Clone, Copy)]
 pub enum Refusal {
     Torn,
     NoSuchName,
@@ -21,7 +21,7 @@ pub enum Refusal {
     NotPlain,
 }
 
-#[derive(Drop)]
+#[derive(Clone, Copy)]
 pub enum Answer {
     Done(u32),
     Declined(Refusal),

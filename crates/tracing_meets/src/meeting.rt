@@ -15,14 +15,14 @@ use tracing_tags::tags::tag_faces;
 use tracing_walks::step::corner;
 
 // The face count, and how two corners meet.
-#[derive(Drop)]
+#[derive(Clone, Copy)]
 pub struct Met {
     pub faces: u32,
     pub meeting: Meeting,
 }
 
 // The face count, and how the two sides of an edge lie.
-#[derive(Drop)]
+#[derive(Clone, Copy)]
 pub struct Sided {
     pub faces: u32,
     pub sides: Sides,

@@ -13,7 +13,7 @@ use table::block::{DART_BLOCK, EDGE_BLOCKS, is_dead};
 use table::layout::{DARTS, EDGE, ISOLATED, VERTEX, VERTICES};
 
 // So many walks, and so many words of their listing.
-#[derive(Drop)]
+#[derive(Clone, Copy)]
 pub struct Size {
     pub walks: u32,
     pub words: usize,

@@ -2,6 +2,7 @@
 // to standard error is made by functions that are proved, from the bytes of the arguments; here are the calls that read those and write
 // these. Nothing can be said of the bytes that an argument has, and nothing of what becomes of those that are written: so the contracts speak of
 // some bytes, and of the number of those that are handed over.
+#![tactic(auto)]
 ghost use Rattle.std.specs.Prelude.{◌≤◌, ◌≡◌, length};
 ghost use Rattle.table.specs.Layout.{edges as edgesMost};
 ghost use Rattle.trial_jobs.specs.Trial.{trial_size, trial_bytes};
@@ -15,7 +16,7 @@ use text::window::bytes;
 use trial_make::call::trial_job;
 
 // What the arguments ask for.
-#[derive(Drop)]
+#[derive(Clone, Copy)]
 enum Outcome {
     // there are not two
     Usage,
@@ -27,14 +28,14 @@ enum Outcome {
 }
 
 // The bytes that are made for standard output, and for standard error.
-#[derive(Drop)]
+#[derive(Clone, Copy)]
 struct Made {
     output: usize,
     message: usize,
 }
 
 // The bytes that were handed to standard output, and to standard error.
-#[derive(Drop)]
+#[derive(Clone, Copy)]
 struct Printed {
     output: usize,
     message: usize,

@@ -1,1 +1,3 @@
 // Trial jobs from two numbers. No code.
+
+#![tactic(auto)]

@@ -2,7 +2,7 @@
 use table::answer::Refusal;
 
 // A step that a call names: it is there, or the call declines.
-#[derive(Drop)]
+#[derive(Clone, Copy)]
 pub enum Named {
     There(u16),
     Refused(Refusal),

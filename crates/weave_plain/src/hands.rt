@@ -13,7 +13,7 @@ use tracing_walks::step::{corner, step};
 use weave_letters::letter::edge_word;
 
 // Is there an edge of positive turns, and is there one of negative turns.
-#[derive(Drop)]
+#[derive(Clone, Copy)]
 pub struct Hands {
     pub positive: bool,
     pub negative: bool,

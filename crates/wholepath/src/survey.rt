@@ -11,7 +11,7 @@ use weave_letters::letter::edge_word;
 use wholepath_pieces::piece::spots;
 
 // The number of pieces, Close not counted; is a point or a lift out of range.
-#[derive(Drop)]
+#[derive(Clone, Copy)]
 pub struct Survey {
     pub pieces: usize,
     pub far: bool,

@@ -8,7 +8,7 @@ use weave_letters::letter::{OVER, UNDER, crossings, letter};
 use wholepath_places::between::coordinate;
 
 // In sixteenths of a millimetre: three whole words, and the remainder of each.
-#[derive(Drop)]
+#[derive(Clone, Copy)]
 pub struct Spot {
     pub x: i32,
     pub y: i32,
@@ -19,7 +19,7 @@ pub struct Spot {
 }
 
 // Close ends a path.
-#[derive(Drop)]
+#[derive(Clone, Copy)]
 pub enum Piece {
     Over(Spot),
     Under(Spot),

@@ -8,7 +8,7 @@ use floatpath_pieces::place::FARTHEST_POINT;
 use weave_letters::letter::{OVER, UNDER};
 
 // One coordinate: its word, in sixteenths of a millimetre, and the remainder of the division that gave it.
-#[derive(Drop)]
+#[derive(Clone, Copy)]
 pub struct Place {
     pub word: i32,
     pub rest: u16,

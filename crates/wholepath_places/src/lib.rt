@@ -1,2 +1,3 @@
 // Where one crossing sits, in whole sixteenths.
+#![tactic(auto)]
 pub mod between;

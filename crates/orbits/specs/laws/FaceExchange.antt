@@ -4,7 +4,7 @@
 --     faces_same, exch2_keeps      y on the mirror of the orbit of x: as many faces, with the same members
 use Rattle.std.specs.Prelude.{◌≡◌, ◌≢◌, ◌↔◌, Bool, ℕ, suc, ◌<◌}
 use Rattle.std.proofs.Common.{◌∙◌, ap, arith}
-use Rattle.std.proofs.Math.Logic.{Iff·rfl}
+use Rattle.std.proofs.Math.Logic.Iff as Iff
 use Rattle.std.proofs.Math.Decide.{ℕ_discrete}
 use Rattle.orbits.specs.Reach.{Reach}
 use Rattle.orbits.specs.laws.Reach.{reach_here, reach_one, reach_trans, reach_sym, reach_low, reach_ind}
@@ -152,7 +152,7 @@ module _ {N : ℕ} {f m : ℕ → ℕ} {live : ℕ → Bool} (E : Mirror N f m l
   module _ (r : Reach f x (m y)) where
     pub exch2_keeps : (i j : ℕ) → i < N → j < N → Face (exch2 f m x y) m i j ↔ Face f m i j
     exch2_keeps i j h l = elim (ℕ_discrete y (m (f x))) [
-      | yes e ↦ rw (exch2_back E a b e) Iff·rfl
+      | yes e ↦ rw (exch2_back E a b e) Iff.rfl
       | no c ↦ (
         λ q. join_flat (face_partition E) a.lt b.lt h l (mirrored r) (exch2_inside i j h l q),
         λ q. join_flat (face_partition G) a.lt b.lt h l (meet c) (exch2_outside c i j h l q),

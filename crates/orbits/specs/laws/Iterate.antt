@@ -7,7 +7,7 @@
 --     period_on, period_le                        it is at most the number of points of any set that f stays in, so at most N
 use Rattle.std.specs.Prelude.{◌≡◌, refl, ◌≢◌, Bool, true, ℕ, zero, suc, ◌+◌, ◌-◌, ◌<◌, ◌≤◌}
 use Rattle.std.proofs.Common.{sym, ◌∙◌, ap, add-zero, add-suc, lt_irrefl, arith}
-use Rattle.std.proofs.Math.Logic.{Dec·and}
+use Rattle.std.proofs.Math.Logic.Dec as Dec
 use Rattle.std.proofs.Math.Decide.{ℕ_discrete, dec_lt}
 use Rattle.orbits.specs.laws.Truth.{First, first, found, none}
 use Rattle.orbits.specs.Count.{count}
@@ -77,7 +77,7 @@ period_apart I {i} h p = laps_apart I i p.steps h p.least
 
 -- the first time, from one step on and before n, that the steps from i meet t
 pub meeting : (f : ℕ → ℕ) (i t n : ℕ) → First (λ k. (zero < k) × (iter f k i ≡ t)) n
-meeting f i t n = first (λ k. (zero < k) × (iter f k i ≡ t)) (λ k. Dec·and (dec_lt zero k) (ℕ_discrete (iter f k i) t)) n
+meeting f i t n = first (λ k. (zero < k) × (iter f k i ≡ t)) (λ k. Dec.and (dec_lt zero k) (ℕ_discrete (iter f k i) t)) n
 
 pub period : {N : ℕ} {f : ℕ → ℕ} → Inj N f → (i : ℕ) → i < N → Period f i
 period {N} {f} I i h = by (meeting f i i (suc N))

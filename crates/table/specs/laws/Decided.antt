@@ -7,7 +7,7 @@
 use Rattle.std.specs.Prelude.{ℕ, ◌≤◌, ◌<◌, refl, ◌&&◌, List, length}
 use Rattle.std.proofs.Common.{lt_of_lt_of_le}
 use Rattle.std.proofs.Math.Decide.{ℕ_discrete, dec_le, dec_lt, map_dec}
-use Rattle.std.proofs.Math.Logic.{Dec·and, Dec·not}
+use Rattle.std.proofs.Math.Logic.Dec as Dec
 use Rattle.orbits.specs.laws.Truth.{first, found, none}
 use Rattle.orbits.specs.Count.{count}
 use Rattle.orbits.specs.Iterate.{iter}
@@ -22,7 +22,7 @@ use Rattle.table.specs.laws.Cycle.{next_inj}
 use Rattle.table.specs.laws.Vertices.{Leads, VertexRule, led?, counted_good, good_counted}
 
 pub all_dec : (P : ℕ → Type 0) → ((k : ℕ) → Dec (P k)) → (n : ℕ) → Dec ((k : ℕ) → k < n → P k)
-all_dec P dec n = elim (first (λ k. ¬ P k) (λ k. Dec·not (dec k)) n) [
+all_dec P dec n = elim (first (λ k. ¬ P k) (λ k. Dec.not (dec k)) n) [
   | found k h p least ↦ no (λ a. p (a k h))
   | none out ↦ yes (λ k h. elim (dec k) [
     | yes p ↦ p
@@ -35,28 +35,28 @@ module _ (t : List ℕ) where
   bare_dec d = map_dec
       (λ p. record { next_none = p.0; prev_none = p.1.0; leaves_none = p.1.1 })
       (λ b. (b.next_none, (b.prev_none, b.leaves_none)))
-      (Dec·and (ℕ_discrete (next_word t d) nothing) (Dec·and (ℕ_discrete (prev_word t d) nothing) (ℕ_discrete (leaves t d) nothing)))
+      (Dec.and (ℕ_discrete (next_word t d) nothing) (Dec.and (ℕ_discrete (prev_word t d) nothing) (ℕ_discrete (leaves t d) nothing)))
 
   linked_dec : (d : ℕ) → Dec (Linked t d)
   linked_dec d = map_dec
       (λ p. record { at = p.0; next_low = p.1.0; prev_next = p.1.1.0; next_leaves = p.1.1.1 })
       (λ k. (k.at, (k.next_low, (k.prev_next, k.next_leaves))))
-      (Dec·and (dec_lt (leaves t d) vertices)
-      (Dec·and (dec_lt (next_word t d) darts)
-      (Dec·and (ℕ_discrete (prev_word t (next_word t d)) d)
+      (Dec.and (dec_lt (leaves t d) vertices)
+      (Dec.and (dec_lt (next_word t d) darts)
+      (Dec.and (ℕ_discrete (prev_word t (next_word t d)) d)
       (ℕ_discrete (leaves t (next_word t d)) (leaves t d)))))
 
   rule_dec : (d : ℕ) → Dec (DartRule t d)
   rule_dec d = elim (ℕ_discrete (edge_word t (edge_of d)) 0) [
     | yes off ↦ map_dec (rule_dead t d off) (λ r. r.bare off) (bare_dec d)
-    | no on ↦ map_dec (λ p. rule_live t d on p.0 p.1) (λ r. (r.turns, r.linked on)) (Dec·and (dec_le (edge_word t (edge_of d)) edge_word_most) (linked_dec d))
+    | no on ↦ map_dec (λ p. rule_live t d on p.0 p.1) (λ r. (r.turns, r.linked on)) (Dec.and (dec_le (edge_word t (edge_of d)) edge_word_most) (linked_dec d))
   ]
 
   length_dec : (e : ℕ) → Dec (LengthRule t e)
   length_dec e = elim (ℕ_discrete (edge_word t e) 0) [
     | yes off ↦ map_dec (length_dead t e off) (λ l. l.none off) (ℕ_discrete (length_word t e) 0)
     | no on ↦ map_dec (λ p. length_live t e on p.0 p.1) (λ l. (l.some on, l.most))
-        (Dec·and (Dec·not (ℕ_discrete (length_word t e) 0)) (dec_le (length_word t e) longest))
+        (Dec.and (Dec.not (ℕ_discrete (length_word t e) 0)) (dec_le (length_word t e) longest))
   ]
 
   module _ (r : Ruled t darts) where
@@ -71,9 +71,9 @@ module _ (t : List ℕ) where
     leads_dec v w = map_dec
         (λ p. record { live = record { low = p.0; on = p.1.0 }; here = p.1.1.0; least = least_all w p.0 p.1.1.1 })
         (λ a. (a.live.low, (a.live.on, (a.here, λ k _. a.least k))))
-        (Dec·and (dec_lt w darts)
-        (Dec·and (Dec·not (ℕ_discrete (edge_word t (edge_of w)) 0))
-        (Dec·and (ℕ_discrete (leaves t w) v)
+        (Dec.and (dec_lt w darts)
+        (Dec.and (Dec.not (ℕ_discrete (edge_word t (edge_of w)) 0))
+        (Dec.and (ℕ_discrete (leaves t w) v)
         (all_dec (λ k. w ≤ iter (next_dart t) k w) (λ k. dec_le w (iter (next_dart t) k w)) darts))))
 
     vertex_dec : (v : ℕ) → Dec (VertexRule t v)

@@ -1,0 +1,12 @@
+-- `vertex::led_in` meets its contract. The loop keeps `Summed`, and the count is that of the vertices so far.
+use Rattle.check_reads.specs.laws.Tests.{Along}
+use Rattle.check_reads.specs.Reads.{vertex_tests}
+use Rattle.table.specs.laws.Vertices.{Summed}
+use Prim.Native.Nat.{◌*◌, ◌-◌, ◌≤◌}
+use Rattle.check_copy.proofs.vertex.led_in.Given as goal
+
+abbrev pub invariant-loop-v : goal.invariant-loop-v
+invariant-loop-v l = (l.v ≤ l.end) × Summed l.t l.led l.v × Along (vertex_tests l.t) (32 * l.b) l.v l.initial.reads l.reads
+
+abbrev pub decreases-loop-v : goal.decreases-loop-v
+decreases-loop-v l = l.end - l.v

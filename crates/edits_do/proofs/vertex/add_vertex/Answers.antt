@@ -1,0 +1,24 @@
+-- `vertex::add_vertex` meets its contract. Adds vertex v. Answers the new face count.
+use Rattle.edits.specs.laws.WrittenGood.{add_good}
+use Rattle.edits.specs.declared.edit.Edit.TheVariants.{AddVertex}
+use Rattle.edits.specs.laws.Edits.{went_through, was_declined}
+use native.Mathlib.Omega.{arith}
+use mathlib.Core.Path.{sym, ◌∙◌, refl}
+use Rattle.edits.specs.laws.Verdicts.{may_add}
+use Rattle.edits_do.proofs.vertex.add_vertex.Goals as goal
+
+pub bounds-t-v : goal.bounds-t-v
+bounds-t-v c = let m = may_add _ _ (sym c.add_verdict.ensures ∙ c.enum_told-1.given.1) in
+    let size = m.good.size in
+    let low = m.low in
+    omega arith
+
+pub face_count-requires : goal.face_count-requires
+face_count-requires c = add_good _ _ (may_add _ _ (sym c.add_verdict.ensures ∙ c.enum_told-1.given.1))
+
+pub returns-in-Declines : goal.returns-in-Declines
+returns-in-Declines c = was_declined c.args.t.now (AddVertex c.args.v) _ (sym c.add_verdict.ensures ∙ c.r-1.given.1)
+
+pub returns-in-Passes : goal.returns-in-Passes
+returns-in-Passes c = went_through c.args.t.now (AddVertex c.args.v) _ _ (sym c.add_verdict.ensures ∙ c.enum_told-1.given.1) refl
+    c.face_count.ensures

@@ -1,0 +1,11 @@
+-- `reply::without_rule` meets its contract. The answer of an edit that meets no rule.
+use Rattle.edits.specs.Rules.{with_rule}
+use mathlib.Core.Option.{none}
+use mathlib.Core.Path.{sym, ap}
+use Rattle.edits_rule.proofs.reply.without_rule.Goals as goal
+
+pub returns-in-Done : goal.returns-in-Done
+returns-in-Done c = sym (ap (λ a. with_rule a none) c.a-1.given.1)
+
+pub returns-in-Declined : goal.returns-in-Declined
+returns-in-Declined c = sym (ap (λ a. with_rule a none) c.a-in-Declined-1.given.1)

@@ -1,0 +1,35 @@
+-- `ask::ask_turn_edge` meets its contract. What turning edge e by an amount would do.
+use Rattle.edits.specs.declared.edit.Edit.TheVariants.{TurnEdge}
+use Rattle.edits.specs.laws.Rules.{turn_met}
+use Rattle.edits.specs.laws.Turns.{amount_on}
+use Rattle.edits.specs.laws.Verdicts.{turn_on, may_turn}
+use Rattle.edits_rule.specs.laws.Rule.{turn_edge, rule_allows}
+use Rattle.table.specs.Layout.{edge_word}
+use Rattle.forecasts_ask.specs.laws.Ask.{was_refused, was_foretold}
+use native.Mathlib.Omega.{arith}
+use Rattle.forecasts_ask.proofs.ask.ask_turn_edge.Goals as goal
+
+pub bounds-t-e : goal.bounds-t-e
+bounds-t-e c = let passes = turn_on c.args.t.now _ c.args.amount c.ranges.amount c.turn_verdict.ensures c.enum_told-1.given.1 in
+    let m = may_turn _ _ c.args.amount passes in
+    let size = m.good.size in
+    let low = m.low in
+    omega arith
+
+pub turn_rule-ruling-requires : goal.turn_rule-ruling-requires
+turn_rule-ruling-requires c = turn_edge (may_turn c.args.t.now _ c.args.amount (turn_on c.args.t.now _ c.args.amount c.ranges.amount c.turn_verdict.ensures c.enum_told-1.given.1))
+
+pub foretell-requires : goal.foretell-requires
+foretell-requires c = let passes = turn_on c.args.t.now _ c.args.amount c.ranges.amount c.turn_verdict.ensures c.enum_told-1.given.1 in
+    let m = may_turn c.args.t.now _ c.args.amount passes in
+    rule_allows c.args.t.now (TurnEdge c.args.e c.args.amount) passes
+    (turn_met m (amount_on (edge_word c.args.t.now c.args.e) c.args.amount c.ranges.amount c.turned_word-w.ensures) c.turn_rule-ruling.ensures.1) c.turn_rule-ruling.ensures.0 m.good
+
+pub returns-in-Declines : goal.returns-in-Declines
+returns-in-Declines c = was_refused c.args.t.now (TurnEdge c.args.e c.args.amount) _ (turn_on c.args.t.now _ c.args.amount c.ranges.amount c.turn_verdict.ensures c.r-1.given.1)
+
+pub returns-in-Passes : goal.returns-in-Passes
+returns-in-Passes c = let w = amount_on (edge_word c.args.t.now c.args.e) c.args.amount c.ranges.amount c.turned_word-w.ensures in
+    let passes = turn_on c.args.t.now _ c.args.amount c.ranges.amount c.turn_verdict.ensures c.enum_told-1.given.1 in
+    was_foretold c.args.t.now (TurnEdge c.args.e c.args.amount) passes
+    (turn_met (may_turn c.args.t.now _ c.args.amount passes) w c.turn_rule-ruling.ensures.1) c.turn_rule-ruling.ensures.0 c.foretell.ensures

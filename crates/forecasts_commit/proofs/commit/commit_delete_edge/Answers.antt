@@ -1,0 +1,22 @@
+-- `commit::commit_delete_edge` meets its contract. Deletes edge e if the forecast holds.
+use Rattle.edits.specs.declared.edit.Edit.TheVariants.{DeleteEdge}
+use Rattle.edits.specs.laws.Verdicts.{may_delete}
+use Rattle.edits.specs.laws.WrittenGood.{may_delete_ready}
+use Rattle.forecasts_commit.specs.laws.Commit.{judges, may_edit, was_refused, was_done}
+use mathlib.Core.Path.{refl, sym, ◌∙◌}
+use Rattle.forecasts_commit.proofs.commit.commit_delete_edge.Goals as goal
+
+pub delete-requires : goal.delete-requires
+delete-requires c = let edit = DeleteEdge c.args.e in
+    let judged = judges c.args.t.now edit c.args.forecast c.ask_delete_edge.ensures c.commit_verdict.ensures in
+    may_delete_ready _ _ (may_delete _ _ (may_edit c.args.t.now edit c.args.forecast (sym judged ∙ c.enum_told-1.given.1)))
+
+pub returns-in-Declines : goal.returns-in-Declines
+returns-in-Declines c = let edit = DeleteEdge c.args.e in
+    let judged = judges c.args.t.now edit c.args.forecast c.ask_delete_edge.ensures c.commit_verdict.ensures in
+    was_refused c.args.t.now edit c.args.forecast _ (sym judged ∙ c.r-1.given.1)
+
+pub returns-in-Passes : goal.returns-in-Passes
+returns-in-Passes c = let edit = DeleteEdge c.args.e in
+    let judged = judges c.args.t.now edit c.args.forecast c.ask_delete_edge.ensures c.commit_verdict.ensures in
+    was_done c.args.t.now edit c.args.forecast refl (sym judged ∙ c.enum_told-1.given.1) c.told.ensures c.delete.ensures

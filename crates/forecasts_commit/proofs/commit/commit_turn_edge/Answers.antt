@@ -1,0 +1,38 @@
+-- `commit::commit_turn_edge` meets its contract. Turns edge e by an amount if the forecast holds.
+use Rattle.edits.specs.declared.edit.Edit.TheVariants.{TurnEdge}
+use Rattle.edits.specs.laws.Turns.{amount_on}
+use Rattle.edits.specs.laws.Verdicts.{may_turn}
+use Rattle.forecasts.specs.laws.Forecast.{asked_turn}
+use Rattle.forecasts_commit.specs.laws.Commit.{judges, may_edit, was_refused, was_done}
+use Rattle.table.specs.Layout.{edge_word}
+use Rattle.table.specs.Writes.{set_edge}
+use native.Mathlib.Omega.{arith}
+use mathlib.Core.Path.{refl, sym, ap, ◌∙◌}
+use Rattle.forecasts_commit.proofs.commit.commit_turn_edge.Goals as goal
+
+pub bounds-t-e : goal.bounds-t-e
+bounds-t-e c = let edit = TurnEdge c.args.e c.args.amount in
+    let judged = judges c.args.t.now edit c.args.forecast (asked_turn c.args.t.now _ c.args.amount c.ranges.amount c.ask_turn_edge.ensures) c.commit_verdict.ensures in
+    let m = may_turn c.args.t.now _ c.args.amount (may_edit c.args.t.now edit c.args.forecast (sym judged ∙ c.enum_told-1.given.1)) in
+    let size = m.good.size in
+    let low = m.low in
+    omega arith
+
+pub bounds-t-e-in-Passes : goal.bounds-t-e-in-Passes
+bounds-t-e-in-Passes c = let edit = TurnEdge c.args.e c.args.amount in
+    let judged = judges c.args.t.now edit c.args.forecast (asked_turn c.args.t.now _ c.args.amount c.ranges.amount c.ask_turn_edge.ensures) c.commit_verdict.ensures in
+    let m = may_turn c.args.t.now _ c.args.amount (may_edit c.args.t.now edit c.args.forecast (sym judged ∙ c.enum_told-1.given.1)) in
+    let size = m.good.size in
+    let low = m.low in
+    omega arith
+
+pub returns-in-Declines : goal.returns-in-Declines
+returns-in-Declines c = let edit = TurnEdge c.args.e c.args.amount in
+    let judged = judges c.args.t.now edit c.args.forecast (asked_turn c.args.t.now _ c.args.amount c.ranges.amount c.ask_turn_edge.ensures) c.commit_verdict.ensures in
+    was_refused c.args.t.now edit c.args.forecast _ (sym judged ∙ c.r-1.given.1)
+
+pub returns-in-Passes : goal.returns-in-Passes
+returns-in-Passes c = let edit = TurnEdge c.args.e c.args.amount in
+    let judged = judges c.args.t.now edit c.args.forecast (asked_turn c.args.t.now _ c.args.amount c.ranges.amount c.ask_turn_edge.ensures) c.commit_verdict.ensures in
+    let w = amount_on (edge_word c.args.t.now c.args.e) c.args.amount c.ranges.amount c.turned_word-w.ensures in
+    was_done c.args.t.now edit c.args.forecast refl (sym judged ∙ c.enum_told-1.given.1) c.told.ensures (ap (set_edge c.args.t.now c.args.e) w)

@@ -1,0 +1,46 @@
+-- `records::edit_of` meets its contract: for each mark the words that follow it, which are there by the record's size.
+use Rattle.records.specs.laws.Decoding.{size_known, add_made, remove_made, plain_made, long_made, delete_made, turn_made}
+use native.Mathlib.Omega.{arith}
+use Rattle.records.proofs.records.edit_of.Goals as goal
+
+pub word-requires : goal.word-requires
+word-requires c = let size = size_known c.enum_told-1.given.1 c.requires in omega arith
+
+pub word-requires-in-RV : goal.word-requires-in-RV
+word-requires-in-RV c = let size = size_known c.enum_told-in-RV-1.given.1 c.requires in omega arith
+
+pub insertion-requires : goal.insertion-requires
+insertion-requires c = let size = size_known c.enum_told-in-IE-1.given.1 c.requires in omega arith
+
+pub word-requires-in-IL : goal.word-requires-in-IL
+word-requires-in-IL c = let size = size_known c.enum_told-in-IL-1.given.1 c.requires in omega arith
+
+pub insertion-requires-in-IL : goal.insertion-requires-in-IL
+insertion-requires-in-IL c = let size = size_known c.enum_told-in-IL-1.given.1 c.requires in omega arith
+
+pub word-requires-in-DE : goal.word-requires-in-DE
+word-requires-in-DE c = let size = size_known c.enum_told-in-DE-1.given.1 c.requires in omega arith
+
+pub word-requires-in-TW : goal.word-requires-in-TW
+word-requires-in-TW c = let size = size_known c.enum_told-in-TW-1.given.1 c.requires in omega arith
+
+pub word-requires-in-TW-2 : goal.word-requires-in-TW-2
+word-requires-in-TW-2 c = let size = size_known c.enum_told-in-TW-1.given.1 c.requires in omega arith
+
+pub returns-in-AV : goal.returns-in-AV
+returns-in-AV c = add_made _ _ c.enum_told-1.given.1 c.word.ensures
+
+pub returns-in-RV : goal.returns-in-RV
+returns-in-RV c = remove_made _ _ c.enum_told-in-RV-1.given.1 c.word-in-RV.ensures
+
+pub returns-in-IE : goal.returns-in-IE
+returns-in-IE c = plain_made _ _ c.enum_told-in-IE-1.given.1 c.insertion.ensures
+
+pub returns-in-IL : goal.returns-in-IL
+returns-in-IL c = long_made _ _ c.enum_told-in-IL-1.given.1 c.word-in-IL.ensures c.insertion-in-IL.ensures
+
+pub returns-in-DE : goal.returns-in-DE
+returns-in-DE c = delete_made _ _ c.enum_told-in-DE-1.given.1 c.word-in-DE.ensures
+
+pub returns-in-TW : goal.returns-in-TW
+returns-in-TW c = turn_made _ _ c.enum_told-in-TW-1.given.1 c.word-in-TW.ensures c.signed.type-inv c.signed.ensures c.word-in-TW-2.ensures

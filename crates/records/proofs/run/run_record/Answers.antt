@@ -1,0 +1,14 @@
+-- `run::run_record` meets its contract: the table that the edit leaves, and a line if it was declined.
+use Rattle.records.specs.laws.Running.{line_done, line_declined}
+use Rattle.edits.specs.laws.Rules.{answer_in, answers_in}
+use mathlib.Core.Path.{ap}
+use Rattle.records.proofs.run.run_record.Goals as goal
+
+pub returns-in-Faces : goal.returns-in-Faces
+returns-in-Faces c = (c.apply.ensures.1, line_done _ _ _ (answers_in _ _ c.apply.ensures.0) _ (ap answer_in c.enum_told-1.given.1))
+
+pub returns-in-ByRule : goal.returns-in-ByRule
+returns-in-ByRule c = (c.apply.ensures.1, line_done _ _ _ (answers_in _ _ c.apply.ensures.0) _ (ap answer_in c.enum_told-in-ByRule-1.given.1))
+
+pub returns-in-Refused : goal.returns-in-Refused
+returns-in-Refused c = (c.apply.ensures.1, line_declined _ _ _ (answers_in _ _ c.apply.ensures.0) (ap answer_in c.r-1.given.1) c.number_of.ensures c.no_line.ensures)

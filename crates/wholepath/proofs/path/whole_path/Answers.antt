@@ -1,0 +1,14 @@
+-- `path::whole_path` meets its contract: the refusal of the step, or what the path from it gives.
+use Rattle.wholepath.specs.laws.WholePath.{path_refused, path_left}
+use Rattle.weave.specs.laws.Calls.{there_steps}
+use mathlib.Core.Path.{sym, ◌∙◌}
+use Rattle.wholepath.proofs.path.whole_path.Goals as goal
+
+pub path_from-requires : goal.path_from-requires
+path_from-requires c = (there_steps _ _ _ (sym c.n-in-There-1.given.1 ∙ c.named_step-n.ensures)).stands
+
+pub returns-in-Refused : goal.returns-in-Refused
+returns-in-Refused c = path_refused _ _ _ _ _ _ c.named_step-n.ensures c.n-1.given.1
+
+pub returns-in-There : goal.returns-in-There
+returns-in-There c = path_left _ _ _ _ _ _ c.named_step-n.ensures c.n-in-There-1.given.1 c.path_from.ensures

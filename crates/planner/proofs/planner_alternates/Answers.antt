@@ -5,4 +5,4 @@ use mathlib.Core.Path.{◌∙◌, ap}
 use Rattle.planner.proofs.planner_alternates.Goals as goal
 
 pub returns : goal.returns
-returns c = handed_on c.code.type-inv (c.code.ensures ∙ ap code_of c.alternates.ensures)
+returns c = handed_on c.code.type_inv (c.code.ensures ∙ ap code_of c.alternates.ensures)

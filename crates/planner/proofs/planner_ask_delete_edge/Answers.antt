@@ -9,4 +9,4 @@ pub asked_code-requires : goal.asked_code-requires
 asked_code-requires c = asked_numbered _ _ _ refl c.ask_delete_edge.ensures
 
 pub returns : goal.returns
-returns c = handed_on c.asked_code.type-inv (c.asked_code.ensures ∙ ap asked_code c.ask_delete_edge.ensures)
+returns c = handed_on c.asked_code.type_inv (c.asked_code.ensures ∙ ap asked_code c.ask_delete_edge.ensures)

@@ -11,4 +11,4 @@ asked_code-requires c = asked_numbered _ _ _ refl c.ask_insert_edge.ensures
 
 pub returns : goal.returns
 returns c = let asked = asked_insertion _ _ _ _ c.args.k c.args.strip c.ranges.k c.ask_insert_edge.ensures in
-    handed_on c.asked_code.type-inv (c.asked_code.ensures ∙ ap asked_code asked)
+    handed_on c.asked_code.type_inv (c.asked_code.ensures ∙ ap asked_code asked)

@@ -5,4 +5,4 @@ use mathlib.Core.Path.{◌∙◌, ap}
 use Rattle.planner.proofs.planner_check.Goals as goal
 
 pub returns : goal.returns
-returns c = handed_on c.code.type-inv (c.code.ensures ∙ ap code_of c.check.ensures)
+returns c = handed_on c.code.type_inv (c.code.ensures ∙ ap code_of c.check.ensures)

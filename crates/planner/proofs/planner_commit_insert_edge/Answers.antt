@@ -12,4 +12,4 @@ use Rattle.planner.proofs.planner_commit_insert_edge.Goals as goal
 pub returns : goal.returns
 returns c = let read = c.forecast_in.ensures ∙ ap forecast_in (to_z-of_z {w = w64} c.ranges.forecast) in
     let q = same_commit _ _ _ (ap (λ z. InsertEdge c.args.e c.args.c1 c.args.c2 z c.args.strip) (to_z-of_z {w = w16} c.ranges.k)) read c.commit_insert_edge.ensures in
-    (handed_on c.reply_code.type-inv (c.reply_code.ensures ∙ ap reply_code q.0), q.1)
+    (handed_on c.reply_code.type_inv (c.reply_code.ensures ∙ ap reply_code q.0), q.1)

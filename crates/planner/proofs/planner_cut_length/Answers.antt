@@ -5,4 +5,4 @@ use mathlib.Core.Path.{◌∙◌, ap}
 use Rattle.planner.proofs.planner_cut_length.Goals as goal
 
 pub returns : goal.returns
-returns c = handed_on c.code.type-inv (c.code.ensures ∙ ap code_of c.cut_length.ensures)
+returns c = handed_on c.code.type_inv (c.code.ensures ∙ ap code_of c.cut_length.ensures)

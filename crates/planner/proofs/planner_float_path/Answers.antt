@@ -5,4 +5,4 @@ use mathlib.Core.Path.{◌∙◌, ap}
 use Rattle.planner.proofs.planner_float_path.Goals as goal
 
 pub returns : goal.returns
-returns c = (handed_on c.code.type-inv (c.code.ensures ∙ ap code_of c.float_path.ensures.0), c.float_path.ensures.1, c.float_path.ensures.2)
+returns c = (handed_on c.code.type_inv (c.code.ensures ∙ ap code_of c.float_path.ensures.0), c.float_path.ensures.1, c.float_path.ensures.2)

@@ -7,4 +7,4 @@ use Rattle.planner.proofs.planner_insert_edge.Goals as goal
 
 pub returns : goal.returns
 returns c = let q = same_insertion _ _ _ _ c.args.e c.args.c1 c.args.c2 c.args.k c.args.strip c.ranges.k refl c.insert_edge.ensures in
-    (handed_on c.reply_code.type-inv (c.reply_code.ensures ∙ ap reply_code q.0), q.1)
+    (handed_on c.reply_code.type_inv (c.reply_code.ensures ∙ ap reply_code q.0), q.1)

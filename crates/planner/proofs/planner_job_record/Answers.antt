@@ -8,4 +8,4 @@ use Rattle.planner.proofs.planner_job_record.Goals as goal
 
 pub returns : goal.returns
 returns c = let q = handed_call c.args.name c.args.c1 c.args.c2 c.args.k c.args.strip c.args.out.now c.ranges.k (mark_of c.args.mark) c.job_record.ensures in
-    (handed_on c.code.type-inv (c.code.ensures ∙ ap code_of q.0), q.1)
+    (handed_on c.code.type_inv (c.code.ensures ∙ ap code_of q.0), q.1)

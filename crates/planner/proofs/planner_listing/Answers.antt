@@ -5,4 +5,4 @@ use Rattle.table.specs.laws.Answers.{handed_on}
 use Rattle.planner.proofs.planner_listing.Goals as goal
 
 pub returns : goal.returns
-returns c = (handed_on c.code.type-inv (c.code.ensures ∙ ap code_of c.list.ensures.0), c.list.ensures.1)
+returns c = (handed_on c.code.type_inv (c.code.ensures ∙ ap code_of c.list.ensures.0), c.list.ensures.1)

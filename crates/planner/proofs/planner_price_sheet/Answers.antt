@@ -10,4 +10,4 @@ pub quote_code-requires : goal.quote_code-requires
 quote_code-requires c = quote_payable _ _ _ _ (omega arith) (omega arith) c.price_sheet.ensures.0
 
 pub returns : goal.returns
-returns c = (handed_on c.quote_code.type-inv (c.quote_code.ensures ∙ ap quote_code c.price_sheet.ensures.0), c.price_sheet.ensures.1)
+returns c = (handed_on c.quote_code.type_inv (c.quote_code.ensures ∙ ap quote_code c.price_sheet.ensures.0), c.price_sheet.ensures.1)

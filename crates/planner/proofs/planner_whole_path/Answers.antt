@@ -5,4 +5,4 @@ use mathlib.Core.Path.{◌∙◌, ap}
 use Rattle.planner.proofs.planner_whole_path.Goals as goal
 
 pub returns : goal.returns
-returns c = (handed_on c.code.type-inv (c.code.ensures ∙ ap code_of c.whole_path.ensures.0), c.whole_path.ensures.1, c.whole_path.ensures.2, c.whole_path.ensures.3)
+returns c = (handed_on c.code.type_inv (c.code.ensures ∙ ap code_of c.whole_path.ensures.0), c.whole_path.ensures.1, c.whole_path.ensures.2, c.whole_path.ensures.3)

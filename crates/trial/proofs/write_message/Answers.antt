@@ -8,16 +8,16 @@ use Rattle.trial.proofs.write_message.Goals as goal
 
 pub returns-in-Usage : goal.returns-in-Usage
 unfolding message
-returns-in-Usage c = laid_as (laid_pasted (omega arith) c.bytes.ensures) (sym (ap message c.enum_told-1.given.1))
+returns-in-Usage c = laid_as (laid_pasted (omega arith) c.bytes.ensures) (sym (ap message c.in-Usage.is))
 
 pub returns-in-BadStart : goal.returns-in-BadStart
 unfolding message decimal digits_by
-returns-in-BadStart c = laid_as (laid_pasted (omega arith) c.bytes-in-BadStart.ensures) (sym (ap message c.enum_told-in-BadStart-1.given.1))
+returns-in-BadStart c = laid_as (laid_pasted (omega arith) c.bytes-in-BadStart.ensures) (sym (ap message c.in-BadStart.is))
 
 pub returns-in-BadEdges : goal.returns-in-BadEdges
 unfolding message decimal digits_by
-returns-in-BadEdges c = laid_as (laid_pasted (omega arith) c.bytes-in-BadEdges.ensures) (sym (ap message c.enum_told-in-BadEdges-1.given.1))
+returns-in-BadEdges c = laid_as (laid_pasted (omega arith) c.bytes-in-BadEdges.ensures) (sym (ap message c.in-BadEdges.is))
 
 pub returns-in-Job : goal.returns-in-Job
 unfolding message
-returns-in-Job c = laid_none _ _ (ap message c.enum_told-in-Job-1.given.1)
+returns-in-Job c = laid_none _ _ (ap message c.in-Job.is)

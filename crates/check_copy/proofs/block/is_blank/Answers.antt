@@ -17,7 +17,7 @@ read-all-requires c = (omega arith, omega arith)
 
 pub loop-i-preserved : goal.loop-i-preserved
 loop-i-preserved c = let w = get_or c.args.t.now (c.args.from + c.loop-i.i) 0 in
-    let fits = c.shared_slice_known-1.given (c.args.from + c.loop-i.i) in
+    let fits = c.type_inv.t (c.args.from + c.loop-i.i) in
     let less = and_le_l c.loop-i.all c.read-all.result in (
       omega arith,
       omega arith,

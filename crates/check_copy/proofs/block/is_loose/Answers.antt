@@ -16,7 +16,7 @@ read-all-requires c = (omega arith, omega arith)
 
 pub loop-i-preserved : goal.loop-i-preserved
 loop-i-preserved c = let w = vertex_word c.args.t.now (32 * c.args.b + c.loop-i.i) in
-    let fits = c.shared_slice_known-1.given (7168 + (32 * c.args.b + c.loop-i.i)) in
+    let fits = c.type_inv.t (7168 + (32 * c.args.b + c.loop-i.i)) in
     let less = and_le_l c.loop-i.all c.read-all.result in
     let less-2 = and_le_r c.loop-i.all c.read-all.result in (
       omega arith,

@@ -27,8 +27,8 @@ live_in-requires c = let few = going_most 448 (block_most _) c.loop-b.invariant.
 pub returns-in-Broken : goal.returns-in-Broken
 returns-in-Broken c = let idle = told_is (not-true _ c.if-not-is_idle.true) c.is_idle.ensures in
     (
-      block_broken _ _ (omega arith) c.live_in.ensures.0 c.enum_told-1.given.1,
-      going_stops c.loop-b.invariant.2 (block_fails c.args.t.now c.loop-b.b c.loop-b.invariant.1 c.live_in.ensures.0 c.enum_told-1.given.1) 32 (omega arith) (block_read c.args.t.now c.loop-b.b idle c.live_in.ensures.1),
+      block_broken _ _ (omega arith) c.live_in.ensures.0 c.in-Broken.is,
+      going_stops c.loop-b.invariant.2 (block_fails c.args.t.now c.loop-b.b c.loop-b.invariant.1 c.live_in.ensures.0 c.in-Broken.is) 32 (omega arith) (block_read c.args.t.now c.loop-b.b idle c.live_in.ensures.1),
     )
 
 pub loop-b-preserved : goal.loop-b-preserved

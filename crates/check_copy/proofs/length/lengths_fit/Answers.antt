@@ -22,7 +22,7 @@ pub overflow_cast-odd : goal.overflow_cast-odd
 overflow_cast-odd c = tt
 
 pub loop-e-preserved : goal.loop-e-preserved
-loop-e-preserved c = let fits = c.shared_slice_known-1.given (length_at + c.loop-e.e) in
+loop-e-preserved c = let fits = c.type_inv.t (length_at + c.loop-e.e) in
     let same : unfit c.read-w.result c.read-l.result ≡ unfit (edge_word c.args.t.now c.loop-e.e) (length_word c.args.t.now c.loop-e.e) = ap₂ unfit c.read-w.ensures.0 c.read-l.ensures.0 in (
       omega arith,
       omega arith,

@@ -26,8 +26,8 @@ led_in-requires c = let few = going_most 65632 (vertex_block_crude _) c.loop-b.i
 
 pub returns-in-Broken : goal.returns-in-Broken
 returns-in-Broken c = let tight = case_no c.is_loose.ensures.0 (not-true _ c.if-not-is_loose.true) in (
-      block_broken _ _ (omega arith) c.led_in.ensures.0 c.enum_told-1.given.1,
-      going_stops c.loop-b.invariant.2 (block_fails c.args.t.now c.requires.1 c.loop-b.b (omega arith) c.loop-b.invariant.1 c.led_in.ensures.0 c.enum_told-1.given.1) 16 (omega arith)
+      block_broken _ _ (omega arith) c.led_in.ensures.0 c.in-Broken.is,
+      going_stops c.loop-b.invariant.2 (block_fails c.args.t.now c.requires.1 c.loop-b.b (omega arith) c.loop-b.invariant.1 c.led_in.ensures.0 c.in-Broken.is) 16 (omega arith)
           (block_read c.args.t.now c.requires.1 c.loop-b.b (omega arith) _ tight c.is_loose.ensures.1 c.led_in.ensures.1),
     )
 

@@ -9,7 +9,7 @@ pub read-d-requires : goal.read-d-requires
 read-d-requires c = (omega (arith, c.requires.2.low), omega arith)
 
 pub overflow_cast-d : goal.overflow_cast-d
-overflow_cast-d c = let fits = c.shared_slice_known-1.given c.args.w in
+overflow_cast-d c = let fits = c.type_inv.t c.args.w in
     omega arith
 
 pub loop-d-init : goal.loop-d-init
@@ -24,7 +24,7 @@ read-d-requires-in-loop-d c = let short = round_short _ c.requires.1 _ c.require
     (omega (arith, c.requires.0, c.loop-d.invariant.0.live.low), omega arith)
 
 pub overflow_cast-d-in-loop-d : goal.overflow_cast-d-in-loop-d
-overflow_cast-d-in-loop-d c = let fits = c.shared_slice_known-1.given c.loop-d.d in
+overflow_cast-d-in-loop-d c = let fits = c.type_inv.t c.loop-d.d in
     omega arith
 
 pub overflow_add-n : goal.overflow_add-n

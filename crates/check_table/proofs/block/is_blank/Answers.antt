@@ -14,7 +14,7 @@ loop-i-init c = (omega arith, omega arith, together_none refl)
 
 pub loop-i-preserved : goal.loop-i-preserved
 loop-i-preserved c = let w = get_or c.args.t.now (c.args.from + c.loop-i.i) 0 in
-    let fits = c.shared_slice_known-1.given (c.args.from + c.loop-i.i) in
+    let fits = c.type_inv.t (c.args.from + c.loop-i.i) in
     let less = and_le_l c.loop-i.all w in
     (omega arith, omega arith, together_more c.loop-i.invariant.2 (and_nothing c.loop-i.all w c.loop-i.invariant.1 (omega arith)) (λ p q. rw (p, q) (and_self nothing)))
 

@@ -13,7 +13,7 @@ loop-i-init c = (omega arith, omega arith, together_none (omega arith))
 
 pub loop-i-preserved : goal.loop-i-preserved
 loop-i-preserved c = let w = vertex_word c.args.t.now (32 * c.args.b + c.loop-i.i) in
-    let fits = c.shared_slice_known-1.given (7168 + (32 * c.args.b + c.loop-i.i)) in
+    let fits = c.type_inv.t (7168 + (32 * c.args.b + c.loop-i.i)) in
     let less = and_le_l c.loop-i.all w in
     let less-2 = and_le_r c.loop-i.all w in
     (omega arith, omega arith, together_more c.loop-i.invariant.2 (λ h. (omega arith, (omega arith, omega arith))) (λ p q. and_isolated c.loop-i.all w c.loop-i.invariant.1 (omega arith) p q.0))

@@ -18,7 +18,7 @@ pub live_in-requires : goal.live_in-requires
 live_in-requires c = (c.requires, omega arith, c.loop-b.invariant.1)
 
 pub returns-in-Broken : goal.returns-in-Broken
-returns-in-Broken c = block_broken _ _ (omega arith) c.live_in.ensures c.enum_told-1.given.1
+returns-in-Broken c = block_broken _ _ (omega arith) c.live_in.ensures c.in-Broken.is
 
 pub loop-b-preserved : goal.loop-b-preserved
 loop-b-preserved c = let e : 64 * (c.loop-b.b + 1) ≡ 64 * c.loop-b.b + 64 = omega arith in

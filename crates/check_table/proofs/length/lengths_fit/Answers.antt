@@ -16,7 +16,7 @@ pub overflow_cast-odd : goal.overflow_cast-odd
 overflow_cast-odd c = tt
 
 pub loop-e-preserved : goal.loop-e-preserved
-loop-e-preserved c = let fits = c.shared_slice_known-in-loop-e-1.given (length_at + c.loop-e.e) in (
+loop-e-preserved c = let fits = c.type_inv.t (length_at + c.loop-e.e) in (
       omega arith,
       together_more c.loop-e.invariant.1 (λ z. let p = or_zero _ _ z in (p.0, unfit_none c.args.t.now c.loop-e.e (omega arith) p.1))
           (λ p q. rw (p, none_unfit c.args.t.now c.loop-e.e q) (or_zero_l 0)),

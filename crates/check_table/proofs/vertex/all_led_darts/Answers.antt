@@ -18,7 +18,7 @@ pub led_in-requires : goal.led_in-requires
 led_in-requires c = (c.requires.0, c.requires.1, omega arith, c.loop-b.invariant.1)
 
 pub returns-in-Broken : goal.returns-in-Broken
-returns-in-Broken c = block_broken _ _ (omega arith) c.led_in.ensures c.enum_told-1.given.1
+returns-in-Broken c = block_broken _ _ (omega arith) c.led_in.ensures c.in-Broken.is
 
 pub loop-b-preserved : goal.loop-b-preserved
 loop-b-preserved c = let e : 32 * (c.loop-b.b + 1) ≡ 32 * c.loop-b.b + 32 = omega arith in

@@ -12,7 +12,7 @@ pub bounds-t-w : goal.bounds-t-w
 bounds-t-w c = omega (arith, c.requires.0, c.requires.2.low)
 
 pub overflow_cast-d : goal.overflow_cast-d
-overflow_cast-d c = Fits-16_64 (c.shared_slice_known-1.given _)
+overflow_cast-d c = Fits-16_64 (c.type_inv.t _)
 
 pub loop-d-init : goal.loop-d-init
 loop-d-init c = round_none _ c.requires.1 _ c.requires.2
@@ -27,7 +27,7 @@ pub bounds-t-d : goal.bounds-t-d
 bounds-t-d c = omega (arith, c.requires.0, c.loop-d.invariant.live.low)
 
 pub overflow_cast-d-in-loop-d : goal.overflow_cast-d-in-loop-d
-overflow_cast-d-in-loop-d c = Fits-16_64 (c.shared_slice_known-in-loop-d-1.given _)
+overflow_cast-d-in-loop-d c = Fits-16_64 (c.type_inv.t _)
 
 pub overflow_add-n : goal.overflow_add-n
 overflow_add-n c = let h = round_short _ c.requires.1 _ c.requires.2 _ _ c.loop-d.invariant c.loop-d-test.true in omega (arith, h)

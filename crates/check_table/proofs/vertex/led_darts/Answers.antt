@@ -11,13 +11,13 @@ pub returns-then-word-2 : goal.returns-then-word-2
 returns-then-word-2 c = vertex_alone _ c.requires.1 _ c.if-word-2.true
 
 pub overflow_cast-w : goal.overflow_cast-w
-overflow_cast-w c = Fits-16_64 (c.shared_slice_known-2-1.given _)
+overflow_cast-w c = Fits-16_64 (c.type_inv.t _)
 
 pub returns-then-w-ge-DARTS : goal.returns-then-w-ge-DARTS
 returns-then-w-ge-DARTS c = vertex_astray _ c.requires.1 _ c.if-word.false c.if-word-2.false (λ a. let low = a.live.low in omega arith)
 
 pub overflow_cast-t : goal.overflow_cast-t
-overflow_cast-t c = Fits-16_64 (c.shared_slice_known-3-1.given _)
+overflow_cast-t c = Fits-16_64 (c.type_inv.t _)
 
 pub returns-then-t-w : goal.returns-then-t-w
 returns-then-t-w c = vertex_astray _ c.requires.1 _ c.if-word.false c.if-word-2.false (λ a. c.if-t-w.true a.here)

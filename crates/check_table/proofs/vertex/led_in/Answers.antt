@@ -13,15 +13,15 @@ pub led_darts-requires : goal.led_darts-requires
 led_darts-requires c = (c.requires.0, c.requires.1, omega arith)
 
 pub returns-in-Broken : goal.returns-in-Broken
-returns-in-Broken c = summed_broken _ _ _ (omega arith) (counts_broken c.led_darts.ensures c.enum_told-1.given.1)
+returns-in-Broken c = summed_broken _ _ _ (omega arith) (counts_broken c.led_darts.ensures c.in-Broken.is)
 
 pub overflow_add-led : goal.overflow_add-led
-overflow_add-led c = let k = counts_of_lem _ c.led_darts.ensures c.k-1.given.1 in
+overflow_add-led c = let k = counts_of_lem _ c.led_darts.ensures c.in-Of.is in
     let few = summed_few _ _ _ (summed_more _ _ _ _ c.loop-v.invariant.1 (omega arith) k.1 k.0) in
     omega arith
 
 pub loop-v-preserved : goal.loop-v-preserved
-loop-v-preserved c = let k = counts_of_lem _ c.led_darts.ensures c.k-1.given.1 in
+loop-v-preserved c = let k = counts_of_lem _ c.led_darts.ensures c.in-Of.is in
     (omega arith, summed_more _ _ _ _ c.loop-v.invariant.1 (omega arith) k.1 k.0)
 
 pub returns : goal.returns

@@ -5,18 +5,18 @@ use mathlib.Core.Path.{refl}
 use Rattle.edits_do.proofs.apply.apply.Goals as goal
 
 pub returns-in-AddVertex : goal.returns-in-AddVertex
-returns-in-AddVertex c = same_edit _ _ _ _ _ c.edit-1.given.1 (faces_alone _ _ refl c.add_vertex.ensures.0 c.without_rule.ensures, c.add_vertex.ensures.1)
+returns-in-AddVertex c = same_edit _ _ _ _ _ c.in-AddVertex.is (faces_alone _ _ refl c.add_vertex.ensures.0 c.without_rule.ensures, c.add_vertex.ensures.1)
 
 pub returns-in-RemoveVertex : goal.returns-in-RemoveVertex
-returns-in-RemoveVertex c = same_edit _ _ _ _ _ c.edit-in-RemoveVertex-1.given.1 (faces_alone _ _ refl c.remove_vertex.ensures.0 c.without_rule-in-RemoveVertex.ensures, c.remove_vertex.ensures.1)
+returns-in-RemoveVertex c = same_edit _ _ _ _ _ c.in-RemoveVertex.is (faces_alone _ _ refl c.remove_vertex.ensures.0 c.without_rule-in-RemoveVertex.ensures, c.remove_vertex.ensures.1)
 
 pub returns-in-InsertEdge : goal.returns-in-InsertEdge
-returns-in-InsertEdge c = same_insertion _ _ _ _ c.edit-in-InsertEdge-1.given.0.0 c.edit-in-InsertEdge-1.given.0.1.0 c.edit-in-InsertEdge-1.given.0.1.1.0 c.edit-in-InsertEdge-1.given.0.1.1.1.0 c.edit-in-InsertEdge-1.given.0.1.1.1.1.0
-    (record { sfits = c.known_told-in-InsertEdge-1.given.1.1.1.0.1 }) c.edit-in-InsertEdge-1.given.1 c.insert_edge.ensures
+returns-in-InsertEdge c = same_insertion _ _ _ _ c.in-InsertEdge.edge c.in-InsertEdge.first c.in-InsertEdge.second c.in-InsertEdge.turns c.in-InsertEdge.length
+    (record { sfits = c.known_told-in-InsertEdge-1.given.1.1.1.0.1 }) c.in-InsertEdge.is c.insert_edge.ensures
 
 pub returns-in-DeleteEdge : goal.returns-in-DeleteEdge
-returns-in-DeleteEdge c = same_edit _ _ _ _ _ c.edit-in-DeleteEdge-1.given.1 c.delete_edge.ensures
+returns-in-DeleteEdge c = same_edit _ _ _ _ _ c.in-DeleteEdge.is c.delete_edge.ensures
 
 pub returns-in-TurnEdge : goal.returns-in-TurnEdge
-returns-in-TurnEdge c = same_turn _ _ _ _ c.edit-in-TurnEdge-1.given.0.0 c.edit-in-TurnEdge-1.given.0.1.0 (record { sfits = c.known_told-in-TurnEdge-1.given.1.0.1 }) c.edit-in-TurnEdge-1.given.1
+returns-in-TurnEdge c = same_turn _ _ _ _ c.in-TurnEdge.edge c.in-TurnEdge.amount (record { sfits = c.known_told-in-TurnEdge-1.given.1.0.1 }) c.in-TurnEdge.is
     c.turn_edge.ensures

@@ -8,17 +8,17 @@ use Rattle.edits.specs.laws.Verdicts.{may_remove}
 use Rattle.edits_do.proofs.vertex.remove_vertex.Goals as goal
 
 pub bounds-t-v : goal.bounds-t-v
-bounds-t-v c = let m = may_remove _ _ (sym c.remove_verdict.ensures ∙ c.enum_told-1.given.1) in
+bounds-t-v c = let m = may_remove _ _ (sym c.remove_verdict.ensures ∙ c.in-Passes.is) in
     let size = m.good.size in
     let low = m.low in
     omega arith
 
 pub face_count-requires : goal.face_count-requires
-face_count-requires c = remove_good _ _ (may_remove _ _ (sym c.remove_verdict.ensures ∙ c.enum_told-1.given.1))
+face_count-requires c = remove_good _ _ (may_remove _ _ (sym c.remove_verdict.ensures ∙ c.in-Passes.is))
 
 pub returns-in-Declines : goal.returns-in-Declines
-returns-in-Declines c = was_declined c.args.t.now (RemoveVertex c.args.v) _ (sym c.remove_verdict.ensures ∙ c.r-1.given.1)
+returns-in-Declines c = was_declined c.args.t.now (RemoveVertex c.args.v) _ (sym c.remove_verdict.ensures ∙ c.in-Declines.is)
 
 pub returns-in-Passes : goal.returns-in-Passes
-returns-in-Passes c = went_through c.args.t.now (RemoveVertex c.args.v) _ _ (sym c.remove_verdict.ensures ∙ c.enum_told-1.given.1) refl
+returns-in-Passes c = went_through c.args.t.now (RemoveVertex c.args.v) _ _ (sym c.remove_verdict.ensures ∙ c.in-Passes.is) refl
     c.face_count.ensures

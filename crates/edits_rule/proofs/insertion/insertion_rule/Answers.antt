@@ -8,4 +8,4 @@ use Rattle.edits_rule.proofs.insertion.insertion_rule.Goals as goal
 pub returns-in-OtherType : goal.returns-in-OtherType
 returns-in-OtherType c = c.within_a_face-in-OtherType.ensures
     ∙ ap rule_for (one_more c.args.odd c.requires)
-    ∙ ap (λ m. rule_for (insertion m c.args.odd)) (sym c.enum_told-in-OtherType-1.given.1)
+    ∙ ap (λ m. rule_for (insertion m c.args.odd)) (sym c.in-OtherType.is)

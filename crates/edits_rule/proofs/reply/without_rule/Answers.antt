@@ -5,7 +5,7 @@ use mathlib.Core.Path.{sym, ap}
 use Rattle.edits_rule.proofs.reply.without_rule.Goals as goal
 
 pub returns-in-Done : goal.returns-in-Done
-returns-in-Done c = sym (ap (λ a. with_rule a none) c.a-1.given.1)
+returns-in-Done c = sym (ap (λ a. with_rule a none) c.in-Done.is)
 
 pub returns-in-Declined : goal.returns-in-Declined
-returns-in-Declined c = sym (ap (λ a. with_rule a none) c.a-in-Declined-1.given.1)
+returns-in-Declined c = sym (ap (λ a. with_rule a none) c.in-Declined.is)

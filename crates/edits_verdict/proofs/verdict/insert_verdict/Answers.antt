@@ -6,10 +6,10 @@ use mathlib.Core.Path.{refl, sym, ◌∙◌, ap}
 use Rattle.edits_verdict.proofs.verdict.insert_verdict.Goals as goal
 
 pub returns-in-Declines : goal.returns-in-Declines
-returns-in-Declines c = then_declines _ (sym c.new_edge.ensures ∙ c.r-1.given.1)
+returns-in-Declines c = then_declines _ (sym c.new_edge.ensures ∙ c.in-Declines.is)
 
 pub returns-in-Passes : goal.returns-in-Passes
-returns-in-Passes c = then_passes (sym c.new_edge.ensures ∙ c.enum_told-1.given.1)
+returns-in-Passes c = then_passes (sym c.new_edge.ensures ∙ c.in-Passes.is)
     (c.strip_for.ensures
     ∙ ap (λ v. and_then v (fair_length c.args.length))
     (room_is 100 c.args.k (amount_on 100 c.args.k c.ranges.k c.turned_word.ensures) refl ∙ ap few_turns (hundred c.args.k)))

@@ -6,10 +6,10 @@ use native.Mathlib.Omega.{arith}
 use Rattle.edits_write.proofs.splice.link.Goals as goal
 
 pub overflow_cast-p : goal.overflow_cast-p
-overflow_cast-p c = Fits-16_64 (c.slice_known-then-c-lt-DARTS-1.given _)
+overflow_cast-p c = Fits-16_64 (c.type_inv.t _)
 
 pub overflow_cast-v : goal.overflow_cast-v
-overflow_cast-v c = Fits-16_64 (c.slice_known-then-c-lt-DARTS-2-1.given _)
+overflow_cast-v c = Fits-16_64 (c.type_inv.t _)
 
 pub overflow_add-v-then-c-lt-DARTS : goal.overflow_add-v-then-c-lt-DARTS
 overflow_add-v-then-c-lt-DARTS c = let v = c.requires.leaves_low c.if-c-lt-DARTS.true in omega arith

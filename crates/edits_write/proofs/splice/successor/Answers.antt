@@ -16,7 +16,7 @@ pub bounds-t-d : goal.bounds-t-d
 bounds-t-d c = omega (arith, c.requires.0)
 
 pub overflow_cast-t : goal.overflow_cast-t
-overflow_cast-t c = Fits-16_64 (c.shared_slice_known-1.given _)
+overflow_cast-t c = Fits-16_64 (c.type_inv.t _)
 
 pub returns-then-t-d : goal.returns-then-t-d
 returns-then-t-d c = simp (eq-eqb _ _ c.if-w-x.false) (seeking_here _ _ _ _ c.loop-d.invariant c.loop-d-test.true c.if-t-d.true)

@@ -5,10 +5,10 @@ use mathlib.Core.Path.{sym, ◌∙◌}
 use Rattle.floatpath.proofs.path.float_path.Goals as goal
 
 pub path_from-requires : goal.path_from-requires
-path_from-requires c = (there_steps _ _ _ (sym c.n-in-There-1.given.1 ∙ c.named_step-n.ensures)).stands
+path_from-requires c = (there_steps _ _ _ (sym c.in-There.is ∙ c.named_step-n.ensures)).stands
 
 pub returns-in-Refused : goal.returns-in-Refused
-returns-in-Refused c = path_refused _ _ _ _ _ _ _ c.named_step-n.ensures c.n-1.given.1
+returns-in-Refused c = path_refused _ _ _ _ _ _ _ c.named_step-n.ensures c.in-Refused.is
 
 pub returns-in-There : goal.returns-in-There
-returns-in-There c = path_left _ _ _ _ _ _ _ c.named_step-n.ensures c.n-in-There-1.given.1 c.path_from.ensures
+returns-in-There c = path_left _ _ _ _ _ _ _ c.named_step-n.ensures c.in-There.is c.path_from.ensures

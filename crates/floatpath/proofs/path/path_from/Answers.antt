@@ -4,10 +4,10 @@ use mathlib.Core.Path.{sym, ◌∙◌}
 use Rattle.floatpath.proofs.path.path_from.Goals as goal
 
 pub write_path-requires : goal.write_path-requires
-write_path-requires c = along_room c.requires _ _ _ _ (sym c.a-in-Done-1.given.1 ∙ c.path_size-a.ensures)
+write_path-requires c = along_room c.requires _ _ _ _ (sym c.in-Done.is ∙ c.path_size-a.ensures)
 
 pub returns-in-Declined : goal.returns-in-Declined
-returns-in-Declined c = left_declined c.path_size-a.ensures c.a-1.given.1
+returns-in-Declined c = left_declined c.path_size-a.ensures c.in-Declined.is
 
 pub returns-in-Done : goal.returns-in-Done
-returns-in-Done c = left_done c.path_size-a.ensures c.a-in-Done-1.given.1 c.write_path.ensures.0 c.write_path.ensures.1
+returns-in-Done c = left_done c.path_size-a.ensures c.in-Done.is c.write_path.ensures.0 c.write_path.ensures.1

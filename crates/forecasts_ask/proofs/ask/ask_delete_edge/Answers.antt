@@ -8,17 +8,17 @@ use mathlib.Core.Option.{some}
 use Rattle.forecasts_ask.proofs.ask.ask_delete_edge.Goals as goal
 
 pub delete_rule-ruling-requires : goal.delete_rule-ruling-requires
-delete_rule-ruling-requires c = delete_edge (may_delete _ _ (sym c.delete_verdict.ensures ∙ c.enum_told-1.given.1))
+delete_rule-ruling-requires c = delete_edge (may_delete _ _ (sym c.delete_verdict.ensures ∙ c.in-Passes.is))
 
 pub foretell-requires : goal.foretell-requires
-foretell-requires c = let passes = sym c.delete_verdict.ensures ∙ c.enum_told-1.given.1 in
+foretell-requires c = let passes = sym c.delete_verdict.ensures ∙ c.in-Passes.is in
     rule_allows c.args.t.now (DeleteEdge c.args.e) passes (ap some (sym c.delete_rule-ruling.ensures.1)) c.delete_rule-ruling.ensures.0
     (may_delete _ _ passes).good
 
 pub returns-in-Declines : goal.returns-in-Declines
-returns-in-Declines c = was_refused c.args.t.now (DeleteEdge c.args.e) _ (sym c.delete_verdict.ensures ∙ c.r-1.given.1)
+returns-in-Declines c = was_refused c.args.t.now (DeleteEdge c.args.e) _ (sym c.delete_verdict.ensures ∙ c.in-Declines.is)
 
 pub returns-in-Passes : goal.returns-in-Passes
-returns-in-Passes c = let passes = sym c.delete_verdict.ensures ∙ c.enum_told-1.given.1 in
+returns-in-Passes c = let passes = sym c.delete_verdict.ensures ∙ c.in-Passes.is in
     was_foretold c.args.t.now (DeleteEdge c.args.e) passes (ap some (sym c.delete_rule-ruling.ensures.1)) c.delete_rule-ruling.ensures.0
     c.foretell.ensures

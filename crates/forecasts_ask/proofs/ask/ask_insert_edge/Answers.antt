@@ -8,20 +8,20 @@ use Rattle.forecasts_ask.specs.laws.Ask.{was_refused, was_foretold}
 use Rattle.forecasts_ask.proofs.ask.ask_insert_edge.Goals as goal
 
 pub insert_rule-ruling-requires : goal.insert_rule-ruling-requires
-insert_rule-ruling-requires c = insert_corners (may_insert c.args.t.now _ _ _ c.args.k c.args.length (insert_on c.args.t.now _ _ _ c.args.k c.args.length c.ranges.k c.insert_verdict.ensures c.enum_told-1.given.1))
+insert_rule-ruling-requires c = insert_corners (may_insert c.args.t.now _ _ _ c.args.k c.args.length (insert_on c.args.t.now _ _ _ c.args.k c.args.length c.ranges.k c.insert_verdict.ensures c.in-Passes.is))
 
 pub foretell-requires : goal.foretell-requires
-foretell-requires c = let passes = insert_on c.args.t.now _ _ _ c.args.k c.args.length c.ranges.k c.insert_verdict.ensures c.enum_told-1.given.1 in
+foretell-requires c = let passes = insert_on c.args.t.now _ _ _ c.args.k c.args.length c.ranges.k c.insert_verdict.ensures c.in-Passes.is in
     let m = may_insert c.args.t.now _ _ _ c.args.k c.args.length passes in
     rule_allows c.args.t.now (InsertEdge c.args.e c.args.c1 c.args.c2 c.args.k c.args.length) passes
     (insert_met m (amount_on 100 c.args.k c.ranges.k c.turned_word-w.ensures) c.insert_rule-ruling.ensures.1) c.insert_rule-ruling.ensures.0 m.good
 
 pub returns-in-Declines : goal.returns-in-Declines
 returns-in-Declines c = was_refused c.args.t.now (InsertEdge c.args.e c.args.c1 c.args.c2 c.args.k c.args.length) _
-    (insert_on c.args.t.now _ _ _ c.args.k c.args.length c.ranges.k c.insert_verdict.ensures c.r-1.given.1)
+    (insert_on c.args.t.now _ _ _ c.args.k c.args.length c.ranges.k c.insert_verdict.ensures c.in-Declines.is)
 
 pub returns-in-Passes : goal.returns-in-Passes
 returns-in-Passes c = let w = amount_on 100 c.args.k c.ranges.k c.turned_word-w.ensures in
-    let passes = insert_on c.args.t.now _ _ _ c.args.k c.args.length c.ranges.k c.insert_verdict.ensures c.enum_told-1.given.1 in
+    let passes = insert_on c.args.t.now _ _ _ c.args.k c.args.length c.ranges.k c.insert_verdict.ensures c.in-Passes.is in
     was_foretold c.args.t.now (InsertEdge c.args.e c.args.c1 c.args.c2 c.args.k c.args.length) passes
     (insert_met (may_insert c.args.t.now _ _ _ c.args.k c.args.length passes) w c.insert_rule-ruling.ensures.1) c.insert_rule-ruling.ensures.0 c.foretell.ensures

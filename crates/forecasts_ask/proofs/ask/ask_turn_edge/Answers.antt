@@ -10,26 +10,26 @@ use native.Mathlib.Omega.{arith}
 use Rattle.forecasts_ask.proofs.ask.ask_turn_edge.Goals as goal
 
 pub bounds-t-e : goal.bounds-t-e
-bounds-t-e c = let passes = turn_on c.args.t.now _ c.args.amount c.ranges.amount c.turn_verdict.ensures c.enum_told-1.given.1 in
+bounds-t-e c = let passes = turn_on c.args.t.now _ c.args.amount c.ranges.amount c.turn_verdict.ensures c.in-Passes.is in
     let m = may_turn _ _ c.args.amount passes in
     let size = m.good.size in
     let low = m.low in
     omega arith
 
 pub turn_rule-ruling-requires : goal.turn_rule-ruling-requires
-turn_rule-ruling-requires c = turn_edge (may_turn c.args.t.now _ c.args.amount (turn_on c.args.t.now _ c.args.amount c.ranges.amount c.turn_verdict.ensures c.enum_told-1.given.1))
+turn_rule-ruling-requires c = turn_edge (may_turn c.args.t.now _ c.args.amount (turn_on c.args.t.now _ c.args.amount c.ranges.amount c.turn_verdict.ensures c.in-Passes.is))
 
 pub foretell-requires : goal.foretell-requires
-foretell-requires c = let passes = turn_on c.args.t.now _ c.args.amount c.ranges.amount c.turn_verdict.ensures c.enum_told-1.given.1 in
+foretell-requires c = let passes = turn_on c.args.t.now _ c.args.amount c.ranges.amount c.turn_verdict.ensures c.in-Passes.is in
     let m = may_turn c.args.t.now _ c.args.amount passes in
     rule_allows c.args.t.now (TurnEdge c.args.e c.args.amount) passes
     (turn_met m (amount_on (edge_word c.args.t.now c.args.e) c.args.amount c.ranges.amount c.turned_word-w.ensures) c.turn_rule-ruling.ensures.1) c.turn_rule-ruling.ensures.0 m.good
 
 pub returns-in-Declines : goal.returns-in-Declines
-returns-in-Declines c = was_refused c.args.t.now (TurnEdge c.args.e c.args.amount) _ (turn_on c.args.t.now _ c.args.amount c.ranges.amount c.turn_verdict.ensures c.r-1.given.1)
+returns-in-Declines c = was_refused c.args.t.now (TurnEdge c.args.e c.args.amount) _ (turn_on c.args.t.now _ c.args.amount c.ranges.amount c.turn_verdict.ensures c.in-Declines.is)
 
 pub returns-in-Passes : goal.returns-in-Passes
 returns-in-Passes c = let w = amount_on (edge_word c.args.t.now c.args.e) c.args.amount c.ranges.amount c.turned_word-w.ensures in
-    let passes = turn_on c.args.t.now _ c.args.amount c.ranges.amount c.turn_verdict.ensures c.enum_told-1.given.1 in
+    let passes = turn_on c.args.t.now _ c.args.amount c.ranges.amount c.turn_verdict.ensures c.in-Passes.is in
     was_foretold c.args.t.now (TurnEdge c.args.e c.args.amount) passes
     (turn_met (may_turn c.args.t.now _ c.args.amount passes) w c.turn_rule-ruling.ensures.1) c.turn_rule-ruling.ensures.0 c.foretell.ensures

@@ -9,14 +9,14 @@ use Rattle.forecasts_commit.proofs.commit.commit_delete_edge.Goals as goal
 pub delete-requires : goal.delete-requires
 delete-requires c = let edit = DeleteEdge c.args.e in
     let judged = judges c.args.t.now edit c.args.forecast c.ask_delete_edge.ensures c.commit_verdict.ensures in
-    may_delete_ready _ _ (may_delete _ _ (may_edit c.args.t.now edit c.args.forecast (sym judged ∙ c.enum_told-1.given.1)))
+    may_delete_ready _ _ (may_delete _ _ (may_edit c.args.t.now edit c.args.forecast (sym judged ∙ c.in-Passes.is)))
 
 pub returns-in-Declines : goal.returns-in-Declines
 returns-in-Declines c = let edit = DeleteEdge c.args.e in
     let judged = judges c.args.t.now edit c.args.forecast c.ask_delete_edge.ensures c.commit_verdict.ensures in
-    was_refused c.args.t.now edit c.args.forecast _ (sym judged ∙ c.r-1.given.1)
+    was_refused c.args.t.now edit c.args.forecast _ (sym judged ∙ c.in-Declines.is)
 
 pub returns-in-Passes : goal.returns-in-Passes
 returns-in-Passes c = let edit = DeleteEdge c.args.e in
     let judged = judges c.args.t.now edit c.args.forecast c.ask_delete_edge.ensures c.commit_verdict.ensures in
-    was_done c.args.t.now edit c.args.forecast refl (sym judged ∙ c.enum_told-1.given.1) c.told.ensures c.delete.ensures
+    was_done c.args.t.now edit c.args.forecast refl (sym judged ∙ c.in-Passes.is) c.told.ensures c.delete.ensures

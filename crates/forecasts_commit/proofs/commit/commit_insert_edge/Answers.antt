@@ -12,16 +12,16 @@ use Rattle.forecasts_commit.proofs.commit.commit_insert_edge.Goals as goal
 pub insert-requires : goal.insert-requires
 insert-requires c = let edit = InsertEdge c.args.e c.args.c1 c.args.c2 c.args.k c.args.length in
     let judged = judges c.args.t.now edit c.args.forecast (asked_insertion c.args.t.now _ _ _ c.args.k c.args.length c.ranges.k c.ask_insert_edge.ensures) c.commit_verdict.ensures in
-    may_insert_ready c.args.t.now _ _ _ c.args.k c.args.length (may_insert c.args.t.now _ _ _ c.args.k c.args.length (may_edit c.args.t.now edit c.args.forecast (sym judged ∙ c.enum_told-1.given.1)))
+    may_insert_ready c.args.t.now _ _ _ c.args.k c.args.length (may_insert c.args.t.now _ _ _ c.args.k c.args.length (may_edit c.args.t.now edit c.args.forecast (sym judged ∙ c.in-Passes.is)))
 
 pub returns-in-Declines : goal.returns-in-Declines
 returns-in-Declines c = let edit = InsertEdge c.args.e c.args.c1 c.args.c2 c.args.k c.args.length in
     let judged = judges c.args.t.now edit c.args.forecast (asked_insertion c.args.t.now _ _ _ c.args.k c.args.length c.ranges.k c.ask_insert_edge.ensures) c.commit_verdict.ensures in
-    was_refused c.args.t.now edit c.args.forecast _ (sym judged ∙ c.r-1.given.1)
+    was_refused c.args.t.now edit c.args.forecast _ (sym judged ∙ c.in-Declines.is)
 
 pub returns-in-Passes : goal.returns-in-Passes
 returns-in-Passes c = let edit = InsertEdge c.args.e c.args.c1 c.args.c2 c.args.k c.args.length in
     let judged = judges c.args.t.now edit c.args.forecast (asked_insertion c.args.t.now _ _ _ c.args.k c.args.length c.ranges.k c.ask_insert_edge.ensures) c.commit_verdict.ensures in
     let w = amount_on 100 c.args.k c.ranges.k c.turned_word-w.ensures in
-    was_done c.args.t.now edit c.args.forecast refl (sym judged ∙ c.enum_told-1.given.1) c.told.ensures
+    was_done c.args.t.now edit c.args.forecast refl (sym judged ∙ c.in-Passes.is) c.told.ensures
     (c.insert.ensures ∙ ap (λ x. inserted c.args.t.now c.args.e c.args.c1 c.args.c2 x c.args.length) w)

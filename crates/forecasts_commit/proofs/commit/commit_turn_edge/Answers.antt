@@ -13,7 +13,7 @@ use Rattle.forecasts_commit.proofs.commit.commit_turn_edge.Goals as goal
 pub bounds-t-e : goal.bounds-t-e
 bounds-t-e c = let edit = TurnEdge c.args.e c.args.amount in
     let judged = judges c.args.t.now edit c.args.forecast (asked_turn c.args.t.now _ c.args.amount c.ranges.amount c.ask_turn_edge.ensures) c.commit_verdict.ensures in
-    let m = may_turn c.args.t.now _ c.args.amount (may_edit c.args.t.now edit c.args.forecast (sym judged ∙ c.enum_told-1.given.1)) in
+    let m = may_turn c.args.t.now _ c.args.amount (may_edit c.args.t.now edit c.args.forecast (sym judged ∙ c.in-Passes.is)) in
     let size = m.good.size in
     let low = m.low in
     omega arith
@@ -21,7 +21,7 @@ bounds-t-e c = let edit = TurnEdge c.args.e c.args.amount in
 pub bounds-t-e-in-Passes : goal.bounds-t-e-in-Passes
 bounds-t-e-in-Passes c = let edit = TurnEdge c.args.e c.args.amount in
     let judged = judges c.args.t.now edit c.args.forecast (asked_turn c.args.t.now _ c.args.amount c.ranges.amount c.ask_turn_edge.ensures) c.commit_verdict.ensures in
-    let m = may_turn c.args.t.now _ c.args.amount (may_edit c.args.t.now edit c.args.forecast (sym judged ∙ c.enum_told-1.given.1)) in
+    let m = may_turn c.args.t.now _ c.args.amount (may_edit c.args.t.now edit c.args.forecast (sym judged ∙ c.in-Passes.is)) in
     let size = m.good.size in
     let low = m.low in
     omega arith
@@ -29,10 +29,10 @@ bounds-t-e-in-Passes c = let edit = TurnEdge c.args.e c.args.amount in
 pub returns-in-Declines : goal.returns-in-Declines
 returns-in-Declines c = let edit = TurnEdge c.args.e c.args.amount in
     let judged = judges c.args.t.now edit c.args.forecast (asked_turn c.args.t.now _ c.args.amount c.ranges.amount c.ask_turn_edge.ensures) c.commit_verdict.ensures in
-    was_refused c.args.t.now edit c.args.forecast _ (sym judged ∙ c.r-1.given.1)
+    was_refused c.args.t.now edit c.args.forecast _ (sym judged ∙ c.in-Declines.is)
 
 pub returns-in-Passes : goal.returns-in-Passes
 returns-in-Passes c = let edit = TurnEdge c.args.e c.args.amount in
     let judged = judges c.args.t.now edit c.args.forecast (asked_turn c.args.t.now _ c.args.amount c.ranges.amount c.ask_turn_edge.ensures) c.commit_verdict.ensures in
     let w = amount_on (edge_word c.args.t.now c.args.e) c.args.amount c.ranges.amount c.turned_word-w.ensures in
-    was_done c.args.t.now edit c.args.forecast refl (sym judged ∙ c.enum_told-1.given.1) c.told.ensures (ap (set_edge c.args.t.now c.args.e) w)
+    was_done c.args.t.now edit c.args.forecast refl (sym judged ∙ c.in-Passes.is) c.told.ensures (ap (set_edge c.args.t.now c.args.e) w)

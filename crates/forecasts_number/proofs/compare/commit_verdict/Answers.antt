@@ -9,11 +9,11 @@ use Rattle.forecasts_number.proofs.compare.commit_verdict.Goals as goal
 
 pub returns-then-not-same_three : goal.returns-then-not-same_three
 returns-then-not-same_three c = let same = sym c.same_three.ensures ∙ not-true _ c.if-not-same_three.true in
-    ap (λ b. unless b (Declines StaleForecast) Passes) (sym same) ∙ sym (ap (on_asked c.args.forecast) c.asked-in-Foretold-1.given.1)
+    ap (λ b. unless b (Declines StaleForecast) Passes) (sym same) ∙ sym (ap (on_asked c.args.forecast) c.in-Foretold.is)
 
 pub returns-in-Refused : goal.returns-in-Refused
-returns-in-Refused c = sym (ap (on_asked c.args.forecast) c.asked-1.given.1)
+returns-in-Refused c = sym (ap (on_asked c.args.forecast) c.in-Refused.is)
 
 pub returns-else-not-same_three : goal.returns-else-not-same_three
 returns-else-not-same_three c = let same = sym c.same_three.ensures ∙ not-false _ c.if-not-same_three.false in
-    ap (λ b. unless b (Declines StaleForecast) Passes) (sym same) ∙ sym (ap (on_asked c.args.forecast) c.asked-in-Foretold-1.given.1)
+    ap (λ b. unless b (Declines StaleForecast) Passes) (sym same) ∙ sym (ap (on_asked c.args.forecast) c.in-Foretold.is)

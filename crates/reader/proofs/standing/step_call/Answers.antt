@@ -3,4 +3,4 @@ use Rattle.reader.specs.laws.Standing.{called_on}
 use Rattle.reader.proofs.standing.step_call.Goals as goal
 
 pub returns : goal.returns
-returns c = called_on _ _ _ c.code-number.type-inv c.code-number.ensures c.step_from-s.ensures
+returns c = called_on _ _ _ c.code-number.type_inv c.code-number.ensures c.step_from-s.ensures

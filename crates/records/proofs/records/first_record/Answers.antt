@@ -10,7 +10,7 @@ pub returns-then-n-eq1 : goal.returns-then-n-eq1
 returns-then-n-eq1 c = first_lone _ c.if-n-eq0.false c.if-n-eq1.true
 
 pub returns-in-Known : goal.returns-in-Known
-returns-in-Known c = first_marked _ c.if-n-eq0.false c.if-n-eq1.false c.word.ensures c.mark_of.ensures c.m-1.given.1 c.known_record.ensures
+returns-in-Known c = first_marked _ c.if-n-eq0.false c.if-n-eq1.false c.word.ensures c.mark_of.ensures c.in-Known.is c.known_record.ensures
 
 pub returns-in-Unknown : goal.returns-in-Unknown
-returns-in-Unknown c = first_marked _ c.if-n-eq0.false c.if-n-eq1.false c.word.ensures c.mark_of.ensures c.enum_told-1.given.1 refl
+returns-in-Unknown c = first_marked _ c.if-n-eq0.false c.if-n-eq1.false c.word.ensures c.mark_of.ensures c.in-Unknown.is refl

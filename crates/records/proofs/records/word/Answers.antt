@@ -4,13 +4,13 @@ use Prim.Native.Nat.{◌+◌}
 use Rattle.records.proofs.records.word.Goals as goal
 
 pub overflow_cast-high : goal.overflow_cast-high
-overflow_cast-high c = let high = c.shared_slice_known-1.given c.args.i in omega arith
+overflow_cast-high c = let high = c.type_inv.s c.args.i in omega arith
 
 pub overflow_cast-low : goal.overflow_cast-low
-overflow_cast-low c = let high = c.shared_slice_known-1.given c.args.i in let low = c.shared_slice_known-2-1.given (c.args.i + 1) in omega arith
+overflow_cast-low c = let high = c.type_inv.s c.args.i in let low = c.type_inv.s (c.args.i + 1) in omega arith
 
 pub overflow_mul-result : goal.overflow_mul-result
-overflow_mul-result c = let high = c.shared_slice_known-1.given c.args.i in let low = c.shared_slice_known-2-1.given (c.args.i + 1) in omega arith
+overflow_mul-result c = let high = c.type_inv.s c.args.i in let low = c.type_inv.s (c.args.i + 1) in omega arith
 
 pub overflow_add-result : goal.overflow_add-result
-overflow_add-result c = let high = c.shared_slice_known-1.given c.args.i in let low = c.shared_slice_known-2-1.given (c.args.i + 1) in omega arith
+overflow_add-result c = let high = c.type_inv.s c.args.i in let low = c.type_inv.s (c.args.i + 1) in omega arith

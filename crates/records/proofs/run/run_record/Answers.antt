@@ -5,10 +5,10 @@ use mathlib.Core.Path.{ap}
 use Rattle.records.proofs.run.run_record.Goals as goal
 
 pub returns-in-Faces : goal.returns-in-Faces
-returns-in-Faces c = (c.apply.ensures.1, line_done _ _ _ (answers_in _ _ c.apply.ensures.0) _ (ap answer_in c.enum_told-1.given.1))
+returns-in-Faces c = (c.apply.ensures.1, line_done _ _ _ (answers_in _ _ c.apply.ensures.0) _ (ap answer_in c.in-Faces.is))
 
 pub returns-in-ByRule : goal.returns-in-ByRule
-returns-in-ByRule c = (c.apply.ensures.1, line_done _ _ _ (answers_in _ _ c.apply.ensures.0) _ (ap answer_in c.enum_told-in-ByRule-1.given.1))
+returns-in-ByRule c = (c.apply.ensures.1, line_done _ _ _ (answers_in _ _ c.apply.ensures.0) _ (ap answer_in c.in-ByRule.is))
 
 pub returns-in-Refused : goal.returns-in-Refused
-returns-in-Refused c = (c.apply.ensures.1, line_declined _ _ _ (answers_in _ _ c.apply.ensures.0) (ap answer_in c.r-1.given.1) c.number_of.ensures c.no_line.ensures)
+returns-in-Refused c = (c.apply.ensures.1, line_declined _ _ _ (answers_in _ _ c.apply.ensures.0) (ap answer_in c.in-Refused.is) c.number_of.ensures c.no_line.ensures)

@@ -14,19 +14,19 @@ pub slice_bounds-first_record-start : goal.slice_bounds-first_record-start
 slice_bounds-first_record-start c = omega arith
 
 pub run_record-end-requires : goal.run_record-end-requires
-run_record-end-requires c = (running_within c.loop-edit.invariant c.first_record.ensures c.edit-1.given.1).place
+run_record-end-requires c = (running_within c.loop-edit.invariant c.first_record.ensures c.in-Record.is).place
 
 pub overflow_add-at : goal.overflow_add-at
-overflow_add-at c = let w = running_within c.loop-edit.invariant c.first_record.ensures c.edit-1.given.1 in omega arith
+overflow_add-at c = let w = running_within c.loop-edit.invariant c.first_record.ensures c.in-Record.is in omega arith
 
 pub overflow_add-next : goal.overflow_add-next
-overflow_add-next c = let w = running_within c.loop-edit.invariant c.first_record.ensures c.edit-1.given.1 in omega arith
+overflow_add-next c = let w = running_within c.loop-edit.invariant c.first_record.ensures c.in-Record.is in omega arith
 
 pub loop-edit-smaller : goal.loop-edit-smaller
-loop-edit-smaller c = let w = running_within c.loop-edit.invariant c.first_record.ensures c.edit-1.given.1 in omega arith
+loop-edit-smaller c = let w = running_within c.loop-edit.invariant c.first_record.ensures c.in-Record.is in omega arith
 
 pub loop-edit-preserved : goal.loop-edit-preserved
-loop-edit-preserved c = running_more c.loop-edit.invariant c.first_record.ensures c.edit-1.given.1 c.run_record-end.ensures.0 c.run_record-end.auto.0 c.run_record-end.ensures.1
+loop-edit-preserved c = running_more c.loop-edit.invariant c.first_record.ensures c.in-Record.is c.run_record-end.ensures.0 c.run_record-end.auto.0 c.run_record-end.ensures.1
 
 pub shape_of-t-in-Stopped : goal.shape_of-t-in-Stopped
 shape_of-t-in-Stopped c = c.loop-edit.invariant.size
@@ -35,4 +35,4 @@ pub shape_of-out-in-Stopped : goal.shape_of-out-in-Stopped
 shape_of-out-in-Stopped c = running_size c.loop-edit.invariant
 
 pub returns-in-Stopped : goal.returns-in-Stopped
-returns-in-Stopped c = running_stopped c.loop-edit.invariant c.first_record.ensures c.stop-1.given.1
+returns-in-Stopped c = running_stopped c.loop-edit.invariant c.first_record.ensures c.in-Stopped.is

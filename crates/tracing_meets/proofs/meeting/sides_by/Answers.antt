@@ -5,10 +5,10 @@ use Rattle.tracing.specs.laws.Sides.{sides_met}
 use Rattle.tracing_meets.proofs.meeting.sides_by.Goals as goal
 
 pub returns-in-Apart : goal.returns-in-Apart
-returns-in-Apart c = ap (λ m. sides_met m c.args.odd) (sym c.enum_told-1.given.1)
+returns-in-Apart c = ap (λ m. sides_met m c.args.odd) (sym c.in-Apart.is)
 
 pub returns-in-SameType : goal.returns-in-SameType
-returns-in-SameType c = c.within_a_face.ensures ∙ ap (λ m. sides_met m c.args.odd) (sym c.enum_told-in-SameType-1.given.1)
+returns-in-SameType c = c.within_a_face.ensures ∙ ap (λ m. sides_met m c.args.odd) (sym c.in-SameType.is)
 
 pub returns-in-OtherType : goal.returns-in-OtherType
-returns-in-OtherType c = c.within_a_face-in-OtherType.ensures ∙ one_more c.args.odd c.requires ∙ ap (λ m. sides_met m c.args.odd) (sym c.enum_told-in-OtherType-1.given.1)
+returns-in-OtherType c = c.within_a_face-in-OtherType.ensures ∙ one_more c.args.odd c.requires ∙ ap (λ m. sides_met m c.args.odd) (sym c.in-OtherType.is)

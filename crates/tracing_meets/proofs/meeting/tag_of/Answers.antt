@@ -10,7 +10,7 @@ pub bounds-tags-c : goal.bounds-tags-c
 bounds-tags-c c = let low = c.requires.1 c.if-c-ge-LONE.false in omega arith
 
 pub overflow_cast-result-3 : goal.overflow_cast-result-3
-overflow_cast-result-3 c = let known = c.shared_slice_known-1.given c.args.c in omega arith
+overflow_cast-result-3 c = let known = c.type_inv.tags c.args.c in omega arith
 
 pub returns : goal.returns
 returns c = read_dart _ _ c.if-c-ge-LONE.false

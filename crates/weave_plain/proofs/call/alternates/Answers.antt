@@ -4,10 +4,10 @@ use Rattle.weave.specs.laws.Calls.{there_steps, alternates_refused, alternates_d
 use Rattle.weave_plain.proofs.call.alternates.Goals as goal
 
 pub is_alternating-requires : goal.is_alternating-requires
-is_alternating-requires c = (there_steps _ _ _ (sym c.n-in-There-1.given.1 ∙ c.named_step-n.ensures)).stands
+is_alternating-requires c = (there_steps _ _ _ (sym c.in-There.is ∙ c.named_step-n.ensures)).stands
 
 pub returns-in-Refused : goal.returns-in-Refused
-returns-in-Refused c = alternates_refused _ _ _ c.named_step-n.ensures c.n-1.given.1
+returns-in-Refused c = alternates_refused _ _ _ c.named_step-n.ensures c.in-Refused.is
 
 pub returns-in-There : goal.returns-in-There
-returns-in-There c = alternates_done _ _ _ c.named_step-n.ensures c.n-in-There-1.given.1 c.is_alternating.ensures
+returns-in-There c = alternates_done _ _ _ c.named_step-n.ensures c.in-There.is c.is_alternating.ensures

@@ -3,4 +3,4 @@ use Rattle.wholepath_pieces.specs.laws.Pieces.{zeros}
 use Rattle.wholepath_pieces.proofs.piece.spot_of.Goals as goal
 
 pub returns-in-Close : goal.returns-in-Close
-returns-in-Close c = zeros c.enum_told-1.given.1
+returns-in-Close c = zeros c.in-Close.is

@@ -1,3 +1,4 @@
 // What a program reads in the bytes of its arguments.
 #![tactic(auto)]
+
 pub mod number;

@@ -1,5 +1,6 @@
 // The step that a call names; the letters of one step, and of a whole ribbon.
 #![tactic(auto)]
+
 pub mod call;
 pub mod letter;
 pub mod named;

@@ -12,7 +12,7 @@
 use Rattle.std.specs.Prelude.{ℕ, suc, ◌+◌, ◌*◌, ◌<◌, ◌≤◌, ◌≡◌, refl, false, ◌≢◌, ℤ, Float, length, set}
 use Rattle.std.proofs.Common.{arith, zero-add, add-one, sym, ◌∙◌, length-append}
 use Rattle.std.proofs.Math.Path.{ap}
-use mathlib.Core.List.{List, [], ◌∷◌, ◌++◌, map, map_append, flat_map}
+use mathlib.Core.List.{List, [], ◌∷◌, ◌++◌, map, map-append, flat_map}
 use Rattle.std.proofs.lemmas.List.{length-map}
 use Rattle.std.proofs.lemmas.List.Edits.{sets}
 use Rattle.std.proofs.Math.Seq.{length-sets}
@@ -149,7 +149,7 @@ module _ {t : List ℕ} {points lifts : List ℤ} {s at n : ℕ} {forms₀ : Lis
     before_more : pieces_before t points lifts s n ++ (p ∷ []) ≡ pieces_before t points lifts s (n + 1)
     before_more =
         let f = step (rotation t) in
-        sym (rw (add-one, run_suc, k.walking.along.here, map_append (piece_on t points lifts) (iterates f s n) (at ∷ []), q))
+        sym (rw (add-one, run_suc, k.walking.along.here, map-append (piece_on t points lifts) (iterates f s n) (at ∷ []), q))
 
     forms_more : forms' ≡ sets forms₀ 0 (flat_map forms_of (pieces_before t points lifts s (n + 1)))
     forms_more =

@@ -10,7 +10,6 @@ use Rattle.std.specs.Prelude.{ℕ, zero, suc, ◌+◌, ◌-◌, ◌≤◌, ◌<�
 use Rattle.std.proofs.Common.{arith, zero-add, suc-add, sym, ◌∙◌, ap, ap₂, length-append, length-drop, length-take-le}
 use Rattle.std.proofs.lemmas.List.Edits.{sets}
 use Rattle.std.proofs.Math.Seq.{length-sets, take-nil, drop-nil}
-use Rattle.std.proofs.lemmas.Bool.{not-true, not-false}
 use Rattle.orbits.specs.laws.Truth.{clash, truth, holds, fails}
 use Rattle.table.specs.Good.{Good}
 use Rattle.text.specs.laws.Paste.{front_text}
@@ -59,15 +58,15 @@ module _ (number n : ℕ) (t buf out : List ℕ) (e : length buf ≡ 4096) (l : 
 
 -- whether more is read
 
-pub goes_failed : (fine : Bool) (new : ℕ) (stop : Stop) → not fine ≡ true → false ≡ goes_on fine new stop
-goes_failed fine new stop e = rw (not-true fine e)
+pub goes_failed : (fine : Bool) (new : ℕ) (stop : Stop) → fine ≡ false → false ≡ goes_on fine new stop
+goes_failed fine new stop e = rw e
 
-pub goes_ended : (fine : Bool) {new : ℕ} (stop : Stop) → not fine ≡ false → new ≡ 0 → false ≡ goes_on fine new stop
-goes_ended fine stop e z = rw (not-false fine e, z)
+pub goes_ended : (fine : Bool) {new : ℕ} (stop : Stop) → fine ≡ true → new ≡ 0 → false ≡ goes_on fine new stop
+goes_ended fine stop e z = rw (e, z)
 
-pub goes_more : (fine : Bool) (new : ℕ) (stop : Stop) {r : Bool} → not fine ≡ false → new ≢ 0 → r ≡ reads_on stop → r ≡ goes_on fine new stop
+pub goes_more : (fine : Bool) (new : ℕ) (stop : Stop) {r : Bool} → fine ≡ true → new ≢ 0 → r ≡ reads_on stop → r ≡ goes_on fine new stop
 goes_more fine zero stop e z h = absurd (z refl)
-goes_more fine (suc new) stop e z h = rw (not-false fine e) h
+goes_more fine (suc new) stop e z h = rw e h
 
 goes_reads : (fine : Bool) (new : ℕ) (stop : Stop) → goes_on fine new stop ≡ true → reads_on stop ≡ true
 goes_reads false new stop e = absurd (clash e refl)

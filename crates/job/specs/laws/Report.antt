@@ -9,7 +9,6 @@ use Rattle.std.proofs.Common.{arith, sym, ◌∙◌, ap, length-take-le, eq-eqb}
 use Rattle.std.proofs.Math.ListN.{length, length-append}
 use Rattle.std.proofs.lemmas.List.Edits.{sets}
 use Rattle.std.proofs.Math.Seq.{length-sets}
-use Rattle.std.proofs.lemmas.Bool.{not-false}
 use Rattle.orbits.specs.laws.Truth.{clash}
 use Rattle.table.specs.Layout.{words}
 use Rattle.table.specs.Good.{Good}
@@ -166,6 +165,6 @@ module _ (t₁ : List ℕ) {t₀ : List ℕ} (h : length t₁ ≡ words) (s : t�
       pub ended_line : Ended empty_table t (record { fine = false; came = p.came; read = p.read; printed = p.printed + line })
       ended_line = ended (omega arith) (λ e. absurd (clash e refl))
 
-      pub ended_whole : {lines : ℕ} {fine : Bool} → not p.fine ≡ false → (fine ≡ true → lines ≡ length (report t)) → lines ≤ length (report t)
+      pub ended_whole : {lines : ℕ} {fine : Bool} → p.fine ≡ true → (fine ≡ true → lines ≡ length (report t)) → lines ≤ length (report t)
           → Ended empty_table t (record { fine = fine; came = p.came; read = p.read; printed = p.printed + line + lines })
-      ended_whole f b m = ended (omega arith) (λ e. let rest = b e in (omega arith, not-false p.fine f))
+      ended_whole f b m = ended (omega arith) (λ e. let rest = b e in (omega arith, f))

@@ -11,7 +11,7 @@
 --     ending_none, ending_at, ending_more, ending_all                it begins, is ready, goes on, ends
 use Rattle.std.specs.Prelude.{ℕ, suc, ◌+◌, ◌-◌, ◌*◌, ◌<◌, ◌≤◌, ◌^◌, ◌≡◌, refl, List, [], ◌∷◌, ◌++◌, map, ◌≢◌, length}
 use Rattle.std.proofs.Common.{arith, add-one, add-zero, sym, ◌∙◌, ap, ap₂, append-nil, append_assoc, length-append, lt-ltb, le-ltb}
-use Rattle.std.proofs.lemmas.List.{map_append, length-map}
+use Rattle.std.proofs.lemmas.List.{map-append, length-map}
 use Rattle.orbits.specs.laws.Truth.{false_unless}
 use Rattle.table.specs.Layout.{vertices, darts, isolated, vertex_word, lone_at}
 use Rattle.table.specs.Good.{Good}
@@ -262,7 +262,7 @@ ending_more {t} {first = first} {v = v} {i = i} k h p =
     rw (
       add-one,
       alones_suc R v,
-      map_append lone_corner (alones R v) (lone R v),
+      map-append lone_corner (alones R v) (lone R v),
       numbered_append (walk_line t) first (map lone_corner (alones R v)) (map lone_corner (lone R v)),
       size,
       ← k.index,

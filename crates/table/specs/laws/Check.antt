@@ -1,7 +1,6 @@
 -- Whether a table is good is decided: `good?` is the Boolean, and it is true exactly if the table is good.
-use Rattle.std.specs.Prelude.{ℕ, ◌≡◌, refl, Bool, true, false, not, List}
+use Rattle.std.specs.Prelude.{ℕ, ◌≡◌, refl, Bool, true, false, List}
 use Rattle.std.proofs.Common.{sym, ◌∙◌}
-use Rattle.std.proofs.lemmas.Bool.{not-true, not-false}
 use Rattle.table.specs.Good.{Good}
 use Rattle.table.specs.laws.Rotation.{Case, case_yes, case_says, case_denies, holds, fails}
 use Rattle.table.specs.laws.Decided.{good_dec}
@@ -23,10 +22,10 @@ module _ (t : List ℕ) where
   good_no n = sym (case_denies (good_case t) n)
 
 -- what an answer of the test tells
-pub seen_good : (t : List ℕ) {b : Bool} → b ≡ good? t → not b ≡ false → (good? t ≡ true) × Good t
-seen_good t {b} e s =
-    let g : good? t ≡ true = sym e ∙ not-false b s in
+pub seen_good : (t : List ℕ) {b : Bool} → b ≡ good? t → b ≡ true → (good? t ≡ true) × Good t
+seen_good t e s =
+    let g : good? t ≡ true = sym e ∙ s in
     (g, case_yes (good_case t) g)
 
-pub seen_torn : (t : List ℕ) {b : Bool} → b ≡ good? t → not b ≡ true → good? t ≡ false
-seen_torn t {b} e s = sym e ∙ not-true b s
+pub seen_torn : (t : List ℕ) {b : Bool} → b ≡ good? t → b ≡ false → good? t ≡ false
+seen_torn t e s = sym e ∙ s

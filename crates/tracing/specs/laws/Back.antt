@@ -7,7 +7,7 @@ use Prim.Native.Nat.{ℕ, zero, suc, ◌<◌}
 use Rattle.std.specs.Prelude.{◌≡◌}
 use Rattle.std.proofs.Math.Path.{refl, sym, ap}
 use Rattle.std.proofs.Common.{◌∙◌}
-use mathlib.Core.List.{[], ◌∷◌, ◌++◌, map, reverse, reverse-append, map_append}
+use mathlib.Core.List.{[], ◌∷◌, ◌++◌, map, reverse, reverse-append, map-append}
 use Rattle.orbits.specs.Iterate.{iter}
 use Rattle.orbits.specs.laws.Iterate.{iter_zero, iter_suc, iter_step, iter_low, iter_inj, Period}
 use Rattle.table.specs.Rotation.{Rotation, Lawful}
@@ -58,7 +58,7 @@ module _ (R : Rotation) (L : Lawful R) where
       let from : mirror R (iter f (suc n) s) ≡ back R x = ap (mirror R) (iter_suc f n s) ∙ mirror_step R L x in
       let next : f (back R x) ≡ mirror R x = ap f (sym (mirror_step R L x)) ∙ step_mirror x in
       let behind : reverse (map (back R) (iterates f s n ++ (x ∷ []))) ≡ back R x ∷ reverse (map (back R) (iterates f s n)) =
-      ap reverse (map_append (back R) (iterates f s n) (x ∷ [])) ∙ reverse-append (map (back R) (iterates f s n)) (back R x ∷ []) in
+      ap reverse (map-append (back R) (iterates f s n) (x ∷ [])) ∙ reverse-append (map (back R) (iterates f s n)) (back R x ∷ []) in
       ap (λ y. iterates f y (suc n)) from ∙ run_first f (back R x) n ∙ ap (λ y. back R x ∷ iterates f y n) next
       ∙ ap (λ l. back R x ∷ l) (run_back s n) ∙ sym behind
 

@@ -13,7 +13,7 @@
 --     listed_parts, walks_room, lones_room                           both together are the listing; there is room for both
 use Rattle.std.specs.Prelude.{ℕ, zero, suc, ◌+◌, ◌-◌, ◌*◌, ◌<◌, ◌≤◌, ◌≡◌, refl, List, [], ◌∷◌, ◌++◌, map, ◌≢◌, length, set}
 use Rattle.std.proofs.Common.{arith, add-one, zero-add, ◌∙◌, ap, length-append, length-set}
-use Rattle.std.proofs.lemmas.List.{map_append}
+use Rattle.std.proofs.lemmas.List.{map-append}
 use Rattle.std.proofs.lemmas.List.Edits.{sets}
 use Rattle.std.proofs.Math.Seq.{length-sets}
 use Rattle.table.specs.Layout.{vertices, darts, isolated, vertex_word, lone_at}
@@ -153,7 +153,7 @@ walks_text_suc R d = rw (starts_suc R d) (gather_append (walk_text R) (starts R 
 
 lones_text_suc : (R : Rotation) (v : ℕ) → lones_text R (suc v) ≡ lones_text R v ++ gather (walk_text R) (map lone_corner (lone R v))
 lones_text_suc R v =
-    rw (alones_suc R v, map_append lone_corner (alones R v) (lone R v))
+    rw (alones_suc R v, map-append lone_corner (alones R v) (lone R v))
     (gather_append (walk_text R) (map lone_corner (alones R v)) (map lone_corner (lone R v)))
 
 listing_parts : (R : Rotation) → listing R ≡ walks_text R darts ++ lones_text R vertices

@@ -15,10 +15,10 @@ read-any-requires c = (omega arith, omega arith)
 
 pub loop-i-preserved : goal.loop-i-preserved
 loop-i-preserved c = (
-      omega arith,
-      omega arith,
-      together_more c.loop-i.invariant.2 (λ p. let z = or_zero _ _ p in (z.0, sym c.read-any.ensures.0 ∙ z.1)) (λ p q. rw (p, c.read-any.ensures.0 ∙ q) (or_zero_l 0)),
-    )
+  omega arith,
+  omega arith,
+  together_more c.loop-i.invariant.2 (λ p. let z = or_zero _ _ p in (z.0, sym c.read-any.ensures.0 ∙ z.1)) (λ p q. rw (p, c.read-any.ensures.0 ∙ q) (or_zero_l 0)),
+)
 
 pub returns : goal.returns
 returns c = let end : c.loop-i.i ≡ 32 = omega arith in

@@ -2,23 +2,22 @@
 use Rattle.check_reads.specs.laws.Tests.{told_fails, told_goes, told_end}
 use Rattle.check_reads.specs.laws.Darts.{dead_case, blank_case}
 use Rattle.table.specs.laws.Rotation.{case_no, case_yes, case_says, case_denies, same_case}
-use borrow.Author.Tests.{not-true, not-false}
 use Rattle.check_copy.proofs.block.is_idle.Goals as goal
 
 pub returns-then-not-is_dead : goal.returns-then-not-is_dead
-returns-then-not-is_dead c = told_fails c.is_dead.ensures.1 (case_denies (dead_case _ _) (case_no c.is_dead.ensures.0 (not-true _ c.if-not-is_dead.true)))
+returns-then-not-is_dead c = told_fails c.is_dead.ensures.1 (case_denies (dead_case _ _) (case_no c.is_dead.ensures.0 c.if-not-is_dead.true))
 
 pub returns-then-not-is_blank : goal.returns-then-not-is_blank
-returns-then-not-is_blank c = told_goes c.is_dead.ensures.1 (case_says (dead_case _ _) (case_yes c.is_dead.ensures.0 (not-false _ c.if-not-is_dead.false)))
-    (told_fails c.is_blank.ensures.1 (case_denies (blank_case _ _) (case_no c.is_blank.ensures.0 (not-true _ c.if-not-is_blank.true))))
+returns-then-not-is_blank c = told_goes c.is_dead.ensures.1 (case_says (dead_case _ _) (case_yes c.is_dead.ensures.0 c.if-not-is_dead.false))
+    (told_fails c.is_blank.ensures.1 (case_denies (blank_case _ _) (case_no c.is_blank.ensures.0 c.if-not-is_blank.true)))
 
 pub returns-then-not-is_blank-2 : goal.returns-then-not-is_blank-2
-returns-then-not-is_blank-2 c = told_goes c.is_dead.ensures.1 (case_says (dead_case _ _) (case_yes c.is_dead.ensures.0 (not-false _ c.if-not-is_dead.false)))
-    (told_goes c.is_blank.ensures.1 (case_says (blank_case _ _) (case_yes c.is_blank.ensures.0 (not-false _ c.if-not-is_blank.false)))
-    (told_fails c.is_blank-2.ensures.1 (case_denies (blank_case _ _) (case_no c.is_blank-2.ensures.0 (not-true _ c.if-not-is_blank-2.true)))))
+returns-then-not-is_blank-2 c = told_goes c.is_dead.ensures.1 (case_says (dead_case _ _) (case_yes c.is_dead.ensures.0 c.if-not-is_dead.false))
+    (told_goes c.is_blank.ensures.1 (case_says (blank_case _ _) (case_yes c.is_blank.ensures.0 c.if-not-is_blank.false))
+    (told_fails c.is_blank-2.ensures.1 (case_denies (blank_case _ _) (case_no c.is_blank-2.ensures.0 c.if-not-is_blank-2.true))))
 
 pub returns : goal.returns
-returns c = told_goes c.is_dead.ensures.1 (case_says (dead_case _ _) (case_yes c.is_dead.ensures.0 (not-false _ c.if-not-is_dead.false)))
-    (told_goes c.is_blank.ensures.1 (case_says (blank_case _ _) (case_yes c.is_blank.ensures.0 (not-false _ c.if-not-is_blank.false)))
-    (told_goes c.is_blank-2.ensures.1 (case_says (blank_case _ _) (case_yes c.is_blank-2.ensures.0 (not-false _ c.if-not-is_blank-2.false)))
+returns c = told_goes c.is_dead.ensures.1 (case_says (dead_case _ _) (case_yes c.is_dead.ensures.0 c.if-not-is_dead.false))
+    (told_goes c.is_blank.ensures.1 (case_says (blank_case _ _) (case_yes c.is_blank.ensures.0 c.if-not-is_blank.false))
+    (told_goes c.is_blank-2.ensures.1 (case_says (blank_case _ _) (case_yes c.is_blank-2.ensures.0 c.if-not-is_blank-2.false))
     (told_end c.is_blank-3.ensures.1 (same_case (λ b. b) (λ b. b) c.is_blank-3.ensures.0 (blank_case _ _)))))

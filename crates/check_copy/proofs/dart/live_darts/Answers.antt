@@ -5,12 +5,11 @@ use Rattle.check_reads.specs.laws.Bounds.{idle_most, block_most}
 use Rattle.check_reads.specs.Reads.{edge_block}
 use Rattle.table.specs.laws.Darts.{RuledBelow, passed_none, passed_idle, passed_block, passed_to, block_broken}
 use Rattle.table.specs.laws.Rotation.{case_yes}
-use borrow.Author.Tests.{not-true, not-false}
 use native.Mathlib.Omega.{arith}
 use mathlib.Core.Path.{◌≡◌, sym}
-use mathlib.Core.Logic.{⊎_elim}
 use Prim.Native.Nat.{◌+◌, ◌*◌, ◌-◌}
 use Rattle.check_copy.proofs.dart.live_darts.Goals as goal
+use Rattle.check_copy.proofs.dart.live_darts.Goals.{then-not-is_idle+in-Of, else-not-is_idle}
 
 pub loop-b-init : goal.loop-b-init
 loop-b-init c = (omega arith, passed_none _, going_none)
@@ -25,24 +24,23 @@ live_in-requires c = let few = going_most 448 (block_most _) c.loop-b.invariant.
     (c.requires.0, omega arith, c.loop-b.invariant.1, omega arith)
 
 pub returns-in-Broken : goal.returns-in-Broken
-returns-in-Broken c = let idle = told_is (not-true _ c.if-not-is_idle.true) c.is_idle.ensures in
-    (
-      block_broken _ _ (omega arith) c.live_in.ensures.0 c.in-Broken.is,
-      going_stops c.loop-b.invariant.2 (block_fails c.args.t.now c.loop-b.b c.loop-b.invariant.1 c.live_in.ensures.0 c.in-Broken.is) 32 (omega arith) (block_read c.args.t.now c.loop-b.b idle c.live_in.ensures.1),
-    )
+returns-in-Broken c = let idle = told_is c.if-not-is_idle.true c.is_idle.ensures in (
+  block_broken _ _ (omega arith) c.live_in.ensures.0 c.in-Broken.is,
+  going_stops c.loop-b.invariant.2 (block_fails c.args.t.now c.loop-b.b c.loop-b.invariant.1 c.live_in.ensures.0 c.in-Broken.is) 32 (omega arith) (block_read c.args.t.now c.loop-b.b idle c.live_in.ensures.1),
+)
 
 pub loop-b-preserved : goal.loop-b-preserved
 loop-b-preserved c = let e : 64 * (c.loop-b.b + 1) ≡ 64 * c.loop-b.b + 64 = omega arith in
-    let passed : RuledBelow c.args.t.now c.if-not-is_idle.n (64 * c.loop-b.b + 64) × Going (edge_block c.args.t.now) (c.loop-b.b + 1) c.args.reads.now c.if-not-is_idle.reads = ⊎_elim
-    (λ w. rw (w.6, w.7) (
-      passed_block _ _ _ (omega arith) w.2.ensures.0 w.4.given.1,
-      going_more c.loop-b.invariant.2 (block_passes c.args.t.now c.loop-b.b w.2.ensures.0 w.4.given.1) (block_read c.args.t.now c.loop-b.b (told_is (not-true _ w.0.taken) c.is_idle.ensures) w.2.ensures.1),
-    ))
-    (λ w. rw (w.1, w.2) (let told = told_is (not-false _ w.0.left) c.is_idle.ensures in let block = block_idle c.args.t.now c.loop-b.b told in (
-      passed_idle _ _ _ (omega arith) (case_yes (idle_case c.args.t.now c.loop-b.b) (sym told.verdict)) c.loop-b.invariant.1,
-      going_more c.loop-b.invariant.2 block.0 block.1,
-    )))
-    c.if-not-is_idle.branch in
+    let passed : RuledBelow c.args.t.now c.if-not-is_idle.n (64 * c.loop-b.b + 64) × Going (edge_block c.args.t.now) (c.loop-b.b + 1) c.args.reads.now c.if-not-is_idle.reads = elim c.if-not-is_idle.branch [
+      | then-not-is_idle+in-Of w ↦ rw (w.reads-is, w.n-is) (
+        passed_block _ _ _ (omega arith) w.live_in.ensures.0 w.in-Of.is,
+        going_more c.loop-b.invariant.2 (block_passes c.args.t.now c.loop-b.b w.live_in.ensures.0 w.in-Of.is) (block_read c.args.t.now c.loop-b.b (told_is w.if-not-is_idle.true c.is_idle.ensures) w.live_in.ensures.1),
+      )
+      | else-not-is_idle w ↦ rw (w.reads-is, w.n-is) (let told = told_is w.if-not-is_idle.false c.is_idle.ensures in let block = block_idle c.args.t.now c.loop-b.b told in (
+        passed_idle _ _ _ (omega arith) (case_yes (idle_case c.args.t.now c.loop-b.b) (sym told.verdict)) c.loop-b.invariant.1,
+        going_more c.loop-b.invariant.2 block.0 block.1,
+      ))
+    ] in
     (omega arith, rw e passed.0, passed.1)
 
 pub returns : goal.returns

@@ -37,9 +37,9 @@ loop-d-smaller c = let short = round_short _ c.requires.1 _ c.requires.2 _ _ c.l
 
 pub loop-d-preserved : goal.loop-d-preserved
 loop-d-preserved c = (
-      rw c.read-d-in-loop-d.ensures.0 (round_more c.args.t.now c.requires.1 _ c.requires.2 _ _ c.loop-d.invariant.0 c.loop-d-test.true c.if-d-w.false),
-      omega arith,
-    )
+  rw c.read-d-in-loop-d.ensures.0 (round_more c.args.t.now c.requires.1 _ c.requires.2 _ _ c.loop-d.invariant.0 c.loop-d-test.true c.if-d-w.false),
+  omega arith,
+)
 
 pub returns : goal.returns
 returns c = let few = cycle_reads _ c.requires.1 _ c.requires.2 _ _ c.loop-d.invariant.0 (omega arith) in

@@ -18,9 +18,9 @@ led_darts-requires c = let few = along_most 2050 (vertex_crude _) c.loop-v.invar
 
 pub returns-in-Broken : goal.returns-in-Broken
 returns-in-Broken c = (
-      summed_broken _ _ _ (omega arith) (counts_broken c.led_darts.ensures.0 c.in-Broken.is),
-      along_stops c.loop-v.invariant.2 (told_broken _ c.requires.1 _ (omega arith) c.led_darts.ensures.0 c.led_darts.ensures.1 c.in-Broken.is) 32 (omega arith) refl,
-    )
+  summed_broken _ _ _ (omega arith) (counts_broken c.led_darts.ensures.0 c.in-Broken.is),
+  along_stops c.loop-v.invariant.2 (told_broken _ c.requires.1 _ (omega arith) c.led_darts.ensures.0 c.led_darts.ensures.1 c.in-Broken.is) 32 (omega arith) refl,
+)
 
 pub overflow_add-led : goal.overflow_add-led
 overflow_add-led c = let k = counts_of_lem _ c.led_darts.ensures.0 c.in-Of.is in
@@ -29,10 +29,10 @@ overflow_add-led c = let k = counts_of_lem _ c.led_darts.ensures.0 c.in-Of.is in
 
 pub loop-v-preserved : goal.loop-v-preserved
 loop-v-preserved c = let k = counts_of_lem _ c.led_darts.ensures.0 c.in-Of.is in (
-      omega arith,
-      summed_more _ _ _ _ c.loop-v.invariant.1 (omega arith) k.1 k.0,
-      along_more c.loop-v.invariant.2 (told_kept _ c.requires.1 _ (omega arith) c.led_darts.ensures.0 c.led_darts.ensures.1 c.in-Of.is) refl,
-    )
+  omega arith,
+  summed_more _ _ _ _ c.loop-v.invariant.1 (omega arith) k.1 k.0,
+  along_more c.loop-v.invariant.2 (told_kept _ c.requires.1 _ (omega arith) c.led_darts.ensures.0 c.led_darts.ensures.1 c.in-Of.is) refl,
+)
 
 pub returns : goal.returns
 returns c = let end : c.loop-v.v ≡ 32 * c.args.b + 32 = omega arith in

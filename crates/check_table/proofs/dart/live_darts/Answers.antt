@@ -1,12 +1,11 @@
 -- `dart::live_darts` meets its contract. The loop keeps `RuledBelow`, and the number of blocks left falls.
 use Rattle.table.specs.laws.Darts.{RuledBelow, passed_none, passed_idle, passed_block, passed_to, block_broken}
 use Rattle.table.specs.laws.Rotation.{case_yes}
-use borrow.Author.Tests.{not-false}
 use native.Mathlib.Omega.{arith}
 use mathlib.Core.Path.{◌≡◌}
-use mathlib.Core.Logic.{⊎_elim}
 use Prim.Native.Nat.{◌+◌, ◌*◌, ◌-◌}
 use Rattle.check_table.proofs.dart.live_darts.Goals as goal
+use Rattle.check_table.proofs.dart.live_darts.Goals.{then-not-is_idle+in-Of, else-not-is_idle}
 
 pub loop-b-init : goal.loop-b-init
 loop-b-init c = (omega arith, passed_none _)
@@ -22,10 +21,10 @@ returns-in-Broken c = block_broken _ _ (omega arith) c.live_in.ensures c.in-Brok
 
 pub loop-b-preserved : goal.loop-b-preserved
 loop-b-preserved c = let e : 64 * (c.loop-b.b + 1) ≡ 64 * c.loop-b.b + 64 = omega arith in
-    let passed : RuledBelow c.args.t.now c.if-not-is_idle.n (64 * c.loop-b.b + 64) = ⊎_elim
-    (λ w. rw w.5 (passed_block _ _ _ (omega arith) w.1.ensures w.3.given.1))
-    (λ w. rw w.1 (passed_idle _ _ _ (omega arith) (case_yes c.is_idle.ensures (not-false _ w.0.left)) c.loop-b.invariant.1))
-    c.if-not-is_idle.branch in
+    let passed : RuledBelow c.args.t.now c.if-not-is_idle.n (64 * c.loop-b.b + 64) = elim c.if-not-is_idle.branch [
+      | then-not-is_idle+in-Of w ↦ rw w.n-is (passed_block _ _ _ (omega arith) w.live_in.ensures w.in-Of.is)
+      | else-not-is_idle w ↦ rw w.n-is (passed_idle _ _ _ (omega arith) (case_yes c.is_idle.ensures w.if-not-is_idle.false) c.loop-b.invariant.1)
+    ] in
     (omega arith, rw e passed)
 
 pub returns : goal.returns

@@ -17,10 +17,10 @@ overflow_cast-odd c = tt
 
 pub loop-e-preserved : goal.loop-e-preserved
 loop-e-preserved c = let fits = c.type_inv.t (length_at + c.loop-e.e) in (
-      omega arith,
-      together_more c.loop-e.invariant.1 (λ z. let p = or_zero _ _ z in (p.0, unfit_none c.args.t.now c.loop-e.e (omega arith) p.1))
-          (λ p q. rw (p, none_unfit c.args.t.now c.loop-e.e q) (or_zero_l 0)),
-    )
+  omega arith,
+  together_more c.loop-e.invariant.1 (λ z. let p = or_zero _ _ z in (p.0, unfit_none c.args.t.now c.loop-e.e (omega arith) p.1))
+      (λ p q. rw (p, none_unfit c.args.t.now c.loop-e.e q) (or_zero_l 0)),
+)
 
 pub returns : goal.returns
 returns c = let end : c.loop-e.e ≡ edges = omega arith in together_case (eq_case _ 0) (rw end at c.loop-e.invariant.1)

@@ -4,7 +4,6 @@ use Rattle.table.specs.laws.Vertices.{counted_good, good_counted}
 use Rattle.table.specs.laws.Counting.{counts_broken, counts_of_lem}
 use Rattle.table.specs.laws.Darts.{good_ruled}
 use Rattle.table.specs.laws.Rotation.{case_yes, case_no}
-use borrow.Author.Tests.{not-true, not-false}
 use mathlib.Core.Path.{◌∙◌, sym}
 use Rattle.check_table.proofs.whole.is_good.Goals as goal
 
@@ -12,7 +11,7 @@ pub returns-then-t-ne-WORDS : goal.returns-then-t-ne-WORDS
 returns-then-t-ne-WORDS c = good_no _ (λ g. c.if-t-ne-WORDS.true g.size)
 
 pub returns-then-not-lengths_fit : goal.returns-then-not-lengths_fit
-returns-then-not-lengths_fit c = good_no _ (λ g. case_no c.lengths_fit.ensures (not-true _ c.if-not-lengths_fit.true) g.lengths)
+returns-then-not-lengths_fit c = good_no _ (λ g. case_no c.lengths_fit.ensures c.if-not-lengths_fit.true g.lengths)
 
 pub returns-in_default : goal.returns-in_default
 returns-in_default c = good_no _ (λ g. counts_broken c.live_darts.ensures c.in_default.is (good_ruled _ g))
@@ -32,5 +31,5 @@ returns-then-led-live c = let live = counts_of_lem _ c.live_darts.ensures c.in-O
 pub returns : goal.returns
 returns c = let live = counts_of_lem _ c.live_darts.ensures c.in-Of.is in
     let led = counts_of_lem _ c.all_led_darts.ensures c.in-Of-all_led_darts.is in
-    let fits = case_yes c.lengths_fit.ensures (not-false _ c.if-not-lengths_fit.false) in
+    let fits = case_yes c.lengths_fit.ensures c.if-not-lengths_fit.false in
     good_yes _ (counted_good _ c.if-t-ne-WORDS.false live.1 fits led.1 (sym led.0 ∙ c.if-led-live.false ∙ live.0))

@@ -8,7 +8,7 @@ use mir.Facts.{to_z_pos}
 use Rattle.table.proofs.answer.code.Goals as goal
 
 pub returns-in-Done : goal.returns-in-Done
-returns-in-Done c = to_z_pos w64 (omega (arith, c.known_told-1.given)) ∙ sym (ap code_of c.a-1.given.1)
+returns-in-Done c = to_z_pos w64 (omega arith) ∙ sym (ap code_of c.in-Done.is)
 
 pub returns-in-Declined : goal.returns-in-Declined
-returns-in-Declined c = handed_on c.refusal_code.type-inv (c.refusal_code.ensures ∙ sym (ap code_of c.a-in-Declined-1.given.1))
+returns-in-Declined c = handed_on c.refusal_code.type_inv (c.refusal_code.ensures ∙ sym (ap code_of c.in-Declined.is))

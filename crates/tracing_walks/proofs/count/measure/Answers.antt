@@ -1,12 +1,11 @@
 -- `count::measure` meets its contract. The invariant: the walks that start below block b are counted, and their corners marked.
 use Rattle.tracing_walks.specs.laws.Size.{WalkCounting, counting_none, counting_dead, measured}
 use Rattle.table.specs.laws.Rotation.{case_yes}
-use borrow.Author.Tests.{not-false}
 use mathlib.Core.Path.{◌≡◌}
-use mathlib.Core.Logic.{⊎_elim}
 use native.Mathlib.Omega.{arith}
 use Prim.Native.Nat.{◌+◌, ◌*◌, ◌-◌}
 use Rattle.tracing_walks.proofs.count.measure.Goals as goal
+use Rattle.tracing_walks.proofs.count.measure.Goals.{then-not-is_dead, else-not-is_dead}
 
 pub loop-b-init : goal.loop-b-init
 loop-b-init c = (omega arith, counting_none c.requires)
@@ -19,10 +18,10 @@ measure_in-size-requires c = (omega arith, c.loop-b.invariant.1)
 
 pub loop-b-preserved : goal.loop-b-preserved
 loop-b-preserved c = let e : 64 * (c.loop-b.b + 1) ≡ 64 * c.loop-b.b + 64 = omega arith in
-    let counted : WalkCounting c.args.t.now (64 * c.loop-b.b + 64) c.if-not-is_dead.size.walks c.if-not-is_dead.size.words c.if-not-is_dead.met = ⊎_elim
-    (λ w. rw (w.3, w.4) w.2.ensures)
-    (λ w. rw (w.1, w.2) (counting_dead c.loop-b.b (omega arith) (case_yes c.is_dead.ensures (not-false _ w.0.left)) c.loop-b.invariant.1))
-    c.if-not-is_dead.branch in
+    let counted : WalkCounting c.args.t.now (64 * c.loop-b.b + 64) c.if-not-is_dead.size.walks c.if-not-is_dead.size.words c.if-not-is_dead.met = elim c.if-not-is_dead.branch [
+      | then-not-is_dead w ↦ rw (w.size-is, w.met-is) w.measure_in-size.ensures
+      | else-not-is_dead w ↦ rw (w.size-is, w.met-is) (counting_dead c.loop-b.b (omega arith) (case_yes c.is_dead.ensures w.if-not-is_dead.false) c.loop-b.invariant.1)
+    ] in
     (omega arith, rw e counted)
 
 pub isolated-alone-requires : goal.isolated-alone-requires

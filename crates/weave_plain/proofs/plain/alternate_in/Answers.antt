@@ -2,7 +2,6 @@
 use Prim.Native.Nat.{◌+◌, ◌*◌, ◌-◌}
 use native.Mathlib.Omega.{arith}
 use mathlib.Core.Path.{◌≡◌}
-use borrow.Author.Tests.{not-true, not-false}
 use Rattle.tracing_walks.specs.laws.Size.{seen_range}
 use Rattle.table.specs.laws.Rotation.{case_yes}
 use Rattle.weave_plain.specs.laws.Plain.{judging_more, judging_no, block_all, block_dead, block_no}
@@ -21,10 +20,10 @@ pub alternates_from-requires : goal.alternates_from-requires
 alternates_from-requires c = seen_range c.loop-d.invariant.1.seen (omega arith)
 
 pub returns-then-not-alternates_from : goal.returns-then-not-alternates_from
-returns-then-not-alternates_from c = block_no (judging_no c.loop-d.invariant.1 (omega arith) c.alternates_from.ensures (not-true _ c.if-not-alternates_from.true))
+returns-then-not-alternates_from c = block_no (judging_no c.loop-d.invariant.1 (omega arith) c.alternates_from.ensures c.if-not-alternates_from.true)
 
 pub loop-d-preserved : goal.loop-d-preserved
-loop-d-preserved c = (omega arith, judging_more c.loop-d.invariant.1 (omega arith) c.alternates_from.ensures (not-false _ c.if-not-alternates_from.false))
+loop-d-preserved c = (omega arith, judging_more c.loop-d.invariant.1 (omega arith) c.alternates_from.ensures c.if-not-alternates_from.false)
 
 pub returns : goal.returns
 returns c = let end : c.loop-d.d ≡ 64 * c.args.b + 64 = omega arith in block_all (rw end at c.loop-d.invariant.1)

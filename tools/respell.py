@@ -70,11 +70,10 @@ def in_ticks(text, new):
 
 
 def comment(text, new):
-    humps = {a: b for a, b in new.items() if "-" not in a}
-    text = in_ticks(turn(text, humps), new)
+    humps = {a: b for a, b in new.items() if re.search("[a-z0-9][A-Z]", a)}
     m = re.match(r"(--\s{3,})((?:[^\s,]+,? )*[^\s,]+)(\s{2,}.*|)$", text)
     if not m:
-        return text
+        return "".join(turn(s, new if s[0] == "`" else humps) for s in re.findall(r"`[^`]*`|[^`]+|`", text))
     words = turn(m[2], new)
     # what stands beside the names keeps its column
     gap = m[3][min(len(words) - len(m[2]), len(m[3]) - len(m[3].lstrip()) - 2) :] if len(words) > len(m[2]) and m[3].strip() else m[3]
@@ -82,7 +81,9 @@ def comment(text, new):
 
 
 def line(text, new, mark):
-    """One line of code: what stands behind the comment's mark is turned as a comment."""
+    """One line of code: what stands behind the comment's mark is turned as a comment. A name of src/ that looks like one of specs/ stays."""
+    if mark == "//":
+        new = {a: b for a, b in new.items() if re.search("[-A-Z]", a)}
     m = re.match(r"(.*?)((?:^|\s)" + mark + r"(?:\s.*|))$", text)
     return turn(m[1], new) + comment(m[2], new) if m else turn(text, new)
 

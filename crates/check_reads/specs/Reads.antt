@@ -1,16 +1,16 @@
 -- How many words of the table one check reads, document 02, request c. A read is a read of a lent word, and a word that is read again counts again.
 -- The check makes its tests in a fixed order, and ends with the first that fails.
---     check_reads                                      the words that the whole check reads
+--     check_reads                                     the words that the whole check reads
 --     Test, test_of                                    so many words are read, and then the check goes on or ends
---     reads_of, pass_all                                tests in a row: the words that are read; whether all pass
+--     reads_of, pass_all                               tests in a row: the words that are read; whether all pass
 --     together                                        such a row as one test
---     reads_below, all_below                            the same of a test for each number below n, upward
---     dart_tests, bare_tests, linked_tests               the tests of a dart; if it is not live; if it is
---     edge_tests, edge_in, edge_block                    those of an edge; of an edge of a block, as one test; of a block of 32 edges
---     dead_block, blank, idle_tests                     a block without a live edge, whose darts' words are all 65,535
---     vertex_tests, leads_none, lead_tests, cycle_test    the tests of a vertex; its word leads no cycle; it leads one; the cycle
---     vertex_in, vertex_block                           those of a vertex of a block, as one test; of a block of 32 vertices
---     length_fits                                      the test of an edge's length
+--     reads_below, all_below                           the same of a test for each number below n, upward
+--     dart_tests, bare_tests, linked_tests            the tests of a dart; if it is not live; if it is
+--     edge_tests, edge_in, edge_block                 those of an edge; of an edge of a block, as one test; of a block of 32 edges
+--     dead_block, blank, idle_tests                   a block without a live edge, whose darts' words are all 65,535
+--     vertex_tests, leads_none, lead_tests, cycle_test  the tests of a vertex; its word leads no cycle; it leads one; the cycle
+--     vertex_in, vertex_block                         those of a vertex of a block, as one test; of a block of 32 vertices
+--     length_fits                                     the test of an edge's length
 use Rattle.std.specs.Prelude.{ℕ, zero, suc, ◌+◌, ◌*◌, Bool, true, false, cond, ◌&&◌, ◌||◌, List, [], ◌∷◌, eqb, leb, ltb, length, get_or}
 use Rattle.orbits.specs.Iterate.{iter}
 use Rattle.table.specs.Layout.{words, darts, edges, vertices, prev_at, leaves_at, nothing, isolated, next_word, prev_word, leaves, edge_word, vertex_word, length_word, edge_of, edge_word_most, longest}

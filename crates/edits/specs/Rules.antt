@@ -1,9 +1,9 @@
 -- Which rule an edit falls under, document 02, request a, read on the table just before it; and what an edit answers with it.
---     rule_for, turn_rule, rule_of         the rule, from how the corners or the sides lie
---     rule_change, faces_after            what a rule says of the number of faces; the face count after it
---     reply, with_rule                   the answer with its rule
---     reply_code, rule_number             as a host gets it; the numbers of the rules
---     faces_read, rule_read, number_met    what the host reads in that; the number of the rule met, 0 for none
+--     rule_for, turn_rule, rule_of      the rule, from how the corners or the sides lie
+--     rule_change, faces_after          what a rule says of the number of faces; the face count after it
+--     reply, with_rule                  the answer with its rule
+--     reply_code, rule_number           as a host gets it; the numbers of the rules
+--     faces_read, rule_read, number_met  what the host reads in that; the number of the rule met, 0 for none
 use Rattle.std.specs.Prelude.{ℕ, zero, suc, ◌+◌, ◌-◌, ◌*◌, ◌/◌, ◌%◌, List, ℤ, pos}
 use Rattle.std.proofs.Math.Option.{Option, none, some}
 use Rattle.table.specs.Rotation.{rotation}

@@ -1,11 +1,11 @@
 -- Which edits are declined, and with which number: document 01, "When a call declines". "Where several hold: 1, 2, 3, 4, 5, 6",
 -- and of an insertion 9 after them. First what the edit names is tested, 1 to 4, then what it may not pass, 5, 6 and 9; nothing is written before.
 --     verdict                            the answer of all tests, one list after the other
---     on_names, on_limits                  the two lists of tests
---     new_vertex, old_vertex               the vertex to add; the vertex named
---     new_edge, old_edge                   the edge to add, with its corners; the edge named
---     isolation, few_turns, fair_length    5, joined; 6, overturned; 9, far
---     vertex_there, edge_there             is the vertex live; is the edge live
+--     on_names, on_limits                the two lists of tests
+--     new_vertex, old_vertex             the vertex to add; the vertex named
+--     new_edge, old_edge                 the edge to add, with its corners; the edge named
+--     isolation, few_turns, fair_length  5, joined; 6, overturned; 9, far
+--     vertex_there, edge_there           is the vertex live; is the edge live
 --     and_then                            one list of tests after another
 use Rattle.std.specs.Prelude.{ℕ, Bool, not, ◌&&◌, List, eqb, ltb, leb, ℤ, ◌+ℤ◌}
 use Rattle.table.specs.Layout.{vertices, edges, nothing, isolated, edge_word, vertex_word, longest}

@@ -1,3 +1,4 @@
 // The writes of an edit: a dart put into a corner, a dart taken out.
 #![tactic(auto)]
+
 pub mod splice;

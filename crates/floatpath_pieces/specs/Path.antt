@@ -1,14 +1,14 @@
 -- The float path of a ribbon, document 01, "Over and under": its pieces, what is written for them, and what is out of range.
---     path_from, piece_on                          the pieces of the ribbon through a step, with Close; the piece of one step
---     piece_for, point_at                          the piece for a letter and a point; the point between two ends
---     thirty_seconds                              a coordinate times 32
---     letter_of, first_of                          the letter of a step with one turn, 0 without turns
---     sixteenths, first_end, second_end, lift_at    a lent word; where a step's two ends and its lift begin
---     form_of, point_of, positive_zero              the word of a piece; its point; the zero of Close
---     forms_of, floats_of                          what is written for a piece
---     many_turns, far_step, far_three, past         8, more than one turn; 9, out of range: of a step, of three words, of one
---     point_words, lift_words                      the sizes of the lent slices
---     farthest_point, farthest_lift                how far a point and a lift may be
+--     path_from, piece_on                        the pieces of the ribbon through a step, with Close; the piece of one step
+--     piece_for, point_at                         the piece for a letter and a point; the point between two ends
+--     thirty_seconds                             a coordinate times 32
+--     letter_of, first_of                         the letter of a step with one turn, 0 without turns
+--     sixteenths, first_end, second_end, lift_at  a lent word; where a step's two ends and its lift begin
+--     form_of, point_of, positive_zero             the word of a piece; its point; the zero of Close
+--     forms_of, floats_of                        what is written for a piece
+--     many_turns, far_step, far_three, past      8, more than one turn; 9, out of range: of a step, of three words, of one
+--     point_words, lift_words                    the sizes of the lent slices
+--     farthest_point, farthest_lift              how far a point and a lift may be
 use Rattle.std.specs.Prelude.{ℕ, ◌+◌, ◌*◌, ◌/◌, Bool, false, cond, ◌||◌, List, [], ◌∷◌, ◌++◌, map, eqb, ltb, ℤ, pos, nat_abs, ◌+ℤ◌, ◌-ℤ◌, ◌*ℤ◌, Float, get_or}
 use Rattle.std.specs.Float.{fin}
 use Rattle.table.specs.Layout.{edge_of, leaves}

@@ -1,9 +1,9 @@
 -- Forecast, then do it: document 02, request b.
---     forecast, ask, asked_by    the three answers; or the edit's own refusal
---     same_three                 are they the same
---     on_asked, commit_verdict    does a commit go through, and if not, with which number
---     commit_reply, reply_by      its answer
---     committed, left_by         the table that it leaves
+--     forecast, ask, asked_by   the three answers; or the edit's own refusal
+--     same_three                are they the same
+--     on_asked, commit_verdict  does a commit go through, and if not, with which number
+--     commit_reply, reply_by    its answer
+--     committed, left_by        the table that it leaves
 use Rattle.std.specs.Prelude.{ℕ, Bool, ◌&&◌, List, eqb}
 use Rattle.table.specs.Rotation.{rotation}
 use Rattle.table.specs.Answers.{unless}

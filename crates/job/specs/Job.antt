@@ -1,7 +1,7 @@
 -- What the job program does, document 01, "The job program". What a read gives is not known to a proof, so the statements are about some bytes.
 --     output                         all that is printed on some bytes
---     goes_on_lem                     whether more is read after a read
---     after_block, failed_at, Turn     what one read and the records that it makes whole change
+--     goes_on                        whether more is read after a read
+--     after_block, failed_at, Turn    what one read and the records that it makes whole change
 --     Finished                       why a reading that went well is over
 --     Read, Ended                    what the reading leaves;  what the program leaves
 use Rattle.std.specs.Prelude.{ℕ, zero, suc, ◌+◌, ◌≤◌, ◌^◌, ◌≡◌, Bool, true, false, List, ◌++◌, length, take}

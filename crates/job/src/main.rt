@@ -76,7 +76,7 @@ fn print(bytes: &[u8]) -> Printed
 }
 
 // Whether there is more to read after a read that gave so many bytes: not where it gave none, and not after a bad mark.
-fn goes_on_lem(fine: bool, came: usize, stop: Stop) -> bool
+fn goes_on(fine: bool, came: usize, stop: Stop) -> bool
     ensures { result ≡ goes_on fine came stop }
 {
     if !fine {
@@ -101,7 +101,7 @@ fn run_and_print(t: &mut [u16], buf: &mut [u8], came: usize, p: Progress) -> Pro
     let written = block.written;
     let lines = print(&out[..written]);
     let stop = block.stop;
-    let going = goes_on_lem(lines.fine, came, stop);
+    let going = goes_on(lines.fine, came, stop);
     Progress {
         going,
         fine: lines.fine,

@@ -1,5 +1,5 @@
 -- A face is an orbit with its mirror image.
---     Face, faced, face_classes     on one orbit or on mirror orbits; the test; how many live classes
+--     Face, faced, face_classes    on one orbit or on mirror orbits; the test; how many live classes
 use Rattle.std.specs.Prelude.{Bool, ◌||◌, ℕ}
 use Rattle.orbits.specs.Reach.{Reach, reaches}
 use Rattle.orbits.specs.Classes.{classes}

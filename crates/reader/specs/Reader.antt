@@ -1,11 +1,11 @@
 -- The walk reader, document 01, "Corners and walks": where it stands, when it declines, and what a step leaves.
---     begin_of, begin_by             the answer to making a reader
---     placed, is_step               where the reader stands, or its refusal; is it a dart and a type
---     step_of, step_by, stepped_by    what a step leaves; once its place is known; once its tally is known
---     tally_at                      the tally with this step more
+--     begin_of, begin_by           the answer to making a reader
+--     placed, is_step              where the reader stands, or its refusal; is it a dart and a type
+--     step_of, step_by, stepped_by  what a step leaves; once its place is known; once its tally is known
+--     tally_at                     the tally with this step more
 --     moved_to, stays               the reader goes on to the next step; it does not move
 --     ends_at                       does the walk end there
---     word_at, step_at               the step word 2d+t of a step; the step of a step word
+--     word_at, step_at              the step word 2d+t of a step; the step of a step word
 --     EachStep                     what holds of every step, wherever the reader stands
 use Rattle.std.specs.Prelude.{ℕ, ◌+◌, ◌*◌, ◌/◌, ◌%◌, ◌≡◌, Bool, ◌&&◌, List, ltb, eqb}
 use Rattle.table.specs.Layout.{darts}

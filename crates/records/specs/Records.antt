@@ -1,11 +1,11 @@
 -- Job records, document 01, "The job program": the first record of some bytes.
---     first_record                  the first record of some bytes: its edit and its size, or why there is none
---     marked_record, known_record    the same once the mark is read; once it is known
---     word, signed_word             the 16-bit word at byte i; as a signed number
+--     first_record                 the first record of some bytes: its edit and its size, or why there is none
+--     marked_record, known_record  the same once the mark is read; once it is known
+--     word, signed_word            the 16-bit word at byte i; as a signed number
 --     mark_of                       the mark that a word says
---     size_of, longest_record        the bytes of a record, its mark included; the most that a record has
---     edit_of, insertion_of          the edit that a record says; the insertion, with a length
---     plain_length                  the length that a plain IE writes
+--     size_of, longest_record       the bytes of a record, its mark included; the most that a record has
+--     edit_of, insertion_of        the edit that a record says; the insertion, with a length
+--     plain_length                 the length that a plain IE writes
 use Rattle.std.specs.Prelude.{ℕ, ◌+◌, ◌-◌, ◌*◌, cond, List, ℤ, pos, negsuc, ltb, eqb, length, get_or}
 use Rattle.edits.specs.declared.edit.Edit.{Edit}
 use Rattle.edits.specs.declared.edit.Edit.TheVariants.{AddVertex, RemoveVertex, InsertEdge, DeleteEdge, TurnEdge}

@@ -1,6 +1,6 @@
 -- The call that writes the record of a mark, with the arguments that it has, to the front of a lent slice, as a host has them.
---     record_answer, record_out     of a mark that there is: 7 where its record does not fit
---     marked_answer, marked_out     of any mark: 10 where there is no such one
+--     record_answer, record_out   of a mark that there is: 7 where its record does not fit
+--     marked_answer, marked_out   of any mark: 10 where there is no such one
 use Rattle.std.specs.Prelude.{ℕ, List, leb, ℤ, length}
 use Rattle.table.specs.Answers.{unless, if_done}
 use Rattle.table.specs.Output.{front}

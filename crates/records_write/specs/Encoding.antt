@@ -1,8 +1,8 @@
 -- Edits as job records, document 01, "The job program": the bytes of a record and of a job, for whoever writes a job file. Crate `records` reads them.
---     record_by, edit_for                the bytes of a mark with its arguments; the edit that they say
---     record_of, job_of                  the bytes of an edit; of a list of edits
+--     record_by, edit_for              the bytes of a mark with its arguments; the edit that they say
+--     record_of, job_of                 the bytes of an edit; of a list of edits
 --     bytes_of, complement              the two bytes of a word; two's complement
---     insertion_words, insertion_mark    the words of an insertion; its mark, by its length
+--     insertion_words, insertion_mark  the words of an insertion; its mark, by its length
 --     Word, SignedWord                 numbers that a 16-bit word holds
 --     Sixteen, AllSixteen              edits whose arguments are 16-bit words
 --     Bytes                            numbers that are bytes

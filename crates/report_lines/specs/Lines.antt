@@ -1,7 +1,7 @@
 -- The lines that the job program prints after reading, document 01, "The job program", as bytes.
 --     report                                                    all lines, in their order
---     mesh_line, part_line, walk_line, weave_line                   the four kinds of lines
---     mesh_text, part_text, walk_fields, step_text                  the text of a line from its numbers; of a walk; of a step
+--     mesh_line, part_line, walk_line, weave_line               the four kinds of lines
+--     mesh_text, part_text, walk_fields, step_text              the text of a line from its numbers; of a walk; of a step
 --     numbered                                                  what f gives for each, with its index
 --     mesh_word, part_word, walk_word, weave_word, kind_word    the words as bytes; "plain" or "mixed"
 --     space, newline, side                                      the bytes between fields, after a line, and o or n

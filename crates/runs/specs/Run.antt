@@ -1,10 +1,10 @@
 -- A run of edits, document 01, "Runs of edits": any list of the five edits with any arguments, over one table.
 --     run                                the table after the run
 --     calls, called                      what the rules call for: of one edit; in the whole run
---     calls_by, number                    the same once the verdict is known; -1, 0 or +1
---     face_number                         the number of listed walks
---     tells, told, vertex_tells           what an answer says of the faces: of one edit; of the whole run; of an edit on a vertex
---     length_given, length_by, length_in    the length last given to edge e: in a run; by an edit; by an accepted one
+--     calls_by, number                   the same once the verdict is known; -1, 0 or +1
+--     face_number                        the number of listed walks
+--     tells, told, vertex_tells          what an answer says of the faces: of one edit; of the whole run; of an edit on a vertex
+--     length_given, length_by, length_in  the length last given to edge e: in a run; by an edit; by an accepted one
 use Rattle.std.specs.Prelude.{ℕ, cond, List, [], ◌∷◌, eqb, ℤ, pos, negsuc, ◌+ℤ◌}
 use Rattle.table.specs.Rotation.{rotation}
 use Rattle.tracing.specs.Listing.{face_count}

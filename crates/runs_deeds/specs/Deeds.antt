@@ -1,9 +1,9 @@
 -- Runs that hold commits beside plain edits, document 02, request b: any list of them, with any forecasts, over one table.
 --     Deed                           a plain edit, or a commit with its three answers
---     done, deed_reply, edit_in        the table that a deed leaves; its answer; its edit
+--     done, deed_reply, edit_in      the table that a deed leaves; its answer; its edit
 --     ran                            the table after the run
---     due, due_in                     what the rules call for, of a deed; in the whole run
---     counts_as, counts_by, counted    the plain edits that a deed counts as; and the run
+--     due, due_in                    what the rules call for, of a deed; in the whole run
+--     counts_as, counts_by, counted  the plain edits that a deed counts as; and the run
 use Rattle.std.specs.Prelude.{ℕ, List, [], ◌∷◌, ◌++◌, ℤ, pos, ◌+ℤ◌}
 use Rattle.edits.specs.Edits.{edited}
 use Rattle.edits.specs.Changes.{change}

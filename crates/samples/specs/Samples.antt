@@ -4,9 +4,9 @@
 --     Sample, Holds                             edits, answers and facts of a sample; that they hold from the empty mesh
 --     Fact, Has                                 what a sample says of a table; that the table has it
 --     answers, by                               what a host gets from each edit of a run; F faces by a rule
---     walk_lengths                               the steps of each listed walk that has steps
---     one_edge, one_loop, two_loops, turned_loop    the edits of the samples, for their turns
---     any_length                                 the length of every edge here
+--     walk_lengths                              the steps of each listed walk that has steps
+--     one_edge, one_loop, two_loops, turned_loop  the edits of the samples, for their turns
+--     any_length                                the length of every edge here
 --     All                                       P holds of each of a list
 use Rattle.std.specs.Prelude.{ℕ, ◌*◌, ◌≡◌, Bool, true, false, List, [], ◌∷◌, map, length, ℤ, pos, neg_ℤ}
 use Rattle.table.specs.Layout.{darts, edge_word}

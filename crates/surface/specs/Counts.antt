@@ -1,5 +1,5 @@
 -- V, E and F of the mesh and of a part, document 01, "Counts".
---     vertices_in, edges_in, walks_in     those at the vertices that pass a test
+--     vertices_in, edges_in, walks_in  those at the vertices that pass a test
 use Rattle.std.specs.Prelude.{ℕ, ◌-◌, ◌*◌, Bool, ◌&&◌, cond, ltb}
 use Rattle.table.specs.Layout.{vertices, edges, lone_at}
 use Rattle.table.specs.Rotation.{Rotation}

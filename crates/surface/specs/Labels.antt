@@ -1,7 +1,7 @@
 -- Labels and marks found by a fold over the live edges, and what they answer: two vertices have one label exactly if a chain joins them,
 -- the label is the smallest vertex of its part, and the part is orientable exactly if the marks found agree with each of its edges.
 -- So labels are the same however they are found, and so is the answer whether a part is orientable.
---     label, in_part        the smallest vertex of a part, and which vertices the part has
+--     label, in_part       the smallest vertex of a part, and which vertices the part has
 --     orientable           do the marks found agree with each edge of the part
 use Rattle.std.specs.Prelude.{ℕ, ◌+◌, ◌*◌, ◌%◌, Bool, not, ◌&&◌, eqb}
 use Rattle.table.specs.Layout.{edges}

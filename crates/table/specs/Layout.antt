@@ -1,10 +1,10 @@
 -- The words of a table, document 01, "The table": the layout is named here, and once more as the constants of src/layout.rt, and nowhere else.
 --     vertices, edges, darts, words                   how many there are of each; the size of the table
---     prev_at, leaves_at, edge_at, vertex_at, length_at    where each kind of word begins
---     next_word, prev_word, leaves                      the three words of a dart
---     edge_word, length_word, vertex_word                the two words of an edge; the word of a vertex
+--     prev_at, leaves_at, edge_at, vertex_at, length_at  where each kind of word begins
+--     next_word, prev_word, leaves                    the three words of a dart
+--     edge_word, length_word, vertex_word             the two words of an edge; the word of a vertex
 --     nothing, isolated                               the word of what is not live; of a vertex that is live and isolated
---     longest, edge_word_most                           the largest length; the largest word of an edge
+--     longest, edge_word_most                         the largest length; the largest word of an edge
 --     lone_at                                          where the corner names of isolated vertices begin
 --     rev, edge_of                                     the reverse of a dart; its edge
 --     Live                                            the dart is live

@@ -4,8 +4,8 @@
 --     Lawful                   the rules of a good table, said of a rotation system
 --     rotation                 the rotation system of a table
 --     live?, there?, alone?    is the dart live; is the vertex live; is it isolated
---     next_dart, prev_dart       the next and the previous dart; the dart itself if it is not live
---     turns_of                  a number of the parity of its edge's turns
+--     next_dart, prev_dart     the next and the previous dart; the dart itself if it is not live
+--     turns_of                 a number of the parity of its edge's turns
 use Rattle.std.specs.Prelude.{ℕ, ◌<◌, ◌≡◌, Bool, true, false, ◌&&◌, not, cond, List, ◌≢◌, ltb, eqb}
 use Rattle.orbits.specs.Reach.{Reach}
 use Rattle.table.specs.Layout.{vertices, darts, nothing, isolated, next_word, prev_word, leaves, edge_word, vertex_word, edge_of, rev}

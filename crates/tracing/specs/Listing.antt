@@ -1,11 +1,11 @@
 -- The listed walks, the listing and the face count, document 01, "Corners and walks" and "Counts".
 -- A listed face is named by the corner that its walk starts at: a dart, or 32,768+v for an isolated vertex v.
---     faces, face_count          the listed faces, in their order; F, how many there are
---     listing, walk_text         the words of the listing; those of one walk
+--     faces, face_count         the listed faces, in their order; F, how many there are
+--     listing, walk_text        the words of the listing; those of one walk
 --     starts, fresh             the darts that listed walks start at; dart d, if a walk starts there
 --     alones, lone              the isolated vertices; vertex v, if it is isolated
---     lone_corner                the corner of an isolated vertex
---     met_by                     the corners that the walks from some darts meet
+--     lone_corner               the corner of an isolated vertex
+--     met_by                    the corners that the walks from some darts meet
 --     has, gather, only, bit    for lists: is it among them; what f gives for each; x if a test holds; 1 or 0
 use Rattle.std.specs.Prelude.{ℕ, zero, suc, ◌+◌, ◌*◌, Bool, true, false, not, cond, List, [], ◌∷◌, ◌++◌, map, eqb, ltb, length}
 use Rattle.table.specs.Layout.{vertices, darts, lone_at}

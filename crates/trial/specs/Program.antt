@@ -1,9 +1,9 @@
 -- What the trial program writes for its arguments, document 02, request f. What the arguments are is not known to a proof,
 -- so the statements are about some bytes.
---     outcome, with_start, with_edges                             what the arguments ask for
---     output_of, message                                         what goes to standard output; to standard error
---     start_most, arguments                                      the largest starting number; how many arguments there are
---     usage, not_number, not_a_number, start_word, edges_word    the text of the messages
+--     outcome, with_start, with_edges                           what the arguments ask for
+--     output_of, message                                        what goes to standard output; to standard error
+--     start_most, arguments                                     the largest starting number; how many arguments there are
+--     usage, not_number, not_a_number, start_word, edges_word   the text of the messages
 --     Laid                                                      a text stands at the front of a slice
 --     Few                                                       no more edges than a table has
 use Rattle.std.specs.Prelude.{ℕ, ◌≤◌, ◌≡◌, cond, List, [], ◌∷◌, ◌++◌, eqb, length}

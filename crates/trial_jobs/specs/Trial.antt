@@ -1,9 +1,9 @@
 -- A trial job from two numbers, document 02, request f: its edits, its bytes, and what the call that writes it answers.
---     after_draw, state, draw                   s after one more draw; after some; what a draw below n reads in it
---     first_vertex, second_vertex, turns_drawn    what is drawn for an edge
---     corner_at, insertion_on                    the corner that an end goes to; the insertion of edge e
---     trial_job, additions, trial_bytes          the edits; those of the vertices; the job as it is written
---     trial_answer, trial_size, trial_out         what the call answers; the bytes of the job; what it leaves in the slice
+--     after_draw, state, draw                  s after one more draw; after some; what a draw below n reads in it
+--     first_vertex, second_vertex, turns_drawn  what is drawn for an edge
+--     corner_at, insertion_on                  the corner that an end goes to; the insertion of edge e
+--     trial_job, additions, trial_bytes        the edits; those of the vertices; the job as it is written
+--     trial_answer, trial_size, trial_out      what the call answers; the bytes of the job; what it leaves in the slice
 use Rattle.std.specs.Prelude.{ℕ, zero, suc, ◌+◌, ◌*◌, ◌/◌, ◌%◌, ◌^◌, cond, List, [], ◌∷◌, ◌++◌, eqb, leb, ℤ, pos, ◌-ℤ◌, length}
 use Rattle.table.specs.Layout.{edges, isolated, vertex_word, lone_at}
 use Rattle.table.specs.Answers.{unless, if_done}

@@ -3,10 +3,10 @@
 --     over, under                                  the letters O and U
 --     unturned, positive, negative                 the word of an edge without turns; the two hands
 --     crossings                                    how many crossings an edge has
---     letter, letter_at, crossed                    the letter from a type; that of crossing j; those of n crossings
+--     letter, letter_at, crossed                   the letter from a type; that of crossing j; those of n crossings
 --     word_of                                       the word of a step's edge
---     letters_on, step_letters, letters              the letters of a step on an edge; of a step; of the ribbon through a step
---     alternating, alternates, neighbours_differ    cyclic neighbours differ; the ribbon alternates; each differs from the one after it
+--     letters_on, step_letters, letters            the letters of a step on an edge; of a step; of the ribbon through a step
+--     alternating, alternates, neighbours_differ   cyclic neighbours differ; the ribbon alternates; each differs from the one after it
 --     plain, every                                 all ribbons alternate; a test holds of each
 use Rattle.std.specs.Prelude.{ℕ, zero, suc, ◌+◌, ◌-◌, ◌*◌, ◌/◌, ◌%◌, Bool, true, not, ◌&&◌, cond, List, [], ◌∷◌, eqb, ltb}
 use Rattle.table.specs.Layout.{darts, edge_of, edge_word}

@@ -1,11 +1,11 @@
 -- The pieces of a whole path, document 02, e: those of one step, and what is written for them.
---     whole_path, pieces_along               the pieces of the ribbon through a step, with Close; without it
---     step_pieces, piece_at, whole_piece_on    the pieces of a step; the i-th of them, on the table; on an edge word
---     whole_piece_for, spot_at                the piece for a letter and a spot; three coordinates with their remainders
---     spots_on, spots_of                     how many pieces an edge gives; how many a step gives
---     crossing_number, letter_on             which crossing comes i-th on a step, counted from the first end; its letter
---     whole_form_of, spot_of                  the word of a piece; its spot, zeros for Close
---     whole_forms_of, words_of, rests_of       what is written for a piece: its word, its coordinates, its remainders
+--     whole_path, pieces_along             the pieces of the ribbon through a step, with Close; without it
+--     step_pieces, piece_at, whole_piece_on  the pieces of a step; the i-th of them, on the table; on an edge word
+--     whole_piece_for, spot_at             the piece for a letter and a spot; three coordinates with their remainders
+--     spots_on, spots_of                   how many pieces an edge gives; how many a step gives
+--     crossing_number, letter_on           which crossing comes i-th on a step, counted from the first end; its letter
+--     whole_form_of, spot_of                the word of a piece; its spot, zeros for Close
+--     whole_forms_of, words_of, rests_of    what is written for a piece: its word, its coordinates, its remainders
 --     up_to                                 f 0, f 1 and so on, n of them
 use Rattle.std.specs.Prelude.{ℕ, zero, suc, ◌+◌, ◌-◌, ◌/◌, ◌%◌, cond, eqb, ℤ, pos, get_or}
 use mathlib.Core.List.{List, [], ◌∷◌, ◌++◌, flat_map}

@@ -1,7 +1,7 @@
 -- The loop that writes a float path: its pieces so far stand at the front of the two slices.
 --     PathRoom                                       a ribbon whose words are in range, and room for its path
 --     PieceWritten, wrote_made                       a piece is written to both slices
---     pieces_before, path_length                      the pieces of the first n steps; the path has one a step, and Close
+--     pieces_before, path_length                     the pieces of the first n steps; the path has one a step, and Close
 --     forms_length, floats_length                    how many words and floats some pieces take
 --     Laying                                         the loop over the walk
 --     laying_none, laying_more, laying_all           it begins, goes on, ends

@@ -1,5 +1,5 @@
 -- What the walk of a ribbon shows before its path is written: the number of its steps, and what is wrong with its edges. The loop that gathers it.
---     survey_of, survey_with, with_made                  the survey of some steps; with one step more
+--     survey_of, survey_with, with_made                the survey of some steps; with one step more
 --     many_read                                        more than one turn, by the number of crossings
 --     Surveying                                        the loop over the walk
 --     surveying_none, surveying_more, surveying_all    it begins, goes on, ends

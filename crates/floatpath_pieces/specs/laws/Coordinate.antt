@@ -5,7 +5,7 @@
 --     coordinate_over, coordinate_under, coordinate_flat     the coordinate over, under, flat
 --     size_fits, handed_is                                   a small number fits, and keeps its value when handed on
 --     NearThree, Readable                                    the words of a point are in range; they are there, too
---     read_at_lem, point_made                                 a coordinate from the lent words; the point of three
+--     read_at, point_made                                    a coordinate from the lent words; the point of three
 use Rattle.std.specs.Prelude.{ℕ, ◌+◌, ◌≤◌, ◌<◌, ◌≡◌, ◌≢◌, List, eqb, ℤ, pos, negsuc, neg_ℤ, nat_abs, ◌+ℤ◌, ◌-ℤ◌, ◌*ℤ◌, Float, length}
 use Rattle.std.proofs.Common.{arith, ◌∙◌, SFits, to_z-of_z}
 use Rattle.std.proofs.Math.Path.{ap}

@@ -1,5 +1,5 @@
 -- What ask and commit answer where the edit goes through, where it is declined, and where the forecast is stale.
---     rule_numbered, numbered, same_rule                           a rule by its number
+--     rule_numbered, numbered, same_rule                          a rule by its number
 --     alike, same_is, is_same                                     the same three answers are the same forecast
 --     ask_passes, ask_declines, asked_passes                      from the verdict to ask's answer, and back
 --     ask_foretells, ask_by_rule, ask_refuses                     what ask answers

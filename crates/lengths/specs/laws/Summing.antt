@@ -1,6 +1,6 @@
 -- What the steps of a ribbon take up, summed along it: what a loop that does so knows, and how it ends.
 --     cut_total                                                the cut length is what the steps take up, and the lap
---     taken_before, taken_most, taken_most_lem                   what the first n steps take up; the most that one step does
+--     taken_before, taken_most, taken_most_lem                 what the first n steps take up; the most that one step does
 --     taken_step                                               a step's share, from the word of its edge
 --     length_most                                              the length of an edge on the way
 --     TakenUp                                                  the first n steps take up a sum

@@ -1,6 +1,6 @@
 -- A reader whose start is not on the walk of its step: it goes round that walk, and no step says that the walk ends.
 --     never_ends              no step says that the walk ends
---     On, goes_on_lem, on_walk    the reader stays on the walk of its step
+--     On, goes_on_lem, on_walk  the reader stays on the walk of its step
 use Prim.Native.Nat.{ℕ, zero, suc, ◌+◌, ◌*◌, ◌/◌, ◌%◌}
 use native.Mathlib.Omega.{arith}
 use Rattle.std.proofs.Math.Path.{◌≡◌, subst}

@@ -5,9 +5,9 @@
 --     placed_none, placed_walk, placed_one                           no walk starts there, or one does
 --     Numbering, PlacedAll                                           the loop over the darts; the lines of all walks from darts
 --     numbering_none, numbering_at, numbering_more, numbering_all    it begins, is ready, goes on, ends
---     lone_text, lone_wrote                                           the line of an isolated vertex
+--     lone_text, lone_wrote                                          the line of an isolated vertex
 --     LoneAt, PlacedLone, lone_none, lone_one                        vertex v: it is not isolated, or its line is written
---     lone_lines, LonesWriting                                        the lines of isolated vertices; the loop over the vertices
+--     lone_lines, LonesWriting                                       the lines of isolated vertices; the loop over the vertices
 --     ending_none, ending_at, ending_more, ending_all                it begins, is ready, goes on, ends
 use Rattle.std.specs.Prelude.{ℕ, suc, ◌+◌, ◌-◌, ◌*◌, ◌<◌, ◌≤◌, ◌^◌, ◌≡◌, refl, List, [], ◌∷◌, ◌++◌, map, ◌≢◌, length}
 use Rattle.std.proofs.Common.{arith, add-one, add-zero, sym, ◌∙◌, ap, ap₂, append-nil, append_assoc, length-append, lt-ltb, le-ltb}

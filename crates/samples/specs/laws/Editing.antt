@@ -1,8 +1,8 @@
 -- Runs of edits on sparse tables: as `run` and its answers on the table itself.
---     verdict_on, edited_on, answer_on    one edit on a sparse table: its verdict, what it leaves, its answer
---     rule_on, reply_on                  its rule, and the answer with it
---     run_on_lem, answers_on             a run, and its answers
---     run_on_lem, answers_on_lem           they are those of the table itself
+--     verdict_on, edited_on, answer_on  one edit on a sparse table: its verdict, what it leaves, its answer
+--     rule_on, reply_on                its rule, and the answer with it
+--     run_on, answers_on               a run, and its answers
+--     run_on_lem, answers_on_lem       they are those of the table itself
 --     verdictBy                        the verdict on a good table, from a function that reads its words
 use Rattle.std.specs.Prelude.{ℕ, ◌+◌, ◌≡◌, refl, not, Bool, ◌&&◌, List, [], ◌∷◌, eqb, ltb, get_or, ℤ, ◌+ℤ◌}
 use Rattle.std.proofs.Common.{◌∙◌}

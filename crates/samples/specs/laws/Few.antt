@@ -1,10 +1,10 @@
 -- A mesh whose edges and vertices all have small names: what is counted and listed over every name is the same over these few,
 -- and computes.
 --     Few                                                         no edge from m on is live, and no vertex from n on
---     faces_few, euler_few, marks_few, lengths_few                    F, Euler number, marks and steps, over the small names alone
+--     faces_few, euler_few, marks_few, lengths_few                F, Euler number, marks and steps, over the small names alone
 --     faces_few_lem, euler_few_lem, marks_few_lem, lengths_few_lem, starts_few  they are those of the mesh
---     spots_few, own_labels                                         labels and marks by the first m edges; the vertices that are their own labels
---     meeting_from, sides_from, face_from, type_from                  how corners meet and sides lie, a corner's face and type, from the starts
+--     spots_few, own_labels                                       labels and marks by the first m edges; the vertices that are their own labels
+--     meeting_from, sides_from, face_from, type_from              how corners meet and sides lie, a corner's face and type, from the starts
 --     meeting_few, sides_few                                      they are those of the mesh
 use Prim.Native.Nat.{ℕ, zero, suc, ◌*◌, ◌≤◌}
 use Rattle.std.proofs.Common.{arith, sym, ◌∙◌}

@@ -1,10 +1,10 @@
 -- The mesh of a sparse table, its words found by `read`.
---     rotation_by, rotation_by_lem                                     a rotation system, from a table's words
---     plain_by_lem                                                     is the weave plain, from the words
+--     rotation_by, rotation_by_lem                                    a rotation system, from a table's words
+--     plain_by                                                        is the weave plain, from the words
 --     few_read                                                        only names up to the largest one written are live
---     faces_on, euler_on, marks_on, lengths_on, plain_on                   what the samples say of a table
+--     faces_on, euler_on, marks_on, lengths_on, plain_on              what the samples say of a table
 --     faces_read_lem, euler_read, marks_read, lengths_read, plain_read  that they are so
---     meeting_on, sides_on, meeting_read, sides_read                    what the rule of an edit is read from
+--     meeting_on, sides_on, meeting_read, sides_read                  what the rule of an edit is read from
 use Rattle.std.specs.Prelude.{ℕ, ◌+◌, ◌*◌, ◌/◌, ◌%◌, ◌<◌, ◌≤◌, ◌≡◌, refl, Bool, false, not, ◌&&◌, cond, eqb, ltb, ℤ}
 use Rattle.std.proofs.Common.{arith, ◌∙◌, lt-ltb, le-ltb}
 use Rattle.std.proofs.Math.Decide.{dec_lt}

@@ -1,8 +1,8 @@
 -- The words that an edit writes, on sparse tables.
---     written_on_lem, written_on_lem     what an edit writes, as `written` on the table itself
---     splice_on, link_on_lem          a dart put between two others; put into a corner
---     cut_on_lem, refound_on, unlink_on  a dart taken out; the vertex word found anew; both
---     seek_by                        the first of k darts that leaves v
+--     written_on, written_on_lem    what an edit writes, as `written` on the table itself
+--     splice_on, link_on            a dart put between two others; put into a corner
+--     cut_on, refound_on, unlink_on  a dart taken out; the vertex word found anew; both
+--     seek_by                       the first of k darts that leaves v
 use Rattle.std.specs.Prelude.{ℕ, zero, suc, ◌+◌, ◌-◌, ◌*◌, ◌≡◌, refl, true, false, cond, List, ◌∷◌, eqb, ltb, get_or, set}
 use Rattle.std.proofs.Common.{arith, sym, ◌∙◌, ap, eq-eqb, ne_eqb, lt-ltb, le-ltb}
 use Rattle.std.proofs.Math.Decide.{ℕ_discrete, dec_lt}

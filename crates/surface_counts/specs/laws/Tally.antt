@@ -4,7 +4,7 @@
 --     tally_none, tally_begin, tally_more, tally_skip, tally_low    it begins, at zeros or not; counts one, skips one; its words stay small
 --     Keyed, labelled_keyed                                         the array of labels, as the counting code is handed it
 --     VertexTally, EdgeTally, TwistTally, WalkTally, LoneTally      what is counted
---     twist_sum, starts_in                                            turns and marks at an edge, added; the walks that start in a part
+--     twist_sum, starts_in                                          turns and marks at an edge, added; the walks that start in a part
 use Rattle.std.specs.Prelude.{ℕ, ◌+◌, ◌*◌, ◌%◌, ◌<◌, ◌≤◌, ◌≡◌, Bool, true, false, not, ◌&&◌, List, eqb, length, set, replicate}
 use Rattle.std.proofs.Common.{arith, ◌∙◌, get_or-set_other}
 use Rattle.std.proofs.Math.Numerals.{add-one}

@@ -3,7 +3,7 @@
 --     Shape                                                    what the arrays must keep to, so that they can be read
 --     Points, Forest                                           the arrays stand for s
 --     Moved, moved_shape, moved_forest                         one vertex points elsewhere
---     lift, lift_turn, grand, grand_turn                         a vertex points up to its parent's parent
+--     lift, lift_turn, grand, grand_turn                       a vertex points up to its parent's parent
 --     lift_shape, lift_forest, lift_up, lift_turn_lem          that changes nothing of s; what it then points to
 --     RootFound, Finding                                       the root of a vertex, and the loop that climbs to it
 --     finding_none, finding_more, finding_less, finding_all    it begins, goes on, always down to a smaller vertex, ends

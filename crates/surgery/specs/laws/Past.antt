@@ -1,5 +1,5 @@
 -- Tracing past an edge has the faces of tracing without it, in the whole and in each part.
---     faces_of                                         the number of faces in a part of the places
+--     faces_of                                        the number of faces in a part of the places
 --     Parts, whole_parts                              a part with the edge, and the same part without it
 --     Inside, Outside, Level                          the edge's steps are in the part; none is; one of the two
 --     inside_whole, level_in, level_out, own_level    they are in the whole; what the three say of each other and of its four steps

@@ -1,7 +1,7 @@
 -- The places of a set of vertices that edges keep: each edge has both its ends in the set, or none, as in a connected part. They are a part
 -- of the tracing. The same set of vertices is such a part before an edit and after it, and it has the edge exactly if it has the edge's first vertex.
---     place_vertex, vertex_step, vertex_still, vertex_flip    the vertex of a place
---     places_in, part_on, part_off, part_within               the places that are there at these vertices
+--     place_vertex, vertex_step, vertex_still, vertex_flip   the vertex of a place
+--     places_in, part_on, part_off, part_within              the places that are there at these vertices
 --     EndsTogether, places_in_part                           edges keep the set: then its places are a part
 --     without_kept, without_parts, seat_vertex_at            with an edge and without it
 --     inside_of, outside_of                                  the edge's steps are in the part, or none is

@@ -3,8 +3,8 @@
 -- at the two steps of such a dart.
 --     seat, seat_step, seat_vertex, seat_bare    where a place lies
 --     Seated, seated                             which of the three it is
---     dart_at, dart_at_own, dart_at_from          the dart of the edge that leaves a vertex
---     passed_over, taken_other, taken_bare        is something seated there
+--     dart_at, dart_at_own, dart_at_from         the dart of the edge that leaves a vertex
+--     passed_over, taken_other, taken_bare       is something seated there
 --     past                                       past the edge: what a step of its darts leads to
 --     skip_around, reach_around, skip_bare       around a vertex past the edge's darts, where others are left, and where none is
 --     same_type                                  a step of another edge comes to the same type

@@ -1,5 +1,5 @@
 -- An isolated vertex added: its empty walk is one face more. Removed, one face less.
---     still_at                      the first still place of a vertex
+--     still_at                     the first still place of a vertex
 --     VertexParts, vertex_whole    a part before, and the same part after it; the whole mesh
 --     add_vertex                   one face more in the part that has the vertex
 use Rattle.std.specs.Prelude.{◌≡◌, ◌≢◌, Bool, true, false, ℕ, suc, ◌+◌, ◌-◌, ◌*◌, ◌/◌, ◌<◌, ◌≤◌}

@@ -1,5 +1,5 @@
 -- Blocks of 32 names, whose words are or-ed or and-ed together: what the result has, all of them have.
---     edge_blocks, vertex_blocks                       how many blocks there are
+--     edge_blocks, vertex_blocks                     how many blocks there are
 --     DeadBlock, IdleBlock, Blank                    no edge of the block is live; and its darts' words are 65,535; 64 such words
 --     LooseBlock                                     no vertex of the block leads a cycle
 --     Together                                       the loop over a block: P of the words put together says Q of each name

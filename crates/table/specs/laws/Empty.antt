@@ -1,5 +1,5 @@
 -- The empty mesh: no dart, no edge and no vertex is live. It is a good table.
---     empty_word, empty_word_lem                             word i of the empty mesh
+--     empty_word, empty_word_lem                            word i of the empty mesh
 --     empty_dart, empty_edge, empty_vertex, empty_length    each kind of word
 --     empty_size, empty_good                                its size; it is a good table
 --     Filled                                                one word stands from an index up to n, the others are as before

@@ -1,6 +1,6 @@
 -- The rules that a vertex's word keeps, and the count that tells whether each vertex has one cycle.
 --     Leads, VertexRule                             w is the smallest dart on a cycle of v; the vertex's word leads so
---     led?, led_at, led_below                         is a dart on the cycle its vertex's word leads; at v; at the vertices below v
+--     led?, led_at, led_below                       is a dart on the cycle its vertex's word leads; at v; at the vertices below v
 --     VertexSays, VerticesTo, VerticesSay           what the count of led darts answers: at one vertex; below n; at all
 --     past_leads_none, led_none, led_cycle          how many are led: by a word past the darts, none; by a dart, its cycle
 --     Summed                                        the loop over the vertices: those so far keep their rule, n darts are led

@@ -1,7 +1,7 @@
 -- What is summed over the steps of all listed walks, taken edge by edge: of a step and its way back exactly one is listed.
 --     total_listed                            each live edge has what the two steps by its first dart have
 --     live_edges_lem, listed_edge, live_few   a sum over the live edges, as one over all; which they are; how many at most
---     sum_below, sum_same, sum_at, sum_four    the sum over the numbers below n: term by term, one term more, by fours
+--     sum_below, sum_same, sum_at, sum_four   the sum over the numbers below n: term by term, one term more, by fours
 --     total_times                             a sum over a list, by how often each number is in it
 --     listed_step, listed_none                a listed step is on a live edge; the steps of another edge are not listed
 --     one_of_two, edge_sum                    what an edge's four steps have, as often as they are listed

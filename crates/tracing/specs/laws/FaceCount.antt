@@ -1,7 +1,7 @@
 -- The listed walks are the faces: each corner that is there lies on the face of exactly one of them.
 -- So the face count is the number of classes of places under tracing and mirroring, in the whole and in each part.
 --     place_of, place_dart, place_lone    the place at which a corner has type 0
---     faces_in, faces_part                the listed walks in a part of the places, and that they are its faces
+--     faces_in, faces_part               the listed walks in a part of the places, and that they are its faces
 --     face_count_lem                     F is the number of faces
 --     listed_on                          the place of a listed face is there
 --     faces_low                          there are no more faces than places

@@ -2,7 +2,7 @@
 -- "within twice as many steps as edges".
 --     ClosedWalk, walk_closed      the walk is back at its start after its steps, and not before
 --     walk_bound                   it has at most twice as many steps as there are edges
---     live_step, live_step_count    the steps on live darts: four for each live edge
+--     live_step, live_step_count   the steps on live darts: four for each live edge
 --     walk_length                  the walk's number of steps is its start's period
 use Rattle.std.specs.Prelude.{ℕ, zero, suc, ◌*◌, ◌/◌, ◌<◌, ◌≤◌, ◌≡◌, refl, Bool, true, false, ◌&&◌, ◌≢◌, ltb, length}
 use native.Mathlib.Omega.{arith}

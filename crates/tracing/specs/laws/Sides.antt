@@ -3,7 +3,7 @@
 --     across                                                  y, the step by the second dart, of the turns' parity
 --     SidesCase, sides_case                                   the three ways, with where y lies from x
 --     sides_both, sides_same, sides_two                       and back: where y lies tells the way
---     sides_met, sides_met_lem                                 the same from how the corners of x and y meet, and from y's type
+--     sides_met, sides_met_lem                                the same from how the corners of x and y meet, and from y's type
 --     again_flip, flip_again                                  passing the same dart again is reaching the mirror of y
 --     TwoSides, two_sides                                     the two listed steps on a live edge
 --     listed_once, reach_times                                a step is listed at most once; along a walk all are listed alike

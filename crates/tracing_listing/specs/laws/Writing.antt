@@ -5,7 +5,7 @@
 --     entered_none, entered_walk, walk_room                          no walk starts there, or one does
 --     RoomLone, EnteredLone                                          the same of the empty walk of vertex v
 --     entered_blank, entered_lone, lone_room                         v is not isolated, or it is
---     walks_text, lones_text                                           the words of the walks from darts; of the empty walks
+--     walks_text, lones_text                                         the words of the walks from darts; of the empty walks
 --     Writing, WroteWalks                                            the loop over the darts; what it leaves
 --     writing_none, writing_room, writing_more, writing_all          it begins, has room, goes on, ends
 --     Ending                                                         the loop over the vertices

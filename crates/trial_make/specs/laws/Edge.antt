@@ -1,6 +1,6 @@
 -- One edge, as the code draws it from the state and eight corners; and that the corners then are those of the table after it.
---     edge_drawn, corners_after                          the edge drawn from a state and the corners; the corners after it
---     give_dart, give_none, give_lone, give_length      a vertex without a dart gets dart d
+--     edge_drawn, corners_after                        the edge drawn from a state and the corners; the corners after it
+--     give_dart, give_none, give_lone, give_length     a vertex without a dart gets dart d
 --     Corners, corners_next                            the corners of the eight vertices; once the edge is in
 --     Drawn, drawn_state, drawn_edge, drawn_corners    the same from what the code has drawn
 use Rattle.std.specs.Prelude.{◌≡◌, ℕ, ◌+◌, ◌*◌, ◌<◌, ◌≤◌, cond, ◌≢◌, List, length, ℤ, pos, ◌-ℤ◌, nat_lt, slice_index, slice_index_or, slice_set}

@@ -4,7 +4,7 @@
 --     alternates_hands                                                  or: if it does not have edges of both hands
 --     crossings_parity                                                  an edge word has the parity of its crossings
 --     some_append, SomePasses, some_passes, passes_some, none_passes    whether some member of a list passes a test
---     hands_on, hands_along                                               the hands of an edge's crossings; of those along some steps
+--     hands_on, hands_along                                             the hands of an edge's crossings; of those along some steps
 --     Strung, strung                                                    the letters of the first n steps are those of one strand
 --     walk_strand, walk_closes                                          so are the ribbon's, and the strand closes
 use Rattle.std.specs.Prelude.{ℕ, zero, suc, ◌+◌, ◌-◌, ◌%◌, ◌<◌, ◌≡◌, refl, Bool, ◌&&◌, ◌||◌, List, [], ◌∷◌, ◌++◌, ◌↔◌, ltb, length, replicate}

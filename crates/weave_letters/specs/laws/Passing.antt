@@ -1,5 +1,5 @@
 -- The letters along a walk, as the code counts and writes them: what its loops know.
---     letters_before, before_suc                                the letters of the first n steps; of one step more
+--     letters_before, before_suc                               the letters of the first n steps; of one step more
 --     LetterCount, LetterCounting                              a ribbon's letters are so many; the loop that counts them
 --     counting_none, counting_more, counting_all, count_few    it begins, goes on, ends; the count stays small
 --     Lettering                                                the loop that writes them

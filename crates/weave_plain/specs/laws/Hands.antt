@@ -1,5 +1,5 @@
 -- The hands of the edges along a walk, as the code gathers them, and the loop that does.
---     hands_with, hands_among                          these hands and that of one edge more; those of some steps
+--     hands_with, hands_among                        these hands and that of one edge more; those of some steps
 --     with_positive, with_negative, with_unturned    the three kinds of edge words
 --     Seeing                                         the loop over the walk
 --     seeing_none, seeing_more, seeing_all           it begins, goes on, ends

@@ -1,7 +1,7 @@
 -- The turned edges of the mesh all turn the same way: then those of every ribbon do, and the weave is plain. And the loop that looks, without a branch.
 --     NotPositive, NotNegative                         an edge without positive turns; one without negative ones
 --     OneHand, one_hand_plain                          no edge of the mesh has positive turns, or none negative ones; the weave is plain
---     of_positive, of_negative                           1 for an edge of that hand, else 0
+--     of_positive, of_negative                         1 for an edge of that hand, else 0
 --     Comparing                                        the loop over the edges
 --     comparing_none, comparing_more, compared_none    it begins, goes on, ends without an edge of positive turns
 --     compared_some                                    or with one

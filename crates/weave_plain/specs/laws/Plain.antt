@@ -1,5 +1,5 @@
 -- The listed ribbons, judged one after the other: what the loop over the darts knows.
---     all_alternate                              do the ribbons from these darts on alternate
+--     all_alternate                             do the ribbons from these darts on alternate
 --     Judged                                    the ribbon listed from dart d on is judged
 --     judged_dead, judged_met, judged_ribbon    there is none, or one
 --     Judging                                   the loop over the darts: the ribbons listed so far alternate

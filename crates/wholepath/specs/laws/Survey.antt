@@ -1,7 +1,7 @@
 -- What the walk of a ribbon shows before its whole path is written: the number of its pieces, and whether a word is out of range. The loop that gathers it.
---     survey_of, survey_with                             the survey of some steps; with one step more
+--     survey_of, survey_with                           the survey of some steps; with one step more
 --     with_far, with_near                              a step that is far, or not
---     most_before                                       the most pieces before the last step
+--     most_before                                      the most pieces before the last step
 --     Surveying                                        the loop over the walk
 --     surveying_none, surveying_more, surveying_all    it begins, goes on, ends
 --     surveying_lent, surveying_most                   the present step's words are there; there are few pieces

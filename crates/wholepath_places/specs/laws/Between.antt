@@ -6,7 +6,7 @@
 --     first_fits, second_fits, sum_fits, quotient_fits, word_fits      products, sum, quotient and place fit 32 bits
 --     product_low, product_fits, rest_fits                             the remainder, by a product; it fits 16 bits
 --     place_made                                                       the quotient and the remainder are those of document 02
---     NearLift, farthest_spot                                           a place and a lift in range; as far as a crossing can lie
+--     NearLift, farthest_spot                                          a place and a lift in range; as far as a crossing can lie
 --     over_fits, under_fits, lifted_over, lifted_under, lifted_flat    the lift added, taken off, or none
 --     Crossing, crossing_few                                           crossing j of n with its lift; it is near
 --     lift_near, lifted_made, coordinate_word, coordinate_rest         the same of the words as the machine has them

@@ -32,17 +32,17 @@ are_present-requires c = let n = names_are c.args.e c.args.c1 c.args.c2 (sym c.a
 pub returns-then-not-are_present : goal.returns-then-not-are_present
 unfolding new_edge
 returns-then-not-are_present c = simp (
-      (seen_good c.args.t.now c.is_good.ensures c.if-not-is_good.false).0,
-      sym c.are_names.ensures ∙ c.if-not-are_names.false,
-      eq-eqb _ _ c.if-t-e-ne0.false,
-      sym c.are_present.ensures ∙ c.if-not-are_present.true,
-    )
+  (seen_good c.args.t.now c.is_good.ensures c.if-not-is_good.false).0,
+  sym c.are_names.ensures ∙ c.if-not-are_names.false,
+  eq-eqb _ _ c.if-t-e-ne0.false,
+  sym c.are_present.ensures ∙ c.if-not-are_present.true,
+)
 
 pub returns : goal.returns
 unfolding new_edge
 returns c = simp (
-      (seen_good c.args.t.now c.is_good.ensures c.if-not-is_good.false).0,
-      sym c.are_names.ensures ∙ c.if-not-are_names.false,
-      eq-eqb _ _ c.if-t-e-ne0.false,
-      sym c.are_present.ensures ∙ c.if-not-are_present.false,
-    )
+  (seen_good c.args.t.now c.is_good.ensures c.if-not-is_good.false).0,
+  sym c.are_names.ensures ∙ c.if-not-are_names.false,
+  eq-eqb _ _ c.if-t-e-ne0.false,
+  sym c.are_present.ensures ∙ c.if-not-are_present.false,
+)

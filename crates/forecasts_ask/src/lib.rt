@@ -1,3 +1,4 @@
 // What an edit of an edge would do, read on the table as it is, with nothing written.
 #![tactic(auto)]
+
 pub mod ask;

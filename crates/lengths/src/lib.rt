@@ -1,3 +1,4 @@
 // The cut length of a ribbon.
 #![tactic(auto)]
+
 pub mod length;

@@ -1,5 +1,6 @@
 // Job records: decoded, and run over a table, with a line for each that is declined.
 #![tactic(auto)]
+
 pub mod block;
 pub mod lines;
 pub mod records;

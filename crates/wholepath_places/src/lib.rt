@@ -1,3 +1,4 @@
 // Where one crossing sits, in whole sixteenths.
 #![tactic(auto)]
+
 pub mod between;

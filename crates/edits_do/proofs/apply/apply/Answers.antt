@@ -2,6 +2,7 @@
 use Rattle.edits.specs.laws.Edits.{same_edit, same_insertion, same_turn}
 use Rattle.edits.specs.laws.Rules.{faces_alone}
 use mathlib.Core.Path.{refl}
+use borrow.Author.Rules.{rules}
 use Rattle.edits_do.proofs.apply.apply.Goals as goal
 
 pub returns-in-AddVertex : goal.returns-in-AddVertex
@@ -12,11 +13,11 @@ returns-in-RemoveVertex c = same_edit _ _ _ _ _ c.in-RemoveVertex.is (faces_alon
 
 pub returns-in-InsertEdge : goal.returns-in-InsertEdge
 returns-in-InsertEdge c = same_insertion _ _ _ _ c.in-InsertEdge.edge c.in-InsertEdge.first c.in-InsertEdge.second c.in-InsertEdge.turns c.in-InsertEdge.length
-    (record { sfits = c.known_told-in-InsertEdge-1.given.1.1.1.0.1 }) c.in-InsertEdge.is c.insert_edge.ensures
+    (record { sfits = search rules }) c.in-InsertEdge.is c.insert_edge.ensures
 
 pub returns-in-DeleteEdge : goal.returns-in-DeleteEdge
 returns-in-DeleteEdge c = same_edit _ _ _ _ _ c.in-DeleteEdge.is c.delete_edge.ensures
 
 pub returns-in-TurnEdge : goal.returns-in-TurnEdge
-returns-in-TurnEdge c = same_turn _ _ _ _ c.in-TurnEdge.edge c.in-TurnEdge.amount (record { sfits = c.known_told-in-TurnEdge-1.given.1.0.1 }) c.in-TurnEdge.is
+returns-in-TurnEdge c = same_turn _ _ _ _ c.in-TurnEdge.edge c.in-TurnEdge.amount (record { sfits = search rules }) c.in-TurnEdge.is
     c.turn_edge.ensures

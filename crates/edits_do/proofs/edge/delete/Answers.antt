@@ -13,7 +13,7 @@ pub bounds-t-e-2 : goal.bounds-t-e-2
 bounds-t-e-2 c = simp length-set (omega arith)
 
 pub shape_of-t : goal.shape_of-t
-shape_of-t c = simp length-set (c.unlink-2.auto.0 ∙ c.unlink.auto.0)
+shape_of-t c = simp length-set (c.unlink-2.auto.t ∙ c.unlink.auto.t)
 
 pub returns : goal.returns
-returns c = delete_last c.args.t.now c.unlink.new.0 c.unlink-2.new.0 c.args.e c.unlink.ensures c.unlink-2.ensures
+returns c = delete_last c.args.t.now c.unlink.new.t c.unlink-2.new.t c.args.e c.unlink.ensures c.unlink-2.ensures

@@ -13,8 +13,8 @@ pub bounds-t-e-2 : goal.bounds-t-e-2
 bounds-t-e-2 c = simp length-set (omega arith)
 
 pub shape_of-t : goal.shape_of-t
-shape_of-t c = simp length-set (c.link-2.auto.0 ∙ c.link.auto.0)
+shape_of-t c = simp length-set (c.link-2.auto.t ∙ c.link.auto.t)
 
 pub returns : goal.returns
-returns c = insert_last c.args.t.now c.link.new.0 c.link-2.new.0 c.args.e c.args.c1 c.args.c2 c.first_corner-c.result
+returns c = insert_last c.args.t.now c.link.new.t c.link-2.new.t c.args.e c.args.c1 c.args.c2 c.first_corner-c.result
     c.args.w c.args.length c.link.ensures c.first_corner-c.ensures c.link-2.ensures

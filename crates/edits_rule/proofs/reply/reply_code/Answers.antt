@@ -11,20 +11,20 @@ use Rattle.edits_rule.specs.laws.Rule.{few_rules}
 use Rattle.edits_rule.proofs.reply.reply_code.Goals as goal
 
 pub overflow_mul-result : goal.overflow_mul-result
-overflow_mul-result c = let few = few_rules c.in-ByRule.rule c.rule_number.ensures in omega (arith, c.known_told-in-ByRule-1.given)
+overflow_mul-result c = let few = few_rules c.in-ByRule.rule c.rule_number.ensures in omega arith
 
 pub overflow_add-result : goal.overflow_add-result
-overflow_add-result c = let few = few_rules c.in-ByRule.rule c.rule_number.ensures in omega (arith, c.known_told-in-ByRule-1.given)
+overflow_add-result c = let few = few_rules c.in-ByRule.rule c.rule_number.ensures in omega arith
 
 pub overflow_cast-result-in-ByRule-2 : goal.overflow_cast-result-in-ByRule-2
-overflow_cast-result-in-ByRule-2 c = let few = few_rules c.in-ByRule.rule c.rule_number.ensures in omega (arith, c.known_told-in-ByRule-1.given)
+overflow_cast-result-in-ByRule-2 c = let few = few_rules c.in-ByRule.rule c.rule_number.ensures in omega arith
 
 pub returns-in-Faces : goal.returns-in-Faces
-returns-in-Faces c = to_z_pos w64 (omega (arith, c.known_told-1.given)) ∙ sym (ap reply_code c.in-Faces.is)
+returns-in-Faces c = to_z_pos w64 (omega arith) ∙ sym (ap reply_code c.in-Faces.is)
 
 pub returns-in-ByRule : goal.returns-in-ByRule
 returns-in-ByRule c = let few = few_rules c.in-ByRule.rule c.rule_number.ensures in
-    to_z_pos w64 (omega (arith, c.known_told-in-ByRule-1.given))
+    to_z_pos w64 (omega arith)
     ∙ ap (λ r. pos (c.in-ByRule.n + 65536 * r)) c.rule_number.ensures
     ∙ sym (ap reply_code c.in-ByRule.is)
 

@@ -3,4 +3,4 @@ use Rattle.edits.specs.laws.Unlink.{unlink_last}
 use Rattle.edits_write.proofs.splice.unlink.Goals as goal
 
 pub returns : goal.returns
-returns c = unlink_last c.args.t.now c.cut.new.0 c.args.x c.successor-s.result c.cut.ensures c.successor-s.ensures
+returns c = unlink_last c.args.t.now c.cut.new.t c.args.x c.successor-s.result c.cut.ensures c.successor-s.ensures

@@ -26,7 +26,7 @@ pub loop-edit-smaller : goal.loop-edit-smaller
 loop-edit-smaller c = let w = running_within c.loop-edit.invariant c.first_record.ensures c.in-Record.is in omega arith
 
 pub loop-edit-preserved : goal.loop-edit-preserved
-loop-edit-preserved c = running_more c.loop-edit.invariant c.first_record.ensures c.in-Record.is c.run_record-end.ensures.0 c.run_record-end.auto.0 c.run_record-end.ensures.1
+loop-edit-preserved c = running_more c.loop-edit.invariant c.first_record.ensures c.in-Record.is c.run_record-end.ensures.0 c.run_record-end.auto.t c.run_record-end.ensures.1
 
 pub shape_of-t-in-Stopped : goal.shape_of-t-in-Stopped
 shape_of-t-in-Stopped c = c.loop-edit.invariant.size

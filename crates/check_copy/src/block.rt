@@ -4,8 +4,8 @@ ghost use Rattle.table.specs.Layout.{words};
 ghost use Rattle.table.specs.laws.Rotation.{Case};
 ghost use Rattle.table.specs.laws.Blocks.{edge_blocks, vertex_blocks, DeadBlock, Blank, LooseBlock};
 ghost use Rattle.check_reads.specs.Reads.{idle_tests};
-ghost use Rattle.check_reads.specs.laws.Tests.{Told};
-ghost use Rattle.check_reads.specs.laws.Bounds.{room};
+ghost use Rattle.check_reads.proofs.laws.Tests.{Told};
+ghost use Rattle.check_reads.proofs.laws.Bounds.{room};
 
 use crate::read::read;
 use table::block::{BLOCK, DART_BLOCK};

@@ -4,8 +4,8 @@ ghost use Rattle.table.specs.Layout.{words, darts, edge_word, edge_of};
 ghost use Rattle.table.specs.laws.Darts.{RuledBelow, DartsTo, DartsSay};
 ghost use Rattle.table.specs.laws.Blocks.{edge_blocks};
 ghost use Rattle.check_reads.specs.Reads.{bare_tests, linked_tests, dart_tests, edge_in, edge_block, reads_below};
-ghost use Rattle.check_reads.specs.laws.Tests.{Told};
-ghost use Rattle.check_reads.specs.laws.Bounds.{room};
+ghost use Rattle.check_reads.proofs.laws.Tests.{Told};
+ghost use Rattle.check_reads.proofs.laws.Bounds.{room};
 
 use crate::block::is_idle;
 use crate::read::read;

@@ -3,7 +3,7 @@ ghost use Rattle.std.specs.Prelude.{◌≡◌, ℕ, ◌+◌, ◌*◌, ◌<◌, �
 ghost use Rattle.table.specs.Layout.{words, edges};
 ghost use Rattle.table.specs.Good.{LengthRule};
 ghost use Rattle.table.specs.laws.Rotation.{Case};
-ghost use Rattle.check_reads.specs.laws.Bounds.{room};
+ghost use Rattle.check_reads.proofs.laws.Bounds.{room};
 
 use crate::read::read;
 use table::layout::{EDGE, EDGES, LENGTH};

@@ -6,7 +6,7 @@ ghost use Rattle.table.specs.laws.Cycle.{CycleSays};
 ghost use Rattle.table.specs.laws.Vertices.{VertexSays, Summed, VerticesTo, VerticesSay};
 ghost use Rattle.table.specs.laws.Blocks.{vertex_blocks};
 ghost use Rattle.check_reads.specs.Reads.{cycle_test, vertex_tests, vertex_in, vertex_block, reads_of, reads_below};
-ghost use Rattle.check_reads.specs.laws.Bounds.{room};
+ghost use Rattle.check_reads.proofs.laws.Bounds.{room};
 
 use crate::block::is_loose;
 use crate::read::read;

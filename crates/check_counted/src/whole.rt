@@ -2,7 +2,7 @@
 ghost use Rattle.std.specs.Prelude.{◌≡◌, ◌+◌, ◌≤◌};
 ghost use Rattle.table.specs.Check.{good?, check_of};
 ghost use Rattle.check_reads.specs.Reads.{check_reads};
-ghost use Rattle.check_reads.specs.laws.Bounds.{room};
+ghost use Rattle.check_reads.proofs.laws.Bounds.{room};
 
 use check_copy::dart::live_darts;
 use check_copy::length::lengths_fit;

@@ -1,3 +1,1 @@
 pub mod Reads
-pub mod laws
-pub mod Theorems

@@ -4,5 +4,3 @@ pub mod Turns
 pub mod Verdicts
 pub mod Edits
 pub mod Rules
-pub mod laws
-pub mod Theorems

@@ -4,7 +4,7 @@ ghost use Rattle.edits.specs.Edge.{first_corner, inserted, deleted};
 ghost use Rattle.edits.specs.Edits.{edited};
 ghost use Rattle.edits.specs.Rules.{reply};
 ghost use Rattle.edits.specs.declared.edit.Edit.TheVariants.{InsertEdge, DeleteEdge, TurnEdge};
-ghost use Rattle.edits.specs.laws.Ready.{InsertReady, DeleteReady};
+ghost use Rattle.edits.proofs.laws.Ready.{InsertReady, DeleteReady};
 ghost use Rattle.table.specs.Layout.{edges};
 
 use edits::edit::Verdict;

@@ -1,7 +1,7 @@
 // What an edit answers, with its rule and as C gets it.
 ghost use Rattle.std.specs.Prelude.{◌≡◌, ◌≤◌};
 ghost use Rattle.std.proofs.Math.Option.{none};
-ghost use Rattle.tracing.specs.laws.Place.{places};
+ghost use Rattle.tracing.proofs.laws.Place.{places};
 ghost use Rattle.edits.specs.declared.rule.Reply.TheVariants.{ByRule};
 ghost use Rattle.edits_rule.specs.laws.Rule.{Allowed};
 ghost use Rattle.edits.specs.Rules.{faces_after, with_rule, rule_number, reply_code};

@@ -2,7 +2,7 @@
 ghost use Rattle.std.specs.Prelude.{◌≡◌, ◌<◌, length};
 ghost use Rattle.table.specs.Layout.{words, darts};
 ghost use Rattle.edits.specs.Edge.{splice, cut, lesser, successor, unlink, link};
-ghost use Rattle.edits.specs.laws.Ready.{SpliceReady, CutReady, LinkReady, UnlinkReady};
+ghost use Rattle.edits.proofs.laws.Ready.{SpliceReady, CutReady, LinkReady, UnlinkReady};
 
 use table::layout::{DARTS, ISOLATED, LEAVES, LONE, NOTHING, PREV, VERTEX};
 

@@ -1,4 +1,2 @@
 pub mod Forecast
 pub mod Number
-pub mod laws
-pub mod Theorems

@@ -5,7 +5,7 @@ ghost use Rattle.forecasts.specs.Forecast.{ask};
 ghost use Rattle.forecasts_ask.specs.laws.Ask.{foretold_by};
 ghost use Rattle.forecasts.specs.declared.forecast.Asked.TheVariants.{Foretold};
 ghost use Rattle.edits_rule.specs.laws.Rule.{Allowed};
-ghost use Rattle.tracing.specs.laws.Place.{places};
+ghost use Rattle.tracing.proofs.laws.Place.{places};
 
 use edits::edit::Verdict;
 use edits_rule::deletion::delete_rule;

@@ -1,7 +1,7 @@
 // A forecast as one number: as C gets it from ask, and as it hands it to commit.
 ghost use Rattle.std.specs.Prelude.{◌≡◌};
 ghost use Rattle.forecasts.specs.Number.{asked_code, forecast_in};
-ghost use Rattle.forecasts.specs.laws.Number.{Numbered};
+ghost use Rattle.forecasts.proofs.laws.Number.{Numbered};
 
 use edits::rule::RULE_PLACE;
 use forecasts::forecast::{Asked, Forecast};

@@ -7,5 +7,3 @@ pub mod Faces
 pub mod Orbits
 pub mod Follow
 pub mod Mirror
-pub mod laws
-pub mod Theorems

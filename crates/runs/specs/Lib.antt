@@ -1,4 +1,2 @@
 pub mod Run
 pub mod RunLaws
-pub mod laws
-pub mod Theorems

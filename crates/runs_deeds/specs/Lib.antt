@@ -1,4 +1,2 @@
 pub mod Deeds
 pub mod DeedLaws
-pub mod laws
-pub mod Theorems

@@ -1,3 +1,1 @@
 pub mod Samples
-pub mod laws
-pub mod Theorems

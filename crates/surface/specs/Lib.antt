@@ -6,5 +6,3 @@ pub mod Signed
 pub mod Rows
 pub mod Calls
 pub mod Chain
-pub mod laws
-pub mod Theorems

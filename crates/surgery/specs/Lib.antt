@@ -4,5 +4,3 @@ pub mod Sits
 pub mod Turn
 pub mod Vertex
 pub mod Without
-pub mod laws
-pub mod Theorems

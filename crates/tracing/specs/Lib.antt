@@ -5,5 +5,3 @@ pub mod Call
 pub mod Corner
 pub mod Met
 pub mod Sides
-pub mod laws
-pub mod Theorems

@@ -6,7 +6,7 @@ ghost use Rattle.tracing.specs.Listing.{face_count};
 ghost use Rattle.tracing.specs.Corner.{meeting_by, meeting_of};
 ghost use Rattle.tracing.specs.Sides.{sides_of};
 ghost use Rattle.tracing.specs.declared.meeting.Meeting.TheVariants.{SameType};
-ghost use Rattle.tracing.specs.laws.Sides.{sides_met};
+ghost use Rattle.tracing.proofs.laws.Sides.{sides_met};
 ghost use Rattle.tracing_meets.specs.laws.Read.{Corners, LiveEdge, TagRead};
 
 use table::layout::{DARTS, EDGE, LONE, NOTHING};

@@ -1,4 +1,2 @@
 pub mod Trial
 pub mod TrialLaws
-pub mod laws
-pub mod Theorems

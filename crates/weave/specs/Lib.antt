@@ -1,5 +1,3 @@
 pub mod Letters
 pub mod Calls
 pub mod Ribbon
-pub mod Theorems
-pub mod laws

@@ -12,23 +12,23 @@ use Rattle.table.specs.Good.{Good}
 use Rattle.table.specs.Rotation.{rotation}
 use Rattle.table.specs.laws.Lawful.{good_lawful}
 use Rattle.tracing.specs.Listing.{face_count}
-use Rattle.tracing.specs.laws.Place.{places}
-use Rattle.tracing.specs.laws.FaceCount.{faces_low}
+use Rattle.tracing.proofs.laws.Place.{places}
+use Rattle.tracing.proofs.laws.FaceCount.{faces_low}
 use Rattle.tracing.specs.declared.meeting.Meeting.TheVariants.{SameType, OtherType}
 use Rattle.surgery.specs.Change.{Change, Changes, insertion}
 use Rattle.edits.specs.declared.rule.Rule.{Rule}
 use Rattle.edits.specs.declared.rule.Rule.TheVariants as rule
 use Rattle.edits.specs.Rules.{rule_for, turn_rule, rule_of, rule_change, faces_after, rule_number, reply}
-use Rattle.edits.specs.laws.Rules.{number_small, rule_changes, by_rule}
+use Rattle.edits.proofs.laws.Rules.{number_small, rule_changes, by_rule}
 use Rattle.edits.specs.Verdicts.{verdict}
 use Rattle.edits.specs.Edits.{written, edited}
-use Rattle.edits.specs.laws.Edits.{edited_passes}
+use Rattle.edits.proofs.laws.Edits.{edited_passes}
 use Rattle.edits.specs.declared.edit.Edit.{Edit}
 use Rattle.edits.specs.declared.edit.Verdict.TheVariants.{Passes}
 use Rattle.edits.specs.declared.rule.Reply.{Reply}
 use Rattle.edits.specs.declared.rule.Reply.TheVariants.{ByRule}
-use Rattle.edits.specs.laws.Changes.{first_live}
-use Rattle.edits.specs.laws.Verdicts.{MayInsert, MayDelete, MayTurn}
+use Rattle.edits.proofs.laws.Changes.{first_live}
+use Rattle.edits.proofs.laws.Verdicts.{MayInsert, MayDelete, MayTurn}
 use Rattle.tracing_meets.specs.laws.Read.{Corners, LiveEdge}
 
 -- what the reading of the rule asks, of an edit that goes through

@@ -16,7 +16,7 @@ use mathlib.Core.List.{List, [], ◌∷◌, ◌++◌, map, map-append, flat_map}
 use Rattle.std.proofs.lemmas.List.{length-map}
 use Rattle.std.proofs.lemmas.List.Edits.{sets}
 use Rattle.std.proofs.Math.Seq.{length-sets}
-use Rattle.orbits.specs.laws.Truth.{truth, holds, fails, clash}
+use Rattle.orbits.proofs.laws.Truth.{truth, holds, fails, clash}
 use Rattle.table.specs.Rotation.{rotation}
 use Rattle.table.specs.laws.Lawful.{good_lawful}
 use Rattle.table.specs.Output.{front}
@@ -24,14 +24,14 @@ use Rattle.table.specs.laws.Flat.{flat_append, flat_one, flat_length}
 use Rattle.table.specs.laws.Output.{sets_append, sets_front}
 use Rattle.tracing.specs.Step.{step}
 use Rattle.tracing.specs.Walk.{walk}
-use Rattle.tracing.specs.laws.Walk.{iterates, run_suc, run_length, walk_run, walk_period, walk_period_le}
+use Rattle.tracing.proofs.laws.Walk.{iterates, run_suc, run_length, walk_run, walk_period, walk_period_le}
 use Rattle.tracing_walks.specs.laws.Stands.{stands_low}
 use Rattle.tracing_walks.specs.laws.Along.{Walking, walking_none, walking_more, walking_all, along_few}
 use Rattle.weave.specs.Ribbon.{some}
 use Rattle.floatpath_pieces.specs.declared.piece.Point.{Point}
 use Rattle.floatpath_pieces.specs.declared.piece.Piece.{Piece}
 use Rattle.floatpath_pieces.specs.declared.piece.Piece.TheVariants.{Close}
-use Rattle.weave.specs.laws.Tests.{walk_some}
+use Rattle.weave.proofs.laws.Tests.{walk_some}
 use Rattle.floatpath_pieces.specs.Path.{piece_on, path_from, form_of, forms_of, point_of, floats_of, far_step}
 use Rattle.floatpath_pieces.specs.laws.Places.{Lent}
 

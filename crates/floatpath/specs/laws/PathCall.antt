@@ -21,12 +21,12 @@ use Rattle.table.specs.declared.answer.Refusal.{Refusal}
 use Rattle.table.specs.declared.answer.Refusal.TheVariants.{ShortSlice, ManyTurns, Far}
 use Rattle.tracing.specs.Step.{step, steps}
 use Rattle.tracing.specs.Walk.{walk}
-use Rattle.tracing.specs.laws.Walk.{run_length, walk_run, walk_period, walk_period_le}
+use Rattle.tracing.proofs.laws.Walk.{run_length, walk_run, walk_period, walk_period_le}
 use Rattle.tracing_walks.specs.laws.Stands.{Stands, stands_low}
 use Rattle.weave.specs.declared.named.Named.{Named}
 use Rattle.weave.specs.declared.named.Named.TheVariants.{There, Refused}
 use Rattle.weave.specs.Calls.{named_step}
-use Rattle.weave.specs.laws.Calls.{there_steps}
+use Rattle.weave.proofs.laws.Calls.{there_steps}
 use Rattle.weave.specs.Ribbon.{some}
 use Rattle.floatpath.specs.declared.survey.Survey.{Survey}
 use Rattle.floatpath_pieces.specs.Path.{point_words, lift_words, path_from, forms_of, floats_of, many_turns, far_step}

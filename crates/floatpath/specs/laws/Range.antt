@@ -12,7 +12,7 @@ use Rattle.std.proofs.Math.IntN.{+ℤ_idl}
 use Rattle.std.specs.Int.Signed.{lt_z, mag}
 use Rattle.std.specs.Int.{w32}
 use Rattle.std.proofs.Math.Facts.{to_z_pos}
-use Rattle.orbits.specs.laws.Truth.{clash}
+use Rattle.orbits.proofs.laws.Truth.{clash}
 use Rattle.floatpath_pieces.specs.declared.place.Places.{Places}
 use Rattle.floatpath_pieces.specs.Path.{farthest_point, farthest_lift, sixteenths, first_end, second_end, lift_at, past, far_three, far_step}
 use Rattle.floatpath_pieces.specs.laws.Places.{places_of, Lent, lies}

@@ -10,12 +10,12 @@ use Rattle.std.proofs.Math.Bool.{or-false}
 use Rattle.table.specs.Rotation.{rotation}
 use Rattle.tracing.specs.Step.{step, steps}
 use Rattle.tracing.specs.Walk.{walk}
-use Rattle.tracing.specs.laws.Walk.{iterates, run_suc, run_length}
+use Rattle.tracing.proofs.laws.Walk.{iterates, run_suc, run_length}
 use Rattle.tracing_walks.specs.laws.Along.{Walking, walking_none, walking_more, walking_all, walking_few}
 use Rattle.weave.specs.Letters.{crossings}
 use Rattle.weave_letters.specs.laws.Crossing.{EdgeWord}
 use Rattle.weave.specs.Ribbon.{some}
-use Rattle.weave.specs.laws.Ribbon.{some_append}
+use Rattle.weave.proofs.laws.Ribbon.{some_append}
 use Rattle.floatpath.specs.declared.survey.Survey.{Survey}
 use Rattle.floatpath_pieces.specs.Path.{point_words, lift_words, many_turns, far_step}
 use Rattle.floatpath_pieces.specs.laws.Places.{Lent}

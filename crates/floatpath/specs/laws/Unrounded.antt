@@ -4,7 +4,7 @@
 --     held_point        a piece holds the point that it is made of
 use Rattle.std.specs.Prelude.{ℕ, ◌+◌, ◌*◌, ◌≡◌, refl, Bool, true, false, cond, List, eqb, ℤ}
 use Rattle.std.proofs.Common.{arith, sym}
-use Rattle.orbits.specs.laws.Truth.{truth, holds, fails, clash}
+use Rattle.orbits.proofs.laws.Truth.{truth, holds, fails, clash}
 use Rattle.table.specs.Rotation.{rotation}
 use Rattle.table.specs.laws.Output.{done_declined}
 use Rattle.table.specs.declared.answer.Answer.TheVariants.{Done}
@@ -14,8 +14,8 @@ use Rattle.weave.specs.declared.named.Named.{Named}
 use Rattle.weave.specs.declared.named.Named.TheVariants.{There, Refused}
 use Rattle.weave.specs.Letters.{over, under}
 use Rattle.weave.specs.Calls.{named_step}
-use Rattle.weave.specs.laws.Calls.{there_steps}
-use Rattle.weave.specs.laws.Ribbon.{passes_some}
+use Rattle.weave.proofs.laws.Calls.{there_steps}
+use Rattle.weave.proofs.laws.Ribbon.{passes_some}
 use Rattle.floatpath_pieces.specs.declared.piece.Point.{Point}
 use Rattle.floatpath_pieces.specs.declared.piece.Piece.TheVariants.{Over, Under, Flat}
 use Rattle.floatpath_pieces.specs.laws.Exact.{over32_exact}

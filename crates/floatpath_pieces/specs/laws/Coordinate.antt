@@ -11,7 +11,7 @@ use Rattle.std.proofs.Common.{arith, ◌∙◌, SFits, to_z-of_z}
 use Rattle.std.proofs.Math.Path.{ap}
 use Rattle.std.specs.Int.{w32}
 use borrow.Author.Tests.{eq-eqb, ne_eqb}
-use Rattle.orbits.specs.laws.Truth.{truth, holds, fails}
+use Rattle.orbits.proofs.laws.Truth.{truth, holds, fails}
 use Rattle.table.specs.laws.Signed.{handed, size_sum, size_minus, size_twice}
 use Rattle.weave.specs.Letters.{over, under}
 use Rattle.floatpath_pieces.specs.Exact.{largest, over32}

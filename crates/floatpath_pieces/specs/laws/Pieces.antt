@@ -12,7 +12,7 @@ use Rattle.std.proofs.Common.{◌∙◌}
 use Rattle.std.specs.Float.{binary32}
 use Rattle.std.specs.Float.Ieee.{of_bits}
 use borrow.Author.Tests.{ltb-false, eq-eqb, ne_eqb}
-use Rattle.orbits.specs.laws.Truth.{clash}
+use Rattle.orbits.proofs.laws.Truth.{clash}
 use Rattle.weave.specs.Letters.{over, under, unturned, positive, crossings, letter, crossed, letters_on, step_letters, letter_at}
 use Rattle.weave_letters.specs.laws.Crossing.{EdgeWord}
 use Rattle.floatpath_pieces.specs.declared.piece.Point.{Point}

@@ -8,7 +8,7 @@ use Rattle.table.specs.declared.answer.Refusal.{Refusal}
 use Rattle.tracing.specs.Listing.{face_count}
 use Rattle.edits.specs.Verdicts.{verdict}
 use Rattle.edits.specs.Edits.{written}
-use Rattle.edits.specs.laws.Rules.{rule_changes}
+use Rattle.edits.proofs.laws.Rules.{rule_changes}
 use Rattle.edits.specs.Rules.{rule_of, faces_after, rule_number}
 use Rattle.edits.specs.declared.edit.Edit.{Edit}
 use Rattle.edits.specs.declared.edit.Verdict.TheVariants.{Passes, Declines}
@@ -18,7 +18,7 @@ use Rattle.forecasts.specs.declared.forecast.Forecast.{Forecast}
 use Rattle.forecasts.specs.declared.forecast.Asked.{Asked}
 use Rattle.forecasts.specs.declared.forecast.Asked.TheVariants.{Foretold, Refused}
 use Rattle.forecasts.specs.Forecast.{forecast, ask}
-use Rattle.forecasts.specs.laws.Forecast.{ask_passes, ask_declines}
+use Rattle.forecasts.proofs.laws.Forecast.{ask_passes, ask_declines}
 
 -- the three answers, by the face count before and the rule
 abbrev pub foretold_by : ℕ → Rule → Forecast

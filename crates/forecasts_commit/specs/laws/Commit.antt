@@ -6,9 +6,9 @@ use Rattle.std.proofs.Math.Option.{some}
 use Rattle.table.specs.declared.answer.Refusal.{Refusal}
 use Rattle.edits.specs.Verdicts.{verdict}
 use Rattle.edits.specs.Edits.{written}
-use Rattle.edits.specs.laws.Edits.{edited_passes}
+use Rattle.edits.proofs.laws.Edits.{edited_passes}
 use Rattle.edits.specs.Rules.{rule_of, rule_number, number_met}
-use Rattle.edits.specs.laws.Rules.{by_rule}
+use Rattle.edits.proofs.laws.Rules.{by_rule}
 use Rattle.edits.specs.declared.edit.Edit.{Edit}
 use Rattle.edits.specs.declared.edit.Verdict.{Verdict}
 use Rattle.edits.specs.declared.edit.Verdict.TheVariants.{Passes, Declines}
@@ -18,7 +18,7 @@ use Rattle.edits.specs.declared.rule.Reply.TheVariants.{ByRule, Refused}
 use Rattle.forecasts.specs.declared.forecast.Forecast.{Forecast}
 use Rattle.forecasts.specs.declared.forecast.Asked.{Asked}
 use Rattle.forecasts.specs.Forecast.{forecast, ask, on_asked, commit_verdict, commit_reply, committed}
-use Rattle.forecasts.specs.laws.Forecast.{rule_numbered, numbered, asked_passes, commit_exactly, commit_plain, commit_declines}
+use Rattle.forecasts.proofs.laws.Forecast.{rule_numbered, numbered, asked_passes, commit_exactly, commit_plain, commit_declines}
 
 -- the plain edit's reply, by the forecast
 abbrev pub told_reply : Forecast → Reply

@@ -1,6 +1,6 @@
 -- `print_report` meets its contract. The invariant: the first `from` bytes of the report are handed over. The measure is what is left of it.
 use Rattle.job.specs.laws.Report.{showing_none, part_room, part_low, part_within, showing_more, showing_all}
-use Rattle.orbits.specs.laws.Truth.{clash}
+use Rattle.orbits.proofs.laws.Truth.{clash}
 use lib.Seq.{length-take-le}
 use native.Mathlib.Omega.{arith}
 use mathlib.Core.Path.{refl, sym}

@@ -1,7 +1,7 @@
 -- `read_job` meets its contract. The invariant: what came is read, and the bytes of a cut record wait
 -- at the front of the buffer. The measure is the bytes that may still come, and one more turn for the read that gives none.
 use Rattle.job.specs.laws.Progress.{going_none, going_ready, going_less, going_more, going_over}
-use Rattle.orbits.specs.laws.Truth.{clash}
+use Rattle.orbits.proofs.laws.Truth.{clash}
 use borrow.Author.Tests.{ltb-true, ltb-false}
 use mathlib.Core.Path.{sym}
 use Prim.Native.Nat.{◌-◌}

@@ -10,7 +10,7 @@ use Rattle.std.specs.Prelude.{ℕ, zero, suc, ◌+◌, ◌-◌, ◌≤◌, ◌<�
 use Rattle.std.proofs.Common.{arith, zero-add, suc-add, sym, ◌∙◌, ap, ap₂, length-append, length-drop, length-take-le}
 use Rattle.std.proofs.lemmas.List.Edits.{sets}
 use Rattle.std.proofs.Math.Seq.{length-sets, take-nil, drop-nil}
-use Rattle.orbits.specs.laws.Truth.{clash, truth, holds, fails}
+use Rattle.orbits.proofs.laws.Truth.{clash, truth, holds, fails}
 use Rattle.table.specs.Good.{Good}
 use Rattle.text.specs.laws.Paste.{front_text}
 use Rattle.records.specs.declared.block.Block.{Block}

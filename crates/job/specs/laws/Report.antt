@@ -9,7 +9,7 @@ use Rattle.std.proofs.Common.{arith, sym, ◌∙◌, ap, length-take-le, eq-eqb}
 use Rattle.std.proofs.Math.ListN.{length, length-append}
 use Rattle.std.proofs.lemmas.List.Edits.{sets}
 use Rattle.std.proofs.Math.Seq.{length-sets}
-use Rattle.orbits.specs.laws.Truth.{clash}
+use Rattle.orbits.proofs.laws.Truth.{clash}
 use Rattle.table.specs.Layout.{words}
 use Rattle.table.specs.Good.{Good}
 use Rattle.table.specs.Empty.{empty_table, emptied}
@@ -21,7 +21,7 @@ use Rattle.report.specs.Window.{window_text, window_of}
 use Rattle.report.specs.laws.Window.{window_size}
 use Rattle.records.specs.declared.records.Stop.{Stop}
 use Rattle.runs.specs.Run.{run}
-use Rattle.runs.specs.laws.Theorem.{run_good}
+use Rattle.runs.proofs.laws.Theorem.{run_good}
 use Rattle.records.specs.Reading.{reading}
 use Rattle.records.specs.laws.Reading.{reading_bounds}
 use Rattle.records.specs.Lines.{lines, stop_line}

@@ -3,7 +3,7 @@
 --     cut_mixed                                14 exactly if some ribbon's turned edges do not all turn the same way
 use Rattle.std.specs.Prelude.{ℕ, ◌/◌, ◌%◌, ◌≡◌, refl, true, false, List, ◌↔◌}
 use Rattle.std.proofs.Common.{sym, ◌∙◌, ap}
-use Rattle.orbits.specs.laws.Truth.{truth, holds, fails}
+use Rattle.orbits.proofs.laws.Truth.{truth, holds, fails}
 use Rattle.table.specs.Good.{Good}
 use Rattle.table.specs.Rotation.{live?}
 use Rattle.table.specs.laws.Output.{done_declined}
@@ -15,8 +15,8 @@ use Rattle.weave.specs.declared.named.Named.TheVariants.{There, Refused}
 use Rattle.weave.specs.Calls.{named_step}
 use Rattle.weave.specs.Letters.{plain}
 use Rattle.weave.specs.Ribbon.{Mixed}
-use Rattle.weave.specs.laws.Calls.{named_live}
-use Rattle.weave.specs.laws.Sense.{mixed_iff}
+use Rattle.weave.proofs.laws.Calls.{named_live}
+use Rattle.weave.proofs.laws.Sense.{mixed_iff}
 use Rattle.lengths.specs.CutLength.{cut_length, cut_length_by, cut_length_of}
 
 module _ (t : List ℕ) (d k : ℕ) {n : Named} (e : n ≡ named_step t d k) where

@@ -8,7 +8,7 @@
 use Rattle.std.specs.Prelude.{ℕ, ◌+◌, ◌*◌, ◌/◌, ◌<◌, ◌≤◌, ◌≡◌, refl, true, List, ◌≢◌}
 use native.Mathlib.Omega.{arith}
 use Rattle.std.proofs.Common.{sym, ◌∙◌, ap, ap₂}
-use Rattle.orbits.specs.laws.Count.{count_le}
+use Rattle.orbits.proofs.laws.Count.{count_le}
 use Rattle.table.specs.Layout.{edges, leaves}
 use Rattle.table.specs.Good.{Good}
 use Rattle.table.specs.Rotation.{Rotation, Lawful, rotation, live?, alone?, turns_of}
@@ -18,19 +18,19 @@ use Rattle.table.specs.Answers.{unless}
 use Rattle.table.specs.declared.answer.Answer.TheVariants.{Done, Declined}
 use Rattle.table.specs.declared.answer.Refusal.TheVariants.{NotPlain}
 use Rattle.tracing.specs.Step.{steps, step_type, mirror, back}
-use Rattle.tracing.specs.laws.Step.{back_dart, back_type}
+use Rattle.tracing.proofs.laws.Step.{back_dart, back_type}
 use Rattle.tracing.specs.Walk.{walk}
 use Rattle.tracing.specs.Listing.{has, lone_corner}
 use Rattle.tracing.specs.Met.{times, edge_count}
-use Rattle.tracing.specs.laws.Length.{walk_bound}
-use Rattle.tracing.specs.laws.Totals.{total_most, total_named, total_mirror}
+use Rattle.tracing.proofs.laws.Length.{walk_bound}
+use Rattle.tracing.proofs.laws.Totals.{total_most, total_named, total_mirror}
 use Rattle.tracing_walks.specs.laws.Stands.{Stands, stands_low}
 use Rattle.tracing_walks.specs.laws.Along.{walk_stands}
 use Rattle.weave.specs.Letters.{over, word_of, step_letters, plain}
 use Rattle.weave.specs.declared.named.Named.{Named}
 use Rattle.weave.specs.declared.named.Named.TheVariants.{There, Refused}
 use Rattle.weave.specs.Calls.{named_step}
-use Rattle.weave.specs.laws.Calls.{there_steps}
+use Rattle.weave.proofs.laws.Calls.{there_steps}
 use Rattle.weave_letters.specs.laws.Counts.{overs_back}
 use Rattle.lengths.specs.CutLength.{length_of, taken_by, lap, cut_length, cut_length_by, cut_length_of}
 use Rattle.lengths.specs.laws.Summing.{cut_total, taken_most, taken_most_lem}

@@ -13,11 +13,11 @@ use Rattle.table.specs.Layout.{edge_of, longest}
 use Rattle.table.specs.Rotation.{rotation}
 use Rattle.tracing.specs.Step.{step}
 use Rattle.tracing.specs.Walk.{walk}
-use Rattle.tracing.specs.laws.Walk.{iterates}
+use Rattle.tracing.proofs.laws.Walk.{iterates}
 use Rattle.tracing.specs.Listing.{gather}
 use Rattle.tracing.specs.Met.{times, count_in, total}
-use Rattle.tracing.specs.laws.Has.{count_in_append}
-use Rattle.tracing.specs.laws.Totals.{total_last}
+use Rattle.tracing.proofs.laws.Has.{count_in_append}
+use Rattle.tracing.proofs.laws.Totals.{total_last}
 use Rattle.tracing_walks.specs.laws.Stands.{Stands, stands_low}
 use Rattle.tracing_walks.specs.laws.Along.{Walking, walking_none, walking_more, walking_all, walking_few}
 use Rattle.weave.specs.Letters.{over, letters_on, step_letters, letters}

@@ -2,7 +2,7 @@
 use mathlib.Core.Path.{◌∙◌, ap, refl}
 use Rattle.table.specs.laws.Answers.{handed_on}
 use Rattle.forecasts.specs.Number.{asked_code}
-use Rattle.forecasts.specs.laws.Number.{asked_numbered}
+use Rattle.forecasts.proofs.laws.Number.{asked_numbered}
 use Rattle.planner.proofs.planner_ask_delete_edge.Goals as goal
 
 pub asked_code-requires : goal.asked_code-requires

@@ -1,9 +1,9 @@
 -- `planner::planner_ask_turn_edge` meets its contract. What turning edge e by an amount would do.
 use mathlib.Core.Path.{◌∙◌, ap, refl}
 use Rattle.table.specs.laws.Answers.{handed_on}
-use Rattle.forecasts.specs.laws.Forecast.{asked_turn}
+use Rattle.forecasts.proofs.laws.Forecast.{asked_turn}
 use Rattle.forecasts.specs.Number.{asked_code}
-use Rattle.forecasts.specs.laws.Number.{asked_numbered}
+use Rattle.forecasts.proofs.laws.Number.{asked_numbered}
 use Rattle.planner.proofs.planner_ask_turn_edge.Goals as goal
 
 pub asked_code-requires : goal.asked_code-requires

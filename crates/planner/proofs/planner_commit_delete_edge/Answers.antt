@@ -5,7 +5,7 @@ use mir.Facts.{to_z-of_z}
 use Rattle.table.specs.laws.Answers.{handed_on}
 use Rattle.edits.specs.Rules.{reply_code}
 use Rattle.forecasts.specs.Number.{forecast_in}
-use Rattle.forecasts.specs.laws.Forecast.{same_commit}
+use Rattle.forecasts.proofs.laws.Forecast.{same_commit}
 use Rattle.planner.proofs.planner_commit_delete_edge.Goals as goal
 
 pub returns : goal.returns

@@ -6,7 +6,7 @@ use Rattle.table.specs.laws.Answers.{handed_on}
 use Rattle.edits.specs.Rules.{reply_code}
 use Rattle.edits.specs.declared.edit.Edit.TheVariants.{InsertEdge}
 use Rattle.forecasts.specs.Number.{forecast_in}
-use Rattle.forecasts.specs.laws.Forecast.{same_commit}
+use Rattle.forecasts.proofs.laws.Forecast.{same_commit}
 use Rattle.planner.proofs.planner_commit_insert_edge.Goals as goal
 
 pub returns : goal.returns

@@ -2,7 +2,7 @@
 use mathlib.Core.Path.{◌∙◌, ap, refl}
 use Rattle.edits.specs.Rules.{reply_code}
 use Rattle.table.specs.laws.Answers.{handed_on}
-use Rattle.edits.specs.laws.Edits.{same_insertion}
+use Rattle.edits.proofs.laws.Edits.{same_insertion}
 use Rattle.planner.proofs.planner_insert_edge.Goals as goal
 
 pub returns : goal.returns

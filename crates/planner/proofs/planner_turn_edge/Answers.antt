@@ -2,7 +2,7 @@
 use mathlib.Core.Path.{◌∙◌, ap, refl}
 use Rattle.edits.specs.Rules.{reply_code}
 use Rattle.table.specs.laws.Answers.{handed_on}
-use Rattle.edits.specs.laws.Edits.{same_turn}
+use Rattle.edits.proofs.laws.Edits.{same_turn}
 use Rattle.planner.proofs.planner_turn_edge.Goals as goal
 
 pub returns : goal.returns

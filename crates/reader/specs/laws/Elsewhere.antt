@@ -6,17 +6,17 @@ use native.Mathlib.Omega.{arith}
 use Rattle.std.proofs.Math.Path.{◌≡◌, subst}
 use Rattle.std.specs.Prelude.{refl, false, List, ◌≢◌}
 use Rattle.std.proofs.Common.{sym}
-use Rattle.orbits.specs.laws.Truth.{clash}
+use Rattle.orbits.proofs.laws.Truth.{clash}
 use Rattle.orbits.specs.Reach.{Reach}
-use Rattle.orbits.specs.laws.Reach.{reach_here, reach_one, reach_trans}
+use Rattle.orbits.proofs.laws.Reach.{reach_here, reach_one, reach_trans}
 use Rattle.table.specs.Rotation.{rotation}
 use Rattle.table.specs.laws.Lawful.{good_lawful}
 use Rattle.table.specs.declared.answer.Answer.TheVariants.{Done}
 use Rattle.tracing.specs.Step.{step}
 use Rattle.tracing.specs.Walk.{walk}
 use Rattle.tracing.specs.Listing.{has}
-use Rattle.tracing.specs.laws.Place.{trace, trace_step}
-use Rattle.tracing.specs.laws.Meets.{walk_has}
+use Rattle.tracing.proofs.laws.Place.{trace, trace_step}
+use Rattle.tracing.proofs.laws.Meets.{walk_has}
 use Rattle.tracing_walks.specs.laws.Stands.{stands_low}
 use Rattle.weave.specs.declared.named.Named.{Named}
 use Rattle.weave.specs.declared.named.Named.TheVariants.{There, Refused}

@@ -14,7 +14,7 @@ use Rattle.std.specs.Prelude.{ℕ, ◌+◌, ◌*◌, ◌/◌, ◌%◌, ◌<◌, 
 use Rattle.std.proofs.Common.{arith, sym, ◌∙◌, ap}
 use Rattle.std.proofs.Math.Bool.{and-true}
 use borrow.Author.Tests.{lt-ltb, le-ltb, ltb-true, eqb-true, eq-eqb, ne_eqb}
-use Rattle.orbits.specs.laws.Truth.{truth, holds, fails, both_left, both_right}
+use Rattle.orbits.proofs.laws.Truth.{truth, holds, fails, both_left, both_right}
 use Rattle.table.specs.Layout.{darts, edge_of, edge_word}
 use Rattle.table.specs.Rotation.{rotation, live?}
 use Rattle.table.specs.laws.Rotation.{yes_live, not_live, case_yes}

@@ -15,7 +15,7 @@ use Rattle.std.proofs.Common.{◌∙◌, lt-ltb, eq-eqb, ne_eqb}
 use Rattle.std.proofs.Math.Bool.{true}
 use Rattle.std.proofs.Math.ListN.{length}
 use Rattle.orbits.specs.Iterate.{iter}
-use Rattle.orbits.specs.laws.Iterate.{iter_suc, iter_keeps, Period}
+use Rattle.orbits.proofs.laws.Iterate.{iter_suc, iter_keeps, Period}
 use Rattle.table.specs.Rotation.{rotation, live?}
 use Rattle.table.specs.laws.Rotation.{live_yes}
 use Rattle.table.specs.laws.Lawful.{good_lawful}
@@ -23,9 +23,9 @@ use Rattle.table.specs.laws.Check.{good_yes}
 use Rattle.table.specs.declared.answer.Answer.TheVariants.{Done}
 use Rattle.tracing.specs.Step.{step, steps}
 use Rattle.tracing.specs.Walk.{walk}
-use Rattle.tracing.specs.laws.Walk.{iterates, run_suc, run_length, walk_run, walk_period, walk_period_le}
+use Rattle.tracing.proofs.laws.Walk.{iterates, run_suc, run_length, walk_run, walk_period, walk_period_le}
 use Rattle.tracing.specs.Listing.{gather, bit}
-use Rattle.tracing.specs.laws.Totals.{total_last}
+use Rattle.tracing.proofs.laws.Totals.{total_last}
 use Rattle.tracing_walks.specs.laws.Stands.{Stands, stands_low, stands_step}
 use Rattle.weave.specs.declared.named.Named.TheVariants.{There}
 use Rattle.weave.specs.Letters.{over, under, step_letters, letters, plain}
@@ -33,14 +33,14 @@ use Rattle.weave_letters.specs.laws.Counts.{letters_few}
 use Rattle.weave_letters.specs.laws.Passing.{letters_before, before_suc}
 use Rattle.weave.specs.Ribbon.{some}
 use Rattle.weave.specs.Calls.{named_step}
-use Rattle.weave.specs.laws.Calls.{there_steps}
+use Rattle.weave.proofs.laws.Calls.{there_steps}
 use Rattle.lengths.specs.CutLength.{taken_by, lap, cut_length_of}
 use Rattle.lengths.specs.laws.CutLength.{cut_along}
 use Rattle.lengths.specs.laws.Summing.{cut_total, taken_before, taken_most, taken_most_lem}
 use Rattle.reader.specs.declared.place.Step.{Step}
 use Rattle.reader_tally.specs.declared.tally.Tally.{Tally}
 use Rattle.tracing.specs.Met.{times, count_in, total}
-use Rattle.tracing.specs.laws.Has.{count_in_append}
+use Rattle.tracing.proofs.laws.Has.{count_in_append}
 use Rattle.reader_tally.specs.Forward.{past32, fits32, forward_of, lap_at, step_tally, tally_of}
 use Rattle.reader_tally.specs.laws.Forward.{lap_most}
 use Rattle.reader.specs.Reader.{begin_of, word_at, step_at, ends_at, moved_to, step_by, step_of}

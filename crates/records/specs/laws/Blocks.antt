@@ -6,10 +6,10 @@
 use Rattle.std.specs.Prelude.{ℕ, ◌+◌, ◌<◌, ◌≡◌, List, [], ◌++◌, true, false, length, drop}
 use Rattle.std.proofs.Common.{arith, sym, ◌∙◌, length-drop, drop-drop}
 use Rattle.std.proofs.Math.Path.{ap}
-use Rattle.orbits.specs.laws.Truth.{truth, holds, fails}
+use Rattle.orbits.proofs.laws.Truth.{truth, holds, fails}
 use Rattle.std.proofs.lemmas.List.{drop-append-le}
 use Rattle.runs.specs.Run.{run}
-use Rattle.runs.specs.laws.Run.{run_append}
+use Rattle.runs.proofs.laws.Run.{run_append}
 use Rattle.records.specs.Records.{longest_record}
 use Rattle.records.specs.Reading.{reading, reads_on}
 use Rattle.records.specs.laws.Reading.{joined, reading_blocks, reading_bad, reading_bounds}

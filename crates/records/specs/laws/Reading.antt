@@ -10,7 +10,7 @@ use Rattle.std.proofs.Math.Path.{ap}
 use Rattle.std.proofs.Math.ListN.{length-drop, get_or-append}
 use Rattle.std.proofs.lemmas.List.{drop-append-le}
 use Rattle.std.proofs.lemmas.Bool.{eqb-false}
-use Rattle.orbits.specs.laws.Truth.{truth, holds, fails, clash}
+use Rattle.orbits.proofs.laws.Truth.{truth, holds, fails, clash}
 use Rattle.edits.specs.declared.edit.Edit.{Edit}
 use Rattle.edits.specs.declared.edit.Edit.TheVariants.{AddVertex, RemoveVertex, DeleteEdge, TurnEdge}
 use Rattle.records.specs.declared.records.Mark.{Mark}

@@ -22,7 +22,7 @@ use Rattle.records.specs.declared.records.Found.TheVariants.{Record, Stopped}
 use Rattle.records.specs.declared.records.Stop.{Stop}
 use Rattle.records.specs.declared.records.Stop.TheVariants.{End, BadMark, CutRecord}
 use Rattle.runs.specs.Run.{run}
-use Rattle.runs.specs.laws.Run.{run_append, run_one}
+use Rattle.runs.proofs.laws.Run.{run_append, run_one}
 use Rattle.records.specs.Records.{first_record}
 use Rattle.records.specs.Reading.{reading, ended, after}
 use Rattle.records.specs.laws.Reading.{joined, joined_none, joined_after, joined_ended, reading_stopped, reading_record, record_sized}

@@ -6,7 +6,7 @@ use Rattle.std.specs.Prelude.{ℕ, ◌+◌, ◌-◌, ◌*◌, ◌/◌, ◌%◌, 
 use Rattle.std.proofs.Common.{arith, sym, ◌∙◌, ap, length-append, lt-ltb, le-ltb, ne_eqb, eqb-true}
 use mathlib.Core.List.{List, [], ◌∷◌, ◌++◌, flat_map}
 use Rattle.std.proofs.Math.Seq.{drop-append_seam}
-use Rattle.orbits.specs.laws.Truth.{truth, holds, fails}
+use Rattle.orbits.proofs.laws.Truth.{truth, holds, fails}
 use Rattle.edits.specs.declared.edit.Edit.{Edit}
 use Rattle.edits.specs.declared.edit.Edit.TheVariants.{AddVertex, RemoveVertex, InsertEdge, DeleteEdge, TurnEdge}
 use Rattle.records.specs.declared.records.Mark.{Mark}

@@ -2,7 +2,7 @@
 use Rattle.std.specs.Prelude.{ℕ, ◌*◌, ◌≡◌, true, false, List, ◌∷◌, ◌++◌, ℤ}
 use Rattle.std.proofs.Common.{arith, SFits, to_z, of_z, to_z-of_z}
 use Rattle.std.specs.Int.{w32}
-use Rattle.orbits.specs.laws.Count.{count_le}
+use Rattle.orbits.proofs.laws.Count.{count_le}
 use Rattle.table.specs.Layout.{vertices, edges}
 use Rattle.table.specs.Good.{Good}
 use Rattle.table.specs.Rotation.{Rotation, Lawful, rotation}
@@ -12,7 +12,7 @@ use Rattle.surface.specs.Counts.{vertex_count}
 use Rattle.surface.specs.Signed.{mesh_euler}
 use Rattle.surface_counts.specs.laws.EulerWord.{euler_sfits}
 use Rattle.surface_calls.specs.laws.Mesh.{MeshCounts}
-use Rattle.tracing.specs.laws.FaceCount.{faces_low}
+use Rattle.tracing.proofs.laws.FaceCount.{faces_low}
 use Rattle.weave.specs.Letters.{plain}
 use Rattle.report_lines.specs.Lines.{space, newline, mesh_text, mesh_line, kind_word, weave_word, weave_line}
 use Rattle.tracing.specs.Met.{edge_count}

@@ -16,25 +16,25 @@ use Rattle.std.proofs.Math.Seq.{get_or-append-add}
 use mir.Syntax.{w32}
 use mir.Val.{SFits, of_z}
 use Rattle.std.proofs.Math.Facts.{to_z-of_z}
-use Rattle.orbits.specs.laws.Count.{count_le}
+use Rattle.orbits.proofs.laws.Count.{count_le}
 use Rattle.table.specs.Layout.{vertices, edges}
 use Rattle.table.specs.Rotation.{Rotation, Lawful}
 use Rattle.table.specs.laws.Output.{sets_front}
 use Rattle.table.specs.laws.Signed.{handed}
 use Rattle.tracing.specs.Listing.{gather, faces, face_count}
-use Rattle.tracing.specs.laws.Listing.{gather_one, gather_none, gather_append}
-use Rattle.tracing.specs.laws.Has.{has_head, has_right, count_in_few}
+use Rattle.tracing.proofs.laws.Listing.{gather_one, gather_none, gather_append}
+use Rattle.tracing.proofs.laws.Has.{has_head, has_right, count_in_few}
 use Rattle.surface.specs.Counts.{vertices_in, edges_in, walks_in, corner_vertex}
 use Rattle.surface.specs.Parts.{root?, parts}
-use Rattle.surface.specs.laws.Parts.{root_there}
-use Rattle.surface.specs.laws.Listed.{listed_root}
+use Rattle.surface.proofs.laws.Parts.{root_there}
+use Rattle.surface.proofs.laws.Listed.{listed_root}
 use Rattle.surface.specs.Rows.{flag_of, row, rows_of, rows}
 use Rattle.surface.specs.Signed.{part_euler}
 use Rattle.surface.specs.Labels.{in_part, orientable}
 use Rattle.surface_counts.specs.laws.EulerWord.{euler_sfits}
 use Rattle.surface_calls.specs.laws.Rows.{Written, rows_append, flag_fits}
 use Rattle.surface_calls.specs.laws.Mesh.{six_each, rows_length, parts_count}
-use Rattle.tracing.specs.laws.FaceCount.{faces_low}
+use Rattle.tracing.proofs.laws.FaceCount.{faces_low}
 use Rattle.text.specs.Decimal.{decimal, integer}
 use Rattle.report_lines.specs.Lines.{space, side, part_line}
 use Rattle.report_lines.specs.laws.Wrote.{Wrote, wrote_none, wrote_then, wrote_as, wrote_most, parts_most}

@@ -9,9 +9,9 @@ use Rattle.std.proofs.Common.{arith, add-one, sym, ◌∙◌, ap}
 use Rattle.table.specs.Rotation.{rotation}
 use Rattle.tracing.specs.Step.{step}
 use Rattle.tracing.specs.Walk.{walk}
-use Rattle.tracing.specs.laws.Walk.{iterates, run_suc}
+use Rattle.tracing.proofs.laws.Walk.{iterates, run_suc}
 use Rattle.tracing.specs.Listing.{gather}
-use Rattle.tracing.specs.laws.Listing.{gather_one, gather_append}
+use Rattle.tracing.proofs.laws.Listing.{gather_one, gather_append}
 use Rattle.tracing_walks.specs.laws.Stands.{Stands}
 use Rattle.tracing_walks.specs.laws.Along.{Walking, walking_none, walking_more, walking_all, walking_few}
 use Rattle.weave.specs.Letters.{crossings, letters_on, step_letters, letter_at}

@@ -12,14 +12,14 @@
 use Rattle.std.specs.Prelude.{ℕ, suc, ◌+◌, ◌-◌, ◌*◌, ◌<◌, ◌≤◌, ◌^◌, ◌≡◌, refl, List, [], ◌∷◌, ◌++◌, map, ◌≢◌, length}
 use Rattle.std.proofs.Common.{arith, add-one, add-zero, sym, ◌∙◌, ap, ap₂, append-nil, append_assoc, length-append, lt-ltb, le-ltb}
 use Rattle.std.proofs.lemmas.List.{map-append, length-map}
-use Rattle.orbits.specs.laws.Truth.{false_unless}
+use Rattle.orbits.proofs.laws.Truth.{false_unless}
 use Rattle.table.specs.Layout.{vertices, darts, isolated, vertex_word, lone_at}
 use Rattle.table.specs.Good.{Good}
 use Rattle.table.specs.Rotation.{rotation, alone?}
 use Rattle.table.specs.laws.Rotation.{alone_yes, alone_word}
 use Rattle.tracing.specs.Walk.{walk}
 use Rattle.tracing.specs.Listing.{gather, met_by, starts, fresh, lone, alones, lone_corner, walk_text}
-use Rattle.tracing.specs.laws.Listing.{gather_one, gather_none, starts_suc, lone_yes, lone_no, alones_suc, written_some}
+use Rattle.tracing.proofs.laws.Listing.{gather_one, gather_none, starts_suc, lone_yes, lone_no, alones_suc, written_some}
 use Rattle.tracing_walks.specs.laws.Stands.{Stands}
 use Rattle.tracing_walks.specs.laws.Marks.{mark, unmarked}
 use Rattle.tracing_walks.specs.declared.count.Size.{Size}

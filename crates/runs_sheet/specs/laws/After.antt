@@ -12,7 +12,7 @@ use Rattle.prices.specs.Sheet.{sheet_answer}
 use Rattle.prices.specs.Theorems.{sheet_mixed}
 use Rattle.prices.specs.declared.quote.Quote.TheVariants.{Refused}
 use Rattle.runs.specs.Run.{run}
-use Rattle.runs.specs.Theorems.{run_laws}
+use Rattle.runs.proofs.Theorems.{run_laws}
 
 module _ (t : List ℕ) (g : Good t) (Es : List Edit) where
   pub cut_after : (s : ℕ) → live? (run t Es) (s / 2) ≡ true → (cut_length_of (run t Es) (s / 2) (s % 2) ≡ Declined NotPlain) ↔ Mixed (run t Es)

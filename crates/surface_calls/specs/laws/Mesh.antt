@@ -10,16 +10,16 @@ use Rattle.std.proofs.Math.Bool.{true}
 use Rattle.table.specs.Layout.{vertices, edges, vertex_word, edge_word, nothing}
 use Rattle.table.specs.Rotation.{Rotation, Lawful, rotation, there?, live?}
 use Rattle.table.specs.laws.Rotation.{there_yes, there_word, live_yes, yes_live}
-use Rattle.orbits.specs.laws.Truth.{Truth, truth, holds, fails, both, false_unless}
+use Rattle.orbits.proofs.laws.Truth.{Truth, truth, holds, fails, both, false_unless}
 use Rattle.orbits.specs.Count.{count, more_if}
 use Rattle.tracing.specs.Listing.{face_count, only, bit}
-use Rattle.tracing.specs.laws.FaceCount.{faces_low}
+use Rattle.tracing.proofs.laws.FaceCount.{faces_low}
 use Rattle.std.specs.Int.{w32}
 use Rattle.surface_counts.specs.laws.EulerWord.{euler_sfits}
 use Rattle.surface.specs.Labels.{label}
 use Rattle.surface.specs.Counts.{vertex_count}
 use Rattle.surface.specs.Parts.{root?, parts_below, parts}
-use Rattle.surface.specs.laws.Parts.{root_there, root_label}
+use Rattle.surface.proofs.laws.Parts.{root_there, root_label}
 use Rattle.surface.specs.Signed.{euler_of, mesh_euler}
 use Rattle.surface.specs.Rows.{rows, rows_of, row}
 use Rattle.surface_counts.specs.laws.Tally.{Keyed}

@@ -8,10 +8,10 @@ use Rattle.std.proofs.lemmas.List.Edits.{sets}
 use Rattle.table.specs.Layout.{vertices, vertex_word, nothing}
 use Rattle.table.specs.Rotation.{rotation}
 use Rattle.table.specs.laws.Rotation.{there_yes, there_word}
-use Rattle.orbits.specs.laws.Truth.{both, false_unless}
+use Rattle.orbits.proofs.laws.Truth.{both, false_unless}
 use Rattle.surface.specs.Labels.{label}
 use Rattle.surface.specs.Parts.{root?}
-use Rattle.surface.specs.laws.Parts.{root_there, root_label}
+use Rattle.surface.proofs.laws.Parts.{root_there, root_label}
 use Rattle.surface.specs.Rows.{flag_of, row_of, row, rows}
 use Rattle.surface_calls.specs.laws.Rows.{Written, written_none, written_skip, written_more, written_room}
 use Rattle.surface_counts.specs.laws.Tally.{Keyed}

@@ -5,7 +5,7 @@ use Rattle.std.proofs.Common.{arith, ◌∙◌, SFits, to_z, of_z, to_z-of_z}
 use mir.Syntax.{w32}
 use Rattle.std.proofs.Math.Facts.{to_z_pos}
 use Rattle.surface.specs.Signed.{euler_of}
-use Rattle.surface.specs.laws.Signed.{euler_difference}
+use Rattle.surface.proofs.laws.Signed.{euler_difference}
 use Rattle.table.specs.laws.Signed.{mag_minus}
 
 module _ (v e f : ℕ) (a : v < 65536) (b : e < 65536) (c : f < 65536) where

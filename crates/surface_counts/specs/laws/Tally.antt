@@ -19,10 +19,10 @@ use Rattle.table.specs.Good.{Good}
 use Rattle.table.specs.Rotation.{rotation, there?, alone?, live?}
 use Rattle.table.specs.laws.Lawful.{good_lawful}
 use Rattle.orbits.specs.Count.{count}
-use Rattle.orbits.specs.laws.Count.{count_le}
-use Rattle.tracing.specs.laws.Starts.{start?}
+use Rattle.orbits.proofs.laws.Count.{count_le}
+use Rattle.tracing.proofs.laws.Starts.{start?}
 use Rattle.surface.specs.Labels.{label}
-use Rattle.surface.specs.laws.Labels.{label_is}
+use Rattle.surface.proofs.laws.Labels.{label_is}
 use Rattle.surface_parts.specs.laws.Forest.{up_low}
 use Rattle.surface_parts.specs.laws.Linking.{Labelled}
 

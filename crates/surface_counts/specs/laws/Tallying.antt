@@ -21,20 +21,20 @@ use Rattle.table.specs.Good.{Good}
 use Rattle.table.specs.Rotation.{rotation, there?, alone?, live?, turns_of}
 use Rattle.table.specs.laws.Rotation.{there_yes, there_word, alone_yes, alone_word, live_yes}
 use Rattle.table.specs.laws.Lawful.{good_lawful}
-use Rattle.orbits.specs.laws.Truth.{Truth, truth, holds, fails, clash, both, both_right, false_unless}
+use Rattle.orbits.proofs.laws.Truth.{Truth, truth, holds, fails, clash, both, both_right, false_unless}
 use Rattle.orbits.specs.Count.{count}
-use Rattle.orbits.specs.laws.Count.{count_same, count_le}
+use Rattle.orbits.proofs.laws.Count.{count_same, count_le}
 use Rattle.tracing_walks.specs.declared.count.Size.{Size}
 use Rattle.tracing.specs.Listing.{only, starts, alones, lone_corner, faces}
-use Rattle.tracing.specs.laws.Listing.{starts_suc}
-use Rattle.tracing.specs.laws.Has.{count_in_append, count_in_map}
-use Rattle.tracing.specs.laws.Starts.{start?, start_live, starts_more, starts_count, alones_count}
+use Rattle.tracing.proofs.laws.Listing.{starts_suc}
+use Rattle.tracing.proofs.laws.Has.{count_in_append, count_in_map}
+use Rattle.tracing.proofs.laws.Starts.{start?, start_live, starts_more, starts_count, alones_count}
 use Rattle.tracing_walks.specs.laws.Size.{Looked, Seen, seen_none, seen_more, unmet_fresh}
 use Rattle.tracing_walks.specs.laws.Marks.{unmarked}
 use Rattle.surface.specs.Labels.{label, in_part, agrees, untwisted, twisted, orientable}
-use Rattle.surface.specs.laws.Labels.{label_is, orientable_is}
+use Rattle.surface.proofs.laws.Labels.{label_is, orientable_is}
 use Rattle.surface.specs.Counts.{corner_vertex, vertices_in, edges_in, walks_in}
-use Rattle.surface.specs.laws.Counts.{vertex_dart, vertex_lone}
+use Rattle.surface.proofs.laws.Counts.{vertex_dart, vertex_lone}
 use Rattle.surface_parts.specs.laws.Forest.{Shape}
 use Rattle.surface_parts.specs.laws.Linking.{Labelled, Taking, first_low, second_low, edge_on}
 use Rattle.surface_counts.specs.laws.Tally.{tally_none, tally_begin, tally_more, tally_skip, tally_low, Keyed, labelled_keyed, VertexTally, EdgeTally, TwistTally}

@@ -17,7 +17,7 @@ use Rattle.table.specs.Rotation.{Rotation, rotation, live?, turns_of}
 use Rattle.table.specs.laws.Rotation.{live_yes, yes_live}
 use Rattle.table.specs.laws.Lawful.{good_lawful}
 use Rattle.surface.specs.Links.{Link, Spot, own, moved, joined_by}
-use Rattle.surface.specs.laws.Links.{Sound, Labelling, link_links, Moves, moves, stays, goes, begin_sound, moved_sound, moved_same, link_same, side, first_side, second_side, live_edge, live_edge_low}
+use Rattle.surface.proofs.laws.Links.{Sound, Labelling, link_links, Moves, moves, stays, goes, begin_sound, moved_sound, moved_same, link_same, side, first_side, second_side, live_edge, live_edge_low}
 use Rattle.surface_parts.specs.laws.Forest.{Shape, Points, Forest, Moved, moved_shape, moved_forest, RootFound, Flattening}
 
 -- the labels and marks after edge e was taken in

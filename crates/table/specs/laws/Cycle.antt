@@ -16,11 +16,11 @@ use Rattle.std.specs.Prelude.{◌≡◌, true, List, ◌≢◌}
 use Rattle.std.proofs.Math.Path.{refl, sym, ap}
 use Rattle.std.proofs.Math.Decide.{ℕ_discrete, dec_lt}
 use Rattle.orbits.specs.Count.{count}
-use Rattle.orbits.specs.laws.Count.{count_all, count_onto}
+use Rattle.orbits.proofs.laws.Count.{count_all, count_onto}
 use Rattle.orbits.specs.Iterate.{iter, Inj}
-use Rattle.orbits.specs.laws.Iterate.{iter_suc, iter_low, Period, period, period_le, period_apart}
+use Rattle.orbits.proofs.laws.Iterate.{iter_suc, iter_low, Period, period, period_le, period_apart}
 use Rattle.orbits.specs.Reach.{reaches}
-use Rattle.orbits.specs.laws.Reach.{says_reach, reach_says, reach_within}
+use Rattle.orbits.proofs.laws.Reach.{says_reach, reach_says, reach_within}
 use Rattle.table.specs.Layout.{darts, next_word, prev_word, leaves, Live}
 use Rattle.table.specs.laws.Rotation.{Case, holds, fails, live_case, live_yes, yes_live, next_dart_live, prev_dart_live, next_dart_dead, prev_dart_dead}
 use Rattle.table.specs.Rotation.{live?, next_dart, prev_dart}

@@ -16,7 +16,7 @@ use native.Mathlib.Omega.{arith}
 use Rattle.std.specs.Prelude.{◌≡◌, List, ◌≢◌}
 use Rattle.std.proofs.Math.Path.{refl}
 use Rattle.orbits.specs.Count.{count}
-use Rattle.orbits.specs.laws.Count.{count_le}
+use Rattle.orbits.proofs.laws.Count.{count_le}
 use Rattle.table.specs.Layout.{vertices, edges, darts, next_word, prev_word, leaves, edge_word, edge_of, Live, edge_word_most}
 use Rattle.table.specs.Good.{Good, Bare}
 use Rattle.table.specs.Rotation.{live?}

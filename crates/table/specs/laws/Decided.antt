@@ -8,11 +8,11 @@ use Rattle.std.specs.Prelude.{ℕ, ◌≤◌, ◌<◌, refl, ◌&&◌, List, len
 use Rattle.std.proofs.Common.{lt_of_lt_of_le}
 use Rattle.std.proofs.Math.Decide.{ℕ_discrete, dec_le, dec_lt, map_dec}
 use Rattle.std.proofs.Math.Logic.Dec as Dec
-use Rattle.orbits.specs.laws.Truth.{first, found, none}
+use Rattle.orbits.proofs.laws.Truth.{first, found, none}
 use Rattle.orbits.specs.Count.{count}
 use Rattle.orbits.specs.Iterate.{iter}
-use Rattle.orbits.specs.laws.Iterate.{period, period_le}
-use Rattle.orbits.specs.laws.Reach.{reach_within}
+use Rattle.orbits.proofs.laws.Iterate.{period, period_le}
+use Rattle.orbits.proofs.laws.Reach.{reach_within}
 use Rattle.table.specs.Layout.{darts, vertices, edges, words, nothing, isolated, next_word, prev_word, leaves, edge_word, vertex_word, length_word, edge_of, edge_word_most, longest}
 use Rattle.table.specs.Good.{Good, Bare, LengthRule}
 use Rattle.table.specs.laws.Lengths.{length_dead, length_live}

@@ -1,7 +1,7 @@
 -- The rotation system of a good table is lawful.
 use Rattle.std.specs.Prelude.{ℕ, ◌<◌, ◌≡◌, List}
 use Rattle.std.proofs.Common.{arith, sym, ◌∙◌}
-use Rattle.orbits.specs.laws.Truth.{clash}
+use Rattle.orbits.proofs.laws.Truth.{clash}
 use Rattle.table.specs.Layout.{darts, nothing, isolated, leaves, vertex_word, edge_of, rev, Live}
 use Rattle.table.specs.Good.{Good}
 use Rattle.table.specs.laws.Darts.{Ruled, good_ruled}

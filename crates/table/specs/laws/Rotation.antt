@@ -11,7 +11,7 @@
 use Rattle.std.specs.Prelude.{ℕ, ◌≤◌, ◌<◌, ◌≡◌, refl, Bool, true, false, not, List, ◌≢◌, eqb, leb, ltb}
 use Rattle.std.proofs.Common.{sym, ◌∙◌}
 use borrow.Author.Tests.{leb-true, ltb-true, eqb-true, eqb-false, le-leb, lt-ltb, eq-eqb, ne_eqb, not-true}
-use Rattle.orbits.specs.laws.Truth.{clash, both, both_left, both_right}
+use Rattle.orbits.proofs.laws.Truth.{clash, both, both_left, both_right}
 use Rattle.table.specs.Layout.{vertices, darts, nothing, isolated, next_word, prev_word, edge_word, vertex_word, edge_of, Live}
 use Rattle.table.specs.Rotation.{live?, next_dart, prev_dart, there?, alone?}
 

@@ -19,13 +19,13 @@ use Rattle.std.proofs.Common.{◌∙◌}
 use Rattle.std.proofs.Math.Bool.{true, not}
 use borrow.Author.Tests.{eqb-true, eq-eqb, ne_eqb, ltb-true, lt-ltb, le-ltb}
 use Rattle.std.proofs.Math.Decide.{ℕ_discrete, dec_lt}
-use Rattle.orbits.specs.laws.Truth.{clash, both, both_left, both_right, same_truth, false_unless, truth, holds, fails}
+use Rattle.orbits.proofs.laws.Truth.{clash, both, both_left, both_right, same_truth, false_unless, truth, holds, fails}
 use Rattle.orbits.specs.Count.{count}
-use Rattle.orbits.specs.laws.Count.{count_same, count_none, count_split, count_part, none_counted, count_le}
+use Rattle.orbits.proofs.laws.Count.{count_same, count_none, count_split, count_part, none_counted, count_le}
 use Rattle.orbits.specs.Iterate.{iter}
-use Rattle.orbits.specs.laws.Iterate.{Period}
+use Rattle.orbits.proofs.laws.Iterate.{Period}
 use Rattle.orbits.specs.Reach.{Reach, reaches}
-use Rattle.orbits.specs.laws.Reach.{says_reach, reach_says, reach_sym, reach_trans}
+use Rattle.orbits.proofs.laws.Reach.{says_reach, reach_says, reach_sym, reach_trans}
 use Rattle.table.specs.Layout.{darts, vertices, edges, words, nothing, isolated, leaves, vertex_word, Live}
 use Rattle.table.specs.Good.{Good, LengthRule}
 use Rattle.table.specs.Rotation.{live?, next_dart}

@@ -23,13 +23,13 @@ use Rattle.table.specs.laws.Rotation.{alone_yes, alone_word}
 use Rattle.table.specs.laws.Lawful.{good_lawful}
 use Rattle.table.specs.Output.{front}
 use Rattle.table.specs.laws.Output.{sets_front, sets_append}
-use Rattle.orbits.specs.laws.Truth.{false_unless}
+use Rattle.orbits.proofs.laws.Truth.{false_unless}
 use Rattle.tracing_walks.specs.declared.count.Size.{Size}
 use Rattle.tracing.specs.Step.{step}
 use Rattle.tracing.specs.Walk.{walk}
-use Rattle.tracing.specs.laws.Walk.{iterates, run_suc, run_length, walk_run, walk_period, walk_period_le}
+use Rattle.tracing.proofs.laws.Walk.{iterates, run_suc, run_length, walk_run, walk_period, walk_period_le}
 use Rattle.tracing.specs.Listing.{gather, fresh, starts, lone, alones, lone_corner, walk_text, met_by, faces, listing}
-use Rattle.tracing.specs.laws.Listing.{gather_none, gather_one, gather_append, starts_suc, lone_yes, lone_no, alones_suc, written_lone, written_some}
+use Rattle.tracing.proofs.laws.Listing.{gather_none, gather_one, gather_append, starts_suc, lone_yes, lone_no, alones_suc, written_lone, written_some}
 use Rattle.tracing_walks.specs.laws.Stands.{Stands, stands_low}
 use Rattle.tracing_walks.specs.laws.Along.{Walking, walking_none, walking_more, walking_all, along_few}
 use Rattle.tracing_walks.specs.laws.Marks.{mark, unmarked}

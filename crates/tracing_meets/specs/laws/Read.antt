@@ -17,11 +17,11 @@ use Rattle.table.specs.laws.Lawful.{good_lawful}
 use Rattle.tracing.specs.declared.meeting.Meeting.TheVariants.{Apart, SameType, OtherType}
 use Rattle.tracing.specs.declared.meeting.Sides.TheVariants.{SameDart}
 use Rattle.tracing.specs.Step.{corner}
-use Rattle.tracing.specs.laws.Step.{corner_live}
+use Rattle.tracing.proofs.laws.Step.{corner_live}
 use Rattle.tracing.specs.Corner.{face_of, type_of, meeting_by, meeting_of, Present, at_dart, at_lone}
-use Rattle.tracing.specs.laws.Corner.{type_zero, type_one, typed, face_of_lone, type_of_lone}
+use Rattle.tracing.proofs.laws.Corner.{type_zero, type_one, typed, face_of_lone, type_of_lone}
 use Rattle.tracing.specs.Sides.{sides_of}
-use Rattle.tracing.specs.laws.Sides.{across, sides_met, sides_met_lem}
+use Rattle.tracing.proofs.laws.Sides.{across, sides_met, sides_met_lem}
 use Rattle.tracing_walks.specs.laws.Stands.{Stands}
 use Rattle.tracing_tags.specs.laws.Tags.{Tags}
 

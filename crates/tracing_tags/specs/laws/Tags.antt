@@ -14,7 +14,7 @@ use Rattle.std.proofs.Math.Path.{ap}
 use Rattle.std.proofs.Math.Bool.{false}
 use Rattle.std.proofs.Math.ListN.{length}
 use Rattle.std.proofs.lemmas.List.{length-map, length-replicate, get_or-replicate}
-use Rattle.orbits.specs.laws.Truth.{clash, false_unless}
+use Rattle.orbits.proofs.laws.Truth.{clash, false_unless}
 use Rattle.table.specs.Layout.{darts, nothing, edge_of, edge_word}
 use Rattle.table.specs.Good.{Good}
 use Rattle.table.specs.laws.Blocks.{edge_blocks, DeadBlock, dead_dart, block_on}
@@ -23,13 +23,13 @@ use Rattle.table.specs.laws.Rotation.{live_yes, yes_live}
 use Rattle.table.specs.laws.Lawful.{good_lawful}
 use Rattle.tracing.specs.Step.{step, corner}
 use Rattle.tracing.specs.Walk.{walk, corners}
-use Rattle.tracing.specs.laws.Walk.{iterates, run_suc}
+use Rattle.tracing.proofs.laws.Walk.{iterates, run_suc}
 use Rattle.tracing.specs.Listing.{has, met_by, fresh, starts, faces, face_count}
-use Rattle.tracing.specs.laws.Listing.{has_here, has_there, gather_none, gather_one, gather_append, starts_suc, starts_zero, fresh_dead, fresh_met, fresh_start}
-use Rattle.tracing.specs.laws.Has.{has_empty, has_tail, has_parts, left, right, has_left, has_right, has_gather, has_map}
-use Rattle.tracing.specs.laws.Starts.{has_start}
+use Rattle.tracing.proofs.laws.Listing.{has_here, has_there, gather_none, gather_one, gather_append, starts_suc, starts_zero, fresh_dead, fresh_met, fresh_start}
+use Rattle.tracing.proofs.laws.Has.{has_empty, has_tail, has_parts, left, right, has_left, has_right, has_gather, has_map}
+use Rattle.tracing.proofs.laws.Starts.{has_start}
 use Rattle.tracing.specs.Corner.{face_of, type_of}
-use Rattle.tracing.specs.laws.Corner.{corner_met, face_by}
+use Rattle.tracing.proofs.laws.Corner.{corner_met, face_by}
 use Rattle.tracing_walks.specs.laws.Stands.{Stands, stands_corner}
 use Rattle.tracing_walks.specs.laws.Along.{Walking, walking_none, walking_more, walking_all}
 use Rattle.tracing_walks.specs.laws.Size.{LookReady, Lone}

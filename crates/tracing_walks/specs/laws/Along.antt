@@ -12,12 +12,12 @@ use Rattle.std.proofs.Math.Decide.{ℕ_discrete, dec_lt}
 use Rattle.table.specs.Rotation.{rotation}
 use Rattle.table.specs.laws.Lawful.{good_lawful}
 use Rattle.orbits.specs.Iterate.{iter}
-use Rattle.orbits.specs.laws.Iterate.{iter_zero, iter_suc, iter_keeps, Period}
+use Rattle.orbits.proofs.laws.Iterate.{iter_zero, iter_suc, iter_keeps, Period}
 use Rattle.tracing.specs.Step.{steps, step}
 use Rattle.tracing.specs.Walk.{walk, onward}
-use Rattle.tracing.specs.laws.Walk.{iterates, walk_run, walk_period, walk_period_le, run_length, onward_rest}
+use Rattle.tracing.proofs.laws.Walk.{iterates, walk_run, walk_period, walk_period_le, run_length, onward_rest}
 use Rattle.tracing.specs.Listing.{has}
-use Rattle.tracing.specs.laws.Meets.{has_walk, trace_reach}
+use Rattle.tracing.proofs.laws.Meets.{has_walk, trace_reach}
 use Rattle.tracing_walks.specs.laws.Stands.{Stands, stands_step, stands_low}
 
 pub record Along (f : ℕ → ℕ) (s n at : ℕ) : Type 0 where

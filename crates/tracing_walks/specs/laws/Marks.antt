@@ -10,9 +10,9 @@ use Rattle.std.proofs.lemmas.List.{length-replicate, get_or-replicate}
 use Rattle.table.specs.Layout.{darts}
 use Rattle.table.specs.Rotation.{Rotation}
 use Rattle.tracing.specs.Step.{step, corner}
-use Rattle.tracing.specs.laws.Walk.{iterates, run_suc}
+use Rattle.tracing.proofs.laws.Walk.{iterates, run_suc}
 use Rattle.tracing.specs.Listing.{has, bit}
-use Rattle.tracing.specs.laws.Listing.{has_here, has_there}
+use Rattle.tracing.proofs.laws.Listing.{has_here, has_there}
 
 -- the marks m with these corners marked too
 unfoldable pub mark : List ℕ → List ℕ → List ℕ

@@ -4,9 +4,9 @@ use Rattle.std.proofs.Common.{arith, sym, ◌∙◌, lt-ltb, le-ltb, ltb-true}
 use Rattle.std.proofs.Math.Decide.{dec_lt}
 use Rattle.table.specs.Layout.{vertices, darts, isolated, edge_of, edge_word, vertex_word, lone_at}
 use Rattle.table.specs.Rotation.{rotation, live?, alone?}
-use Rattle.orbits.specs.laws.Truth.{clash}
+use Rattle.orbits.proofs.laws.Truth.{clash}
 use Rattle.tracing.specs.Corner.{well_formed, present}
-use Rattle.tracing.specs.laws.Corner.{present_dart, present_lone}
+use Rattle.tracing.proofs.laws.Corner.{present_dart, present_lone}
 
 pub formed_dart : (c : ℕ) → c < darts → true ≡ well_formed c
 unfolding well_formed

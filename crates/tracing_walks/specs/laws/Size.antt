@@ -20,13 +20,13 @@ use Rattle.table.specs.Good.{Good}
 use Rattle.table.specs.laws.Blocks.{edge_blocks, DeadBlock, dead_dart, block_on}
 use Rattle.table.specs.Rotation.{Rotation, rotation, live?, alone?}
 use Rattle.table.specs.laws.Rotation.{yes_live, live_case, holds, fails, alone_yes, alone_word}
-use Rattle.orbits.specs.laws.Truth.{truth, holds as yes_true, fails as yes-false, false_unless}
+use Rattle.orbits.proofs.laws.Truth.{truth, holds as yes_true, fails as yes-false, false_unless}
 use Rattle.tracing_walks.specs.declared.count.Size.{Size}
 use Rattle.tracing.specs.Step.{step, corner}
 use Rattle.tracing.specs.Walk.{walk, corners}
-use Rattle.tracing.specs.laws.Walk.{iterates, run_length}
+use Rattle.tracing.proofs.laws.Walk.{iterates, run_length}
 use Rattle.tracing.specs.Listing.{has, only, gather, met_by, fresh, starts, walk_text, alones, lone_corner, faces, face_count, listing, bit}
-use Rattle.tracing.specs.laws.Listing.{gather_one, gather_append, starts_suc, written_walk, written_lone, lone_yes, lone_no, alones_suc}
+use Rattle.tracing.proofs.laws.Listing.{gather_one, gather_append, starts_suc, written_walk, written_lone, lone_yes, lone_no, alones_suc}
 use Rattle.tracing_walks.specs.laws.Stands.{Stands, stands_corner}
 use Rattle.tracing_walks.specs.laws.Along.{Walking, walking_none, walking_more, walking_all, walking_few}
 use Rattle.tracing_walks.specs.laws.Marks.{mark, mark_append, mark_length, mark_step, mark_reads, unmarked}

@@ -13,7 +13,7 @@ use Rattle.table.specs.Rotation.{rotation, live?}
 use Rattle.table.specs.laws.Rotation.{next_dart_live, prev_dart_live, live_yes}
 use Rattle.table.specs.laws.Lawful.{good_lawful}
 use Rattle.tracing.specs.Step.{steps, around, step, corner}
-use Rattle.tracing.specs.laws.Step.{type?, is_zero, is_one, next_dart_lem, around_next, corner_zero, corner_one, step_live}
+use Rattle.tracing.proofs.laws.Step.{type?, is_zero, is_one, next_dart_lem, around_next, corner_zero, corner_one, step_live}
 
 pub record LiveDart (t : List ℕ) (d : ℕ) : Type 0 where
   pub good : Good t

@@ -23,7 +23,7 @@ use Rattle.arguments.specs.laws.Reading.{number_within, number_decimal}
 use Rattle.arguments.specs.declared.number.Parsed.{Parsed}
 use Rattle.arguments.specs.declared.number.Parsed.TheVariants.{Number, Nothing}
 use Rattle.trial_jobs.specs.Trial.{trial_bytes, trial_size, trial_answer, trial_out}
-use Rattle.trial_jobs.specs.laws.Size.{trial_size_lem}
+use Rattle.trial_jobs.proofs.laws.Size.{trial_size_lem}
 use Rattle.trial.specs.Program.{start_most, arguments, with_start, outcome, output_of, message, Laid, Few}
 use Rattle.trial.specs.declared.Outcome.{Outcome}
 use Rattle.trial.specs.declared.Outcome.TheVariants.{Usage, BadStart, BadEdges, Job}

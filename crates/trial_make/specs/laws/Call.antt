@@ -6,7 +6,7 @@ use Rattle.table.specs.Output.{front}
 use Rattle.table.specs.declared.answer.Answer.TheVariants.{Done, Declined}
 use Rattle.table.specs.declared.answer.Refusal.TheVariants.{ShortSlice, ManyEdges}
 use Rattle.trial_jobs.specs.Trial.{trial_bytes, trial_size, trial_answer, trial_out}
-use Rattle.trial_jobs.specs.laws.Call.{answer_many, answer_short, answer_done}
+use Rattle.trial_jobs.proofs.laws.Call.{answer_many, answer_short, answer_done}
 
 module _ (start n : ℕ) (out : List ℕ) where
   pub ends_many : edges < n → (Declined ManyEdges ≡ trial_answer n (length out)) × (out ≡ trial_out start n out)

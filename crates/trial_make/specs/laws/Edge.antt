@@ -12,8 +12,8 @@ use Rattle.edits.specs.declared.edit.Edit.{Edit}
 use Rattle.edits.specs.declared.edit.Edit.TheVariants.{InsertEdge}
 use Rattle.records.specs.Records.{plain_length}
 use Rattle.trial_jobs.specs.Trial.{after_draw, draw, corner_at}
-use Rattle.trial_jobs.specs.laws.Corners.{lone, first}
-use Rattle.trial_jobs.specs.laws.Inserting.{Planned, corner_there, stays, takes_first, takes_second, untouched}
+use Rattle.trial_jobs.proofs.laws.Corners.{lone, first}
+use Rattle.trial_jobs.proofs.laws.Inserting.{Planned, corner_there, stays, takes_first, takes_second, untouched}
 
 -- a vertex that has no dart yet gets dart d
 unfoldable pub give_dart : List ℕ → ℕ → ℕ → List ℕ

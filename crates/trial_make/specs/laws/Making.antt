@@ -15,16 +15,16 @@ use Rattle.table.specs.Output.{front}
 use Rattle.table.specs.laws.Front.{Front, front_none, front_more}
 use Rattle.table.specs.laws.Output.{sets_front}
 use Rattle.edits.specs.Edits.{written}
-use Rattle.edits.specs.laws.Edits.{edited_passes}
+use Rattle.edits.proofs.laws.Edits.{edited_passes}
 use Rattle.edits.specs.declared.edit.Edit.TheVariants.{AddVertex}
 use Rattle.runs.specs.Run.{run}
 use Rattle.records_write.specs.Encoding.{record_of, job_of}
 use Rattle.trial_jobs.specs.Trial.{after_draw, state, draw, first_vertex, second_vertex, insertion_on, additions, trial_job, trial_bytes, trial_size}
-use Rattle.trial_jobs.specs.laws.Corners.{corner_lone}
-use Rattle.trial_jobs.specs.laws.Numbered.{Numbered, numbered_vertex, numbered_dart}
-use Rattle.trial_jobs.specs.laws.Inserting.{insertion_passes}
-use Rattle.trial_jobs.specs.laws.Size.{additions_last, bytes_last, trial_size_lem}
-use Rattle.trial_jobs.specs.laws.Theorem.{made, ready, run_last}
+use Rattle.trial_jobs.proofs.laws.Corners.{corner_lone}
+use Rattle.trial_jobs.proofs.laws.Numbered.{Numbered, numbered_vertex, numbered_dart}
+use Rattle.trial_jobs.proofs.laws.Inserting.{insertion_passes}
+use Rattle.trial_jobs.proofs.laws.Size.{additions_last, bytes_last, trial_size_lem}
+use Rattle.trial_jobs.proofs.laws.Theorem.{made, ready, run_last}
 use Rattle.trial_make.specs.laws.Edge.{give_dart, edge_drawn, corners_after, Corners, corners_next}
 
 -- the records of the first v vertices, each of which has its own corner

@@ -10,10 +10,10 @@
 use Rattle.std.specs.Prelude.{ℕ, zero, suc, ◌+◌, ◌-◌, ◌/◌, ◌%◌, ◌<◌, ◌≤◌, ◌≡◌, refl, Bool, true, false, List}
 use Rattle.std.proofs.Common.{arith, sym, lt-ltb, le-ltb}
 use Rattle.tracing.specs.Met.{times, count_in}
-use Rattle.tracing.specs.laws.Step.{type_of_lem, type?, is_zero, is_one}
+use Rattle.tracing.proofs.laws.Step.{type_of_lem, type?, is_zero, is_one}
 use Rattle.tracing_walks.specs.laws.Stands.{Stands}
 use Rattle.weave.specs.Letters.{over, under, unturned, positive, crossings, letter, crossed, letters_on, word_of, step_letters}
-use Rattle.weave.specs.laws.Ribbon.{crossings_parity}
+use Rattle.weave.proofs.laws.Ribbon.{crossings_parity}
 use Rattle.weave_letters.specs.laws.Crossing.{EdgeWord, edge_read, crossings_few}
 
 -- "the strand goes over (O) .., else under (U)": each crossing has one of the two letters

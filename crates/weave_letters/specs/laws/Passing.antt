@@ -14,9 +14,9 @@ use Rattle.orbits.specs.Iterate.{iter}
 use Rattle.table.specs.Rotation.{rotation}
 use Rattle.table.specs.laws.Lawful.{good_lawful}
 use Rattle.tracing.specs.Step.{step}
-use Rattle.tracing.specs.laws.Walk.{iterates, run_suc, walk_run, walk_period, walk_period_le}
+use Rattle.tracing.proofs.laws.Walk.{iterates, run_suc, walk_run, walk_period, walk_period_le}
 use Rattle.tracing.specs.Listing.{gather}
-use Rattle.tracing.specs.laws.Listing.{gather_one, gather_append}
+use Rattle.tracing.proofs.laws.Listing.{gather_one, gather_append}
 use Rattle.tracing_walks.specs.laws.Stands.{Stands, stands_low}
 use Rattle.tracing_walks.specs.laws.Along.{Walking, walking_none, walking_more, walking_all, walking_few, along_few}
 use Rattle.weave.specs.Letters.{crossings, letters_on, word_of, step_letters, letters}

@@ -14,7 +14,7 @@ use Rattle.table.specs.Layout.{darts}
 use Rattle.table.specs.Rotation.{rotation}
 use Rattle.tracing.specs.Step.{step, corner}
 use Rattle.tracing.specs.Walk.{walk, corners}
-use Rattle.tracing.specs.laws.Walk.{iterates, run_suc}
+use Rattle.tracing.proofs.laws.Walk.{iterates, run_suc}
 use Rattle.tracing_walks.specs.laws.Stands.{Stands, stands_low}
 use Rattle.tracing_walks.specs.laws.Along.{Walking, walking_none, walking_more, walking_all}
 use Rattle.tracing_walks.specs.laws.Marks.{mark}
@@ -22,7 +22,7 @@ use Rattle.tracing_walks.specs.laws.Size.{Marking, marking_none, marking_more, m
 use Rattle.weave_plain.specs.declared.hands.Hands.{Hands}
 use Rattle.weave.specs.Letters.{unturned, positive, negative, word_of, alternates}
 use Rattle.weave.specs.Ribbon.{some, some_positive, some_negative}
-use Rattle.weave.specs.laws.Ribbon.{some_append, alternates_hands}
+use Rattle.weave.proofs.laws.Ribbon.{some_append, alternates_hands}
 use Rattle.weave_letters.specs.laws.Crossing.{EdgeWord}
 
 -- these hands, and that of an edge of word w

@@ -19,7 +19,7 @@ use Rattle.tracing_walks.specs.laws.Stands.{Stands, stands_low}
 use Rattle.tracing_walks.specs.laws.Along.{walk_stands}
 use Rattle.weave.specs.Letters.{unturned, positive, negative, plain}
 use Rattle.weave.specs.Ribbon.{SameWay, all_positive, all_negative}
-use Rattle.weave.specs.laws.Sense.{plain_same}
+use Rattle.weave.proofs.laws.Sense.{plain_same}
 
 -- dead, flat or of negative turns
 abbrev pub NotPositive : List ℕ → ℕ → Type 0

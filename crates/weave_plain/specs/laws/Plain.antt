@@ -11,14 +11,14 @@ use Rattle.std.specs.Prelude.{ℕ, zero, suc, ◌+◌, ◌*◌, ◌<◌, ◌≤�
 use Rattle.std.proofs.Common.{arith, add-one, sym, ◌∙◌, ap}
 use Rattle.std.proofs.Math.Decide.{ℕ_discrete}
 use Rattle.std.proofs.Math.Bool.{and-true, and_assoc}
-use Rattle.orbits.specs.laws.Truth.{clash, false_unless, both_left}
+use Rattle.orbits.proofs.laws.Truth.{clash, false_unless, both_left}
 use Rattle.table.specs.Layout.{darts, edge_of, edge_word}
 use Rattle.table.specs.Good.{Good}
 use Rattle.table.specs.Rotation.{rotation}
 use Rattle.table.specs.laws.Blocks.{edge_blocks, DeadBlock, dead_dart, block_on}
 use Rattle.tracing.specs.Walk.{walk, corners}
 use Rattle.tracing.specs.Listing.{gather, starts, fresh, met_by}
-use Rattle.tracing.specs.laws.Listing.{starts_suc, gather_one}
+use Rattle.tracing.proofs.laws.Listing.{starts_suc, gather_one}
 use Rattle.tracing_walks.specs.laws.Marks.{mark, unmarked}
 use Rattle.tracing_walks.specs.laws.Size.{LookReady, Seen, seen_none, seen_more, start_stands}
 use Rattle.tracing_walks.specs.laws.Size.{unmet, unmet_dead, unmet_marked, unmet_start, unmet_fresh, edge_live}

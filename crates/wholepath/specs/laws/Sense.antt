@@ -17,13 +17,13 @@ use Rattle.tracing.specs.Step.{mirror, back}
 use Rattle.tracing.specs.Walk.{walk}
 use Rattle.tracing.specs.Listing.{bit, has}
 use Rattle.tracing.specs.Met.{total}
-use Rattle.tracing.specs.laws.Totals.{total_named, total_mirror}
+use Rattle.tracing.proofs.laws.Totals.{total_named, total_mirror}
 use Rattle.tracing_walks.specs.laws.Stands.{Stands, stands_low}
 use Rattle.weave.specs.Ribbon.{some}
 use Rattle.weave.specs.declared.named.Named.TheVariants.{There}
 use Rattle.weave.specs.Calls.{named_step}
-use Rattle.weave.specs.laws.Calls.{there_steps}
-use Rattle.weave.specs.laws.Tests.{some_total}
+use Rattle.weave.proofs.laws.Calls.{there_steps}
+use Rattle.weave.proofs.laws.Tests.{some_total}
 use Rattle.floatpath_pieces.specs.Path.{point_words, lift_words, far_step}
 use Rattle.wholepath_pieces.specs.Pieces.{spots_of, pieces_along, whole_path}
 use Rattle.wholepath_pieces.specs.laws.Pieces.{pieces_total}

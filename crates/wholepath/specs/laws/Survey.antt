@@ -14,12 +14,12 @@ use Rattle.table.specs.Rotation.{rotation}
 use Rattle.tracing.specs.Step.{step}
 use Rattle.tracing.specs.Walk.{walk}
 use Rattle.tracing.specs.Met.{total}
-use Rattle.tracing.specs.laws.Totals.{total_append}
-use Rattle.tracing.specs.laws.Walk.{iterates, run_suc}
+use Rattle.tracing.proofs.laws.Totals.{total_append}
+use Rattle.tracing.proofs.laws.Walk.{iterates, run_suc}
 use Rattle.tracing_walks.specs.laws.Along.{Walking, walking_none, walking_more, walking_all, walking_few}
 use Rattle.weave_letters.specs.laws.Crossing.{EdgeWord}
 use Rattle.weave.specs.Ribbon.{some}
-use Rattle.weave.specs.laws.Ribbon.{some_append}
+use Rattle.weave.proofs.laws.Ribbon.{some_append}
 use Rattle.floatpath_pieces.specs.Path.{point_words, lift_words, far_step}
 use Rattle.floatpath_pieces.specs.laws.Places.{Lent}
 use Rattle.wholepath_pieces.specs.Pieces.{spots_on, spots_of}

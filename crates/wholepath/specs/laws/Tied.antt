@@ -13,7 +13,7 @@ use Rattle.std.proofs.Common.{◌∙◌}
 use Rattle.std.proofs.Math.Path.{ap}
 use mathlib.Core.List.{List, [], ◌∷◌, flat_map}
 use borrow.Author.Tests.{eq-eqb, ne_eqb, ltb-false, le-leb, not-true}
-use Rattle.orbits.specs.laws.Truth.{truth, holds, fails}
+use Rattle.orbits.proofs.laws.Truth.{truth, holds, fails}
 use Rattle.table.specs.Layout.{darts}
 use Rattle.table.specs.Check.{good?}
 use Rattle.table.specs.Rotation.{rotation, live?}
@@ -26,17 +26,17 @@ use Rattle.table.specs.declared.answer.Refusal.TheVariants.{ShortSlice, ManyTurn
 use Rattle.tracing.specs.Listing.{has}
 use Rattle.tracing.specs.Met.{total}
 use Rattle.tracing.specs.Walk.{walk}
-use Rattle.tracing.specs.laws.Listing.{has_here}
-use Rattle.tracing.specs.laws.Has.{has_tail}
+use Rattle.tracing.proofs.laws.Listing.{has_here}
+use Rattle.tracing.proofs.laws.Has.{has_tail}
 use Rattle.tracing_walks.specs.laws.Along.{walk_stands}
 use Rattle.tracing_walks.specs.laws.Stands.{Stands}
 use Rattle.weave.specs.declared.named.Named.{Named}
 use Rattle.weave.specs.declared.named.Named.TheVariants.{There, Refused}
 use Rattle.weave.specs.Calls.{named_step}
-use Rattle.weave.specs.laws.Calls.{there_steps}
+use Rattle.weave.proofs.laws.Calls.{there_steps}
 use Rattle.weave.specs.Letters.{over, under, unturned, crossings, word_of, step_letters}
 use Rattle.weave.specs.Ribbon.{some}
-use Rattle.weave.specs.laws.Ribbon.{none_passes}
+use Rattle.weave.proofs.laws.Ribbon.{none_passes}
 use Rattle.floatpath_pieces.specs.Path as float
 use Rattle.floatpath_pieces.specs.Path.{far_step, many_turns, letter_of, first_end, second_end, lift_at, point_words, lift_words}
 use Rattle.floatpath_pieces.specs.declared.piece.Point.{Point}

@@ -25,7 +25,7 @@ use Rattle.tracing_walks.specs.laws.Stands.{Stands}
 use Rattle.weave.specs.declared.named.Named.{Named}
 use Rattle.weave.specs.declared.named.Named.TheVariants.{There, Refused}
 use Rattle.weave.specs.Calls.{named_step}
-use Rattle.weave.specs.laws.Calls.{there_steps}
+use Rattle.weave.proofs.laws.Calls.{there_steps}
 use Rattle.weave.specs.Ribbon.{some}
 use Rattle.floatpath_pieces.specs.Path.{point_words, lift_words, far_step}
 use Rattle.wholepath_pieces.specs.Pieces.{pieces_along, whole_path, whole_forms_of, words_of, rests_of}

@@ -18,10 +18,10 @@ use Rattle.table.specs.Rotation.{Rotation, rotation, turns_of}
 use Rattle.table.specs.laws.Lawful.{good_lawful, rev_edge}
 use Rattle.tracing.specs.Step.{steps, step_type, mirror, back}
 use Rattle.tracing.specs.Walk.{walk}
-use Rattle.tracing.specs.laws.Step.{back_dart, back_type, type?, is_zero, is_one}
-use Rattle.tracing.specs.laws.Back.{walk_mirror}
+use Rattle.tracing.proofs.laws.Step.{back_dart, back_type, type?, is_zero, is_one}
+use Rattle.tracing.proofs.laws.Back.{walk_mirror}
 use Rattle.weave.specs.Letters.{unturned, positive, crossings, letter, letter_at, word_of}
-use Rattle.weave.specs.laws.Ribbon.{crossings_parity}
+use Rattle.weave.proofs.laws.Ribbon.{crossings_parity}
 use Rattle.weave_letters.specs.laws.Crossing.{letters_at}
 use Rattle.wholepath_pieces.specs.Pieces.{spots_on, spots_of, crossing_number, letter_on, whole_piece_on, piece_at, up_to, step_pieces, pieces_along}
 use Rattle.table.specs.laws.Flat.{flat_append, flat_one}

@@ -13,16 +13,16 @@ use Rattle.std.proofs.Common.{arith, ◌∙◌, length-append}
 use Rattle.std.proofs.Math.Path.{sym, ap}
 use mathlib.Core.List.{List, [], ◌∷◌, flat_map}
 use borrow.Author.Tests.{eq-eqb, ne_eqb}
-use Rattle.orbits.specs.laws.Count.{count_le}
-use Rattle.orbits.specs.laws.Truth.{truth, holds, fails}
+use Rattle.orbits.proofs.laws.Count.{count_le}
+use Rattle.orbits.proofs.laws.Truth.{truth, holds, fails}
 use Rattle.table.specs.Layout.{edges}
 use Rattle.table.specs.Rotation.{rotation}
 use Rattle.table.specs.laws.Lawful.{good_lawful}
 use Rattle.table.specs.laws.Signed.{handed}
 use Rattle.tracing.specs.Met.{total, edge_count}
 use Rattle.tracing.specs.Walk.{walk}
-use Rattle.tracing.specs.laws.Length.{walk_bound}
-use Rattle.tracing.specs.laws.Totals.{total_most}
+use Rattle.tracing.proofs.laws.Length.{walk_bound}
+use Rattle.tracing.proofs.laws.Totals.{total_most}
 use Rattle.tracing_walks.specs.laws.Along.{walk_stands}
 use Rattle.tracing_walks.specs.laws.Stands.{Stands, stands_low}
 use Rattle.weave.specs.Letters.{over, under, unturned, crossings, crossed, letters_on, letter_at, word_of}

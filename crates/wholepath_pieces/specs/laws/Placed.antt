@@ -8,7 +8,7 @@ use Rattle.std.specs.Prelude.{ℕ, suc, ◌+◌, ◌-◌, ◌*◌, ◌/◌, ◌%
 use Rattle.std.proofs.Common.{arith, mul-add, mod-lt, sym, ◌∙◌, ap, ap₂}
 use Rattle.std.proofs.Math.Nat.{div-add-mod}
 use Rattle.std.proofs.Math.IntN.{+ℤ_assoc, +ℤ_comm, +ℤ-neg_ℤ_cancel, -ℤ-+ℤ_cancel, neg_ℤ-+ℤ, suc_ℤ-*ℤ, one, *ℤ-one, *ℤ_comm}
-use Rattle.orbits.specs.laws.Truth.{truth, holds, fails}
+use Rattle.orbits.proofs.laws.Truth.{truth, holds, fails}
 use Rattle.table.specs.laws.Signed.{below, above, difference, move, exchange}
 use Rattle.weave.specs.Letters.{over, under, word_of}
 use Rattle.floatpath_pieces.specs.Path.{first_end, second_end, lift_at, thirty_seconds}

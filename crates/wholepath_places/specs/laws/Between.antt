@@ -22,7 +22,7 @@ use Rattle.std.specs.Int.Signed.{non_neg}
 use Rattle.std.specs.Int.{w16, w32}
 use Rattle.std.proofs.Math.Facts.{to_z-of_z, to_z_pos}
 use borrow.Author.Tests.{eq-eqb, ne_eqb}
-use Rattle.orbits.specs.laws.Truth.{truth, holds, fails}
+use Rattle.orbits.proofs.laws.Truth.{truth, holds, fails}
 use Rattle.table.specs.laws.Signed.{handed, Difference, below, above, minus_difference, move, size_sum, size_minus}
 use Rattle.weave.specs.Letters.{over, under}
 use Rattle.floatpath_pieces.specs.Path.{farthest_point, farthest_lift}

@@ -17,19 +17,19 @@ use Rattle.std.proofs.Math.Path.{ap}
 use mathlib.Core.List.{List, [], ◌∷◌, ◌++◌, flat_map}
 use Rattle.std.proofs.Math.ListN.{length}
 use Rattle.orbits.specs.Iterate.{iter}
-use Rattle.orbits.specs.laws.Truth.{false_unless, clash}
+use Rattle.orbits.proofs.laws.Truth.{false_unless, clash}
 use Rattle.table.specs.Rotation.{rotation}
 use Rattle.table.specs.laws.Lawful.{good_lawful}
 use Rattle.table.specs.laws.Front.{next_room}
 use Rattle.tracing.specs.Step.{step}
 use Rattle.tracing.specs.Walk.{walk}
-use Rattle.tracing.specs.laws.Walk.{iterates, run_suc, walk_run, walk_period, walk_period_le}
+use Rattle.tracing.proofs.laws.Walk.{iterates, run_suc, walk_run, walk_period, walk_period_le}
 use Rattle.tracing_walks.specs.laws.Stands.{stands_low}
 use Rattle.tracing_walks.specs.laws.Along.{Walking, walking_none, walking_more, walking_all, along_few}
 use Rattle.weave.specs.Letters.{word_of}
 use Rattle.weave.specs.Ribbon.{some}
 use Rattle.weave_letters.specs.laws.Crossing.{EdgeWord}
-use Rattle.weave.specs.laws.Tests.{walk_some}
+use Rattle.weave.proofs.laws.Tests.{walk_some}
 use Rattle.floatpath_pieces.specs.declared.place.Places.{Places}
 use Rattle.floatpath_pieces.specs.Path.{far_step}
 use Rattle.floatpath_pieces.specs.laws.Places.{places_of, Lent}

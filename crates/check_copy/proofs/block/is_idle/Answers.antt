@@ -1,6 +1,6 @@
 -- `block::is_idle` meets its contract, a return for each kind of word: the edges', and three of the darts'.
-use Rattle.check_reads.specs.laws.Tests.{told_fails, told_goes, told_end}
-use Rattle.check_reads.specs.laws.Darts.{dead_case, blank_case}
+use Rattle.check_reads.proofs.laws.Tests.{told_fails, told_goes, told_end}
+use Rattle.check_reads.proofs.laws.Darts.{dead_case, blank_case}
 use Rattle.table.specs.laws.Rotation.{case_no, case_yes, case_says, case_denies, same_case}
 use Rattle.check_copy.proofs.block.is_idle.Goals as goal
 

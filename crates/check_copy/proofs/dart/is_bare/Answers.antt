@@ -1,5 +1,5 @@
 -- `dart::is_bare` meets its contract, a return for each word that is read.
-use Rattle.check_reads.specs.laws.Tests.{told_all, told_differs, told_same}
+use Rattle.check_reads.proofs.laws.Tests.{told_all, told_differs, told_same}
 use Rattle.check_copy.proofs.dart.is_bare.Goals as goal
 
 pub returns-then-read : goal.returns-then-read

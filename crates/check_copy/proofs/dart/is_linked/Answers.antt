@@ -1,5 +1,5 @@
 -- `dart::is_linked` meets its contract, a return for each word that is read.
-use Rattle.check_reads.specs.laws.Tests.{told_all, told_differs, told_same, told_past, told_low}
+use Rattle.check_reads.proofs.laws.Tests.{told_all, told_differs, told_same, told_past, told_low}
 use Rattle.table.specs.Layout.{prev_word, leaves}
 use mathlib.Core.Path.{sym, ap, ◌∙◌}
 use native.Mathlib.Omega.{arith}

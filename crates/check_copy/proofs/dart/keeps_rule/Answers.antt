@@ -1,5 +1,5 @@
 -- `dart::keeps_rule` meets its contract: the edge's word tells which tests the dart has.
-use Rattle.check_reads.specs.laws.Darts.{told_dead, told_many, told_live}
+use Rattle.check_reads.proofs.laws.Darts.{told_dead, told_many, told_live}
 use mathlib.Core.Path.{sym, ◌∙◌}
 use native.Mathlib.Omega.{arith}
 use Rattle.check_copy.proofs.dart.keeps_rule.Goals as goal

@@ -1,7 +1,7 @@
 -- `dart::live_darts` meets its contract. The loop keeps `RuledBelow`, and the count is that of the blocks so far.
-use Rattle.check_reads.specs.laws.Tests.{told_is, Going, going_none, going_more, going_stops, going_most}
-use Rattle.check_reads.specs.laws.Darts.{idle_case, block_idle, block_read, block_passes, block_fails}
-use Rattle.check_reads.specs.laws.Bounds.{idle_most, block_most}
+use Rattle.check_reads.proofs.laws.Tests.{told_is, Going, going_none, going_more, going_stops, going_most}
+use Rattle.check_reads.proofs.laws.Darts.{idle_case, block_idle, block_read, block_passes, block_fails}
+use Rattle.check_reads.proofs.laws.Bounds.{idle_most, block_most}
 use Rattle.check_reads.specs.Reads.{edge_block}
 use Rattle.table.specs.laws.Darts.{RuledBelow, passed_none, passed_idle, passed_block, passed_to, block_broken}
 use Rattle.table.specs.laws.Rotation.{case_yes}

@@ -1,5 +1,5 @@
 -- `dart::live_darts` meets its contract. The loop keeps `RuledBelow`, and the count is that of the blocks so far.
-use Rattle.check_reads.specs.laws.Tests.{Going}
+use Rattle.check_reads.proofs.laws.Tests.{Going}
 use Rattle.check_reads.specs.Reads.{edge_block}
 use Rattle.table.specs.laws.Darts.{RuledBelow}
 use Prim.Native.Nat.{◌*◌, ◌-◌, ◌≤◌}

@@ -1,7 +1,7 @@
 -- `dart::live_in` meets its contract. The loop keeps `RuledBelow`, and the count is that of the edges so far.
-use Rattle.check_reads.specs.laws.Tests.{Told, told_is, told_all, told_goes, told_in_fails, told_in_goes, along_none, along_more, along_stops, along_all, along_most}
-use Rattle.check_reads.specs.laws.Darts.{dart_case}
-use Rattle.check_reads.specs.laws.Bounds.{dart_most, edge_most}
+use Rattle.check_reads.proofs.laws.Tests.{Told, told_is, told_all, told_goes, told_in_fails, told_in_goes, along_none, along_more, along_stops, along_all, along_most}
+use Rattle.check_reads.proofs.laws.Darts.{dart_case}
+use Rattle.check_reads.proofs.laws.Bounds.{dart_most, edge_most}
 use Rattle.check_reads.specs.Reads.{edge_tests}
 use Rattle.table.specs.laws.Darts.{passed_few, passed_two_live, passed_two_dead, passed_to, passed_broken}
 use mathlib.Core.Bool.{true, false}

@@ -1,5 +1,5 @@
 -- `dart::live_in` meets its contract. The loop keeps `RuledBelow`, and the count is that of the edges so far.
-use Rattle.check_reads.specs.laws.Tests.{Along}
+use Rattle.check_reads.proofs.laws.Tests.{Along}
 use Rattle.check_reads.specs.Reads.{edge_tests}
 use Rattle.table.specs.laws.Darts.{RuledBelow}
 use Prim.Native.Nat.{◌*◌, ◌-◌, ◌≤◌}

@@ -1,7 +1,7 @@
 -- `vertex::all_led_darts` meets its contract. The loop keeps `Summed`, and the count is that of the blocks so far.
-use Rattle.check_reads.specs.laws.Tests.{Going, going_none, going_more, going_stops, going_most}
-use Rattle.check_reads.specs.laws.Vertices.{block_loose, block_read, block_passes, block_fails}
-use Rattle.check_reads.specs.laws.Bounds.{vertex_block_crude}
+use Rattle.check_reads.proofs.laws.Tests.{Going, going_none, going_more, going_stops, going_most}
+use Rattle.check_reads.proofs.laws.Vertices.{block_loose, block_read, block_passes, block_fails}
+use Rattle.check_reads.proofs.laws.Bounds.{vertex_block_crude}
 use Rattle.check_reads.specs.Reads.{vertex_block}
 use Rattle.table.specs.laws.Vertices.{Summed, summed_none, summed_loose, summed_block, summed_all, block_broken}
 use Rattle.table.specs.laws.Rotation.{case_yes, case_no}

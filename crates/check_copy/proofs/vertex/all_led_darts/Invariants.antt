@@ -1,5 +1,5 @@
 -- `vertex::all_led_darts` meets its contract. The loop keeps `Summed`, and the count is that of the blocks so far.
-use Rattle.check_reads.specs.laws.Tests.{Going}
+use Rattle.check_reads.proofs.laws.Tests.{Going}
 use Rattle.check_reads.specs.Reads.{vertex_block}
 use Rattle.table.specs.laws.Vertices.{Summed}
 use Prim.Native.Nat.{◌*◌, ◌-◌, ◌≤◌}

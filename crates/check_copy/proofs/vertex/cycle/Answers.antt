@@ -1,6 +1,6 @@
 -- `vertex::cycle` meets its contract. The loop keeps `Round`, and a word is counted for each step.
 use Rattle.table.specs.laws.Cycle.{round_none, round_more, round_short, round_all, round_lower}
-use Rattle.check_reads.specs.laws.Vertices.{cycle_reads}
+use Rattle.check_reads.proofs.laws.Vertices.{cycle_reads}
 use native.Mathlib.Omega.{arith}
 use Prim.Native.Nat.{◌-◌}
 use Rattle.check_copy.proofs.vertex.cycle.Goals as goal

@@ -1,5 +1,5 @@
 -- `vertex::led_darts` meets its contract, a return for each way in which the word is read.
-use Rattle.check_reads.specs.laws.Vertices.{read_none, read_alone, read_past, read_astray, read_cycle}
+use Rattle.check_reads.proofs.laws.Vertices.{read_none, read_alone, read_past, read_astray, read_cycle}
 use Rattle.table.specs.laws.Vertices.{vertex_none, vertex_alone, vertex_astray, leaving_live, vertex_leads, vertex_follows}
 use Rattle.table.specs.laws.Cycle.{CycleSays}
 use Rattle.table.specs.Layout.{leaves}

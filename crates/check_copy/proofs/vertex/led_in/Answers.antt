@@ -1,7 +1,7 @@
 -- `vertex::led_in` meets its contract. The loop keeps `Summed`, and the count is that of the vertices so far.
-use Rattle.check_reads.specs.laws.Tests.{along_none, along_more, along_stops, along_all, along_most}
-use Rattle.check_reads.specs.laws.Vertices.{told_kept, told_broken}
-use Rattle.check_reads.specs.laws.Bounds.{vertex_crude}
+use Rattle.check_reads.proofs.laws.Tests.{along_none, along_more, along_stops, along_all, along_most}
+use Rattle.check_reads.proofs.laws.Vertices.{told_kept, told_broken}
+use Rattle.check_reads.proofs.laws.Bounds.{vertex_crude}
 use Rattle.table.specs.laws.Vertices.{summed_more, summed_few, summed_to, summed_broken}
 use Rattle.table.specs.laws.Counting.{counts_broken, counts_of_lem}
 use native.Mathlib.Omega.{arith}

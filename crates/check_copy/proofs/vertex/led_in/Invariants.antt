@@ -1,5 +1,5 @@
 -- `vertex::led_in` meets its contract. The loop keeps `Summed`, and the count is that of the vertices so far.
-use Rattle.check_reads.specs.laws.Tests.{Along}
+use Rattle.check_reads.proofs.laws.Tests.{Along}
 use Rattle.check_reads.specs.Reads.{vertex_tests}
 use Rattle.table.specs.laws.Vertices.{Summed}
 use Prim.Native.Nat.{◌*◌, ◌-◌, ◌≤◌}

@@ -1,5 +1,5 @@
 -- `whole::counted_check` meets its contract: the count begins at 0, and is far below 100,000.
-use Rattle.check_reads.specs.laws.Bounds.{reads_most}
+use Rattle.check_reads.proofs.laws.Bounds.{reads_most}
 use native.Mathlib.Omega.{arith}
 use Rattle.check_counted.proofs.whole.counted_check.Goals as goal
 

@@ -1,7 +1,7 @@
 -- `whole::is_good` meets its contract, a return for each way in which the check ends.
-use Rattle.check_reads.specs.laws.Whole.{size_reads, length_reads, dart_reads, all_reads}
-use Rattle.check_reads.specs.laws.Bounds.{block_most}
-use Rattle.check_reads.specs.laws.Tests.{below_most}
+use Rattle.check_reads.proofs.laws.Whole.{size_reads, length_reads, dart_reads, all_reads}
+use Rattle.check_reads.proofs.laws.Bounds.{block_most}
+use Rattle.check_reads.proofs.laws.Tests.{below_most}
 use Rattle.check_reads.specs.Reads.{edge_block}
 use Rattle.table.specs.laws.Check.{good_yes, good_no}
 use Rattle.table.specs.laws.Vertices.{counted_good, good_counted}

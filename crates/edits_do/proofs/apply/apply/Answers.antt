@@ -1,6 +1,6 @@
 -- `apply::apply` meets its contract. Does the edit, or declines it. Answers the new face count, and for an edge the rule met.
-use Rattle.edits.specs.laws.Edits.{same_edit, same_insertion, same_turn}
-use Rattle.edits.specs.laws.Rules.{faces_alone}
+use Rattle.edits.proofs.laws.Edits.{same_edit, same_insertion, same_turn}
+use Rattle.edits.proofs.laws.Rules.{faces_alone}
 use mathlib.Core.Path.{refl}
 use borrow.Author.Rules.{rules}
 use Rattle.edits_do.proofs.apply.apply.Goals as goal

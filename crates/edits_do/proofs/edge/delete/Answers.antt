@@ -1,6 +1,6 @@
 -- `edge::delete` meets its contract. Takes edge e out.
-use Rattle.edits.specs.laws.Ready.{ready_second}
-use Rattle.edits.specs.laws.Edge.{delete_last}
+use Rattle.edits.proofs.laws.Ready.{ready_second}
+use Rattle.edits.proofs.laws.Edge.{delete_last}
 use lib.ListN.{length-set}
 use mathlib.Core.Path.{◌∙◌}
 use native.Mathlib.Omega.{arith}

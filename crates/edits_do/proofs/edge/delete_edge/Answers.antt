@@ -1,11 +1,11 @@
 -- `edge::delete_edge` meets its contract. Deletes edge e. Answers the new face count and the rule met.
-use Rattle.edits.specs.laws.WrittenGood.{may_delete_ready}
+use Rattle.edits.proofs.laws.WrittenGood.{may_delete_ready}
 use Rattle.edits.specs.declared.edit.Edit.TheVariants.{DeleteEdge}
-use Rattle.edits.specs.laws.Rules.{was_refused}
+use Rattle.edits.proofs.laws.Rules.{was_refused}
 use Rattle.edits_rule.specs.laws.Rule.{delete_edge, rule_allows, ruled_reply}
 use mathlib.Core.Path.{sym, ap, ◌∙◌}
 use mathlib.Core.Option.{some}
-use Rattle.edits.specs.laws.Verdicts.{may_delete}
+use Rattle.edits.proofs.laws.Verdicts.{may_delete}
 use Rattle.edits_do.proofs.edge.delete_edge.Goals as goal
 
 pub delete_rule-ruling-requires : goal.delete_rule-ruling-requires

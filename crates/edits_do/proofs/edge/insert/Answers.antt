@@ -1,6 +1,6 @@
 -- `edge::insert` meets its contract. Puts edge e, of word w and a length, between corners c1 and c2. The second dart goes first, so that with one corner for both the first stands before it.
-use Rattle.edits.specs.laws.Ready.{ready_first}
-use Rattle.edits.specs.laws.Edge.{insert_last}
+use Rattle.edits.proofs.laws.Ready.{ready_first}
+use Rattle.edits.proofs.laws.Edge.{insert_last}
 use lib.ListN.{length-set}
 use mathlib.Core.Path.{◌∙◌}
 use native.Mathlib.Omega.{arith}

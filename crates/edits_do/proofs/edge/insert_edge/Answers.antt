@@ -1,11 +1,11 @@
 -- `edge::insert_edge` meets its contract. Inserts edge e with turns k and a length: dart 2e into corner c1, 2e+1 into c2. Answers the new face count and the rule met.
-use Rattle.edits.specs.laws.WrittenGood.{may_insert_ready}
+use Rattle.edits.proofs.laws.WrittenGood.{may_insert_ready}
 use Rattle.edits.specs.declared.edit.Edit.TheVariants.{InsertEdge}
-use Rattle.edits.specs.laws.Rules.{insert_met, was_refused}
+use Rattle.edits.proofs.laws.Rules.{insert_met, was_refused}
 use Rattle.edits_rule.specs.laws.Rule.{insert_corners, rule_allows, ruled_reply}
 use Rattle.edits.specs.Edge.{inserted}
-use Rattle.edits.specs.laws.Turns.{amount_on}
-use Rattle.edits.specs.laws.Verdicts.{insert_on, may_insert}
+use Rattle.edits.proofs.laws.Turns.{amount_on}
+use Rattle.edits.proofs.laws.Verdicts.{insert_on, may_insert}
 use mathlib.Core.Path.{ap, ◌∙◌}
 use Rattle.edits_do.proofs.edge.insert_edge.Goals as goal
 

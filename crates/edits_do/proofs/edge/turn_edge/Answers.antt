@@ -1,9 +1,9 @@
 -- `edge::turn_edge` meets its contract. Turns edge e by an amount. Answers the new face count and the rule met.
 use Rattle.edits.specs.declared.edit.Edit.TheVariants.{TurnEdge}
-use Rattle.edits.specs.laws.Rules.{turn_met, was_refused}
+use Rattle.edits.proofs.laws.Rules.{turn_met, was_refused}
 use Rattle.edits_rule.specs.laws.Rule.{turn_edge, rule_allows, ruled_reply}
-use Rattle.edits.specs.laws.Turns.{amount_on}
-use Rattle.edits.specs.laws.Verdicts.{turn_on, may_turn}
+use Rattle.edits.proofs.laws.Turns.{amount_on}
+use Rattle.edits.proofs.laws.Verdicts.{turn_on, may_turn}
 use Rattle.table.specs.Writes.{set_edge}
 use Rattle.table.specs.Layout.{edge_word}
 use native.Mathlib.Omega.{arith}

@@ -1,10 +1,10 @@
 -- `vertex::remove_vertex` meets its contract. Removes the isolated vertex v. Answers the new face count.
-use Rattle.edits.specs.laws.WrittenGood.{remove_good}
+use Rattle.edits.proofs.laws.WrittenGood.{remove_good}
 use Rattle.edits.specs.declared.edit.Edit.TheVariants.{RemoveVertex}
-use Rattle.edits.specs.laws.Edits.{went_through, was_declined}
+use Rattle.edits.proofs.laws.Edits.{went_through, was_declined}
 use native.Mathlib.Omega.{arith}
 use mathlib.Core.Path.{sym, ◌∙◌, refl}
-use Rattle.edits.specs.laws.Verdicts.{may_remove}
+use Rattle.edits.proofs.laws.Verdicts.{may_remove}
 use Rattle.edits_do.proofs.vertex.remove_vertex.Goals as goal
 
 pub bounds-t-v : goal.bounds-t-v

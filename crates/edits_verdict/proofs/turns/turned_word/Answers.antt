@@ -1,6 +1,6 @@
 -- `turns::turned_word` meets its contract. The word of an edge of word w once it is turned by an amount, or 0 if its turns would pass 99 either way.
 use lib.IntN.{◌+ℤ◌, nat_abs}
-use Rattle.edits.specs.laws.Turns.{word_over, word_in, word_fits, amount_fits, sum_fits, settle_word, settle_amount, settle, in_range, overturned_low, overturned_high, hundred_fits, settle_hundred}
+use Rattle.edits.proofs.laws.Turns.{word_over, word_in, word_fits, amount_fits, sum_fits, settle_word, settle_amount, settle, in_range, overturned_low, overturned_high, hundred_fits, settle_hundred}
 use Rattle.edits.specs.Turns.{turns_in}
 use mathlib.Core.Path.{ap, ◌∙◌}
 use mir.Facts.{to_z_pos, to_z-of_z}

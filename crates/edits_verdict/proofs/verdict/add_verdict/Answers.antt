@@ -1,5 +1,5 @@
 -- `verdict::add_verdict` meets its contract: nothing is tested but what it names.
-use Rattle.edits.specs.laws.Verdicts.{then_none}
+use Rattle.edits.proofs.laws.Verdicts.{then_none}
 use mathlib.Core.Path.{◌∙◌}
 use Rattle.edits_verdict.proofs.verdict.add_verdict.Goals as goal
 

@@ -1,5 +1,5 @@
 -- `verdict::delete_verdict` meets its contract: nothing is tested but what it names.
-use Rattle.edits.specs.laws.Verdicts.{then_none}
+use Rattle.edits.proofs.laws.Verdicts.{then_none}
 use mathlib.Core.Path.{◌∙◌}
 use Rattle.edits_verdict.proofs.verdict.delete_verdict.Goals as goal
 

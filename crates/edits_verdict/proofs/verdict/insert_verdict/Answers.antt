@@ -1,7 +1,7 @@
 -- `verdict::insert_verdict` meets its contract: what it names, then whether its turns pass 99, then its length.
-use Rattle.edits.specs.laws.Verdicts.{room_is, then_declines, then_passes}
+use Rattle.edits.proofs.laws.Verdicts.{room_is, then_declines, then_passes}
 use Rattle.edits.specs.Verdicts.{few_turns, fair_length, and_then}
-use Rattle.edits.specs.laws.Turns.{amount_on, hundred}
+use Rattle.edits.proofs.laws.Turns.{amount_on, hundred}
 use mathlib.Core.Path.{refl, sym, ◌∙◌, ap}
 use Rattle.edits_verdict.proofs.verdict.insert_verdict.Goals as goal
 

@@ -1,5 +1,5 @@
 -- `verdict::new_edge` meets its contract, an edge to insert and its corners: an end for each test.
-use Rattle.edits.specs.laws.Verdicts.{names_are}
+use Rattle.edits.proofs.laws.Verdicts.{names_are}
 use Rattle.edits.specs.Verdicts.{new_edge}
 use Rattle.table.specs.laws.Check.{seen_good, seen_torn}
 use borrow.Author.Tests.{eq-eqb, ne_eqb}

@@ -1,5 +1,5 @@
 -- `verdict::remove_verdict` meets its contract: what it names, then whether the vertex is isolated.
-use Rattle.edits.specs.laws.Verdicts.{vertex_there_lem, then_declines, then_passes}
+use Rattle.edits.proofs.laws.Verdicts.{vertex_there_lem, then_declines, then_passes}
 use mathlib.Core.Path.{sym, ◌∙◌}
 use native.Mathlib.Omega.{arith}
 use Rattle.edits_verdict.proofs.verdict.remove_verdict.Goals as goal

@@ -1,5 +1,5 @@
 -- `verdict::strip_for` meets its contract: whether the turns pass 99, then the length.
-use Rattle.edits.specs.laws.Verdicts.{then_declines, then_passes}
+use Rattle.edits.proofs.laws.Verdicts.{then_declines, then_passes}
 use mathlib.Core.Path.{sym, ◌∙◌}
 use Rattle.edits_verdict.proofs.verdict.strip_for.Goals as goal
 

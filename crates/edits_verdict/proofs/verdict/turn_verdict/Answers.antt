@@ -1,6 +1,6 @@
 -- `verdict::turn_verdict` meets its contract: what it names, then whether the turns would pass 99.
-use Rattle.edits.specs.laws.Verdicts.{edge_there_lem, room_is, then_declines, then_passes}
-use Rattle.edits.specs.laws.Turns.{amount_on}
+use Rattle.edits.proofs.laws.Verdicts.{edge_there_lem, room_is, then_declines, then_passes}
+use Rattle.edits.proofs.laws.Turns.{amount_on}
 use mathlib.Core.Path.{sym, ◌∙◌}
 use native.Mathlib.Omega.{arith}
 use Rattle.table.specs.Layout.{edge_word}

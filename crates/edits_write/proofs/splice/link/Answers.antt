@@ -1,5 +1,5 @@
 -- `splice::link` meets its contract. Puts dart x into corner c.
-use Rattle.edits.specs.laws.Edge.{dart_link, link_past}
+use Rattle.edits.proofs.laws.Edge.{dart_link, link_past}
 use mir.Facts.{Fits-16_64}
 use mathlib.Core.Path.{◌∙◌, sym}
 use native.Mathlib.Omega.{arith}

@@ -1,5 +1,5 @@
 -- `splice::successor` meets its contract. The word of vertex v once dart x is out, where it was w. The loop keeps `Seeking`, and `darts - d` falls.
-use Rattle.edits.specs.laws.Unlink.{seeking_none, seeking_more, seeking_here, seeking_all}
+use Rattle.edits.proofs.laws.Unlink.{seeking_none, seeking_more, seeking_here, seeking_all}
 use borrow.Author.Tests.{eq-eqb, ne_eqb}
 use mir.Facts.{Fits-16_64}
 use native.Mathlib.Omega.{arith}

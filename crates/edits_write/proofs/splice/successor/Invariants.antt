@@ -1,5 +1,5 @@
 -- `splice::successor` meets its contract. The word of vertex v once dart x is out, where it was w. The loop keeps `Seeking`, and `darts - d` falls.
-use Rattle.edits.specs.laws.Unlink.{Seeking}
+use Rattle.edits.proofs.laws.Unlink.{Seeking}
 use Rattle.table.specs.Layout.{darts}
 use Prim.Native.Nat.{◌-◌}
 use Rattle.edits_write.proofs.splice.successor.Given as goal

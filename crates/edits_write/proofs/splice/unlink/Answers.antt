@@ -1,5 +1,5 @@
 -- `splice::unlink` meets its contract. Takes dart x out of its vertex's cycle.
-use Rattle.edits.specs.laws.Unlink.{unlink_last}
+use Rattle.edits.proofs.laws.Unlink.{unlink_last}
 use Rattle.edits_write.proofs.splice.unlink.Goals as goal
 
 pub returns : goal.returns

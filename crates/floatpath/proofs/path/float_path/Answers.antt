@@ -1,6 +1,6 @@
 -- `path::float_path` meets its contract: the refusal of the step, or what the path from it gives.
 use Rattle.floatpath.specs.laws.PathCall.{path_refused, path_left}
-use Rattle.weave.specs.laws.Calls.{there_steps}
+use Rattle.weave.proofs.laws.Calls.{there_steps}
 use mathlib.Core.Path.{sym, ◌∙◌}
 use Rattle.floatpath.proofs.path.float_path.Goals as goal
 

@@ -1,6 +1,6 @@
 -- `ask::ask_delete_edge` meets its contract. What deleting edge e would do.
 use Rattle.edits.specs.declared.edit.Edit.TheVariants.{DeleteEdge}
-use Rattle.edits.specs.laws.Verdicts.{may_delete}
+use Rattle.edits.proofs.laws.Verdicts.{may_delete}
 use Rattle.edits_rule.specs.laws.Rule.{delete_edge, rule_allows}
 use Rattle.forecasts_ask.specs.laws.Ask.{was_refused, was_foretold}
 use mathlib.Core.Path.{sym, ap, ◌∙◌}

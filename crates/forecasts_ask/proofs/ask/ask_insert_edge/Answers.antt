@@ -1,8 +1,8 @@
 -- `ask::ask_insert_edge` meets its contract. What inserting edge e would do.
 use Rattle.edits.specs.declared.edit.Edit.TheVariants.{InsertEdge}
-use Rattle.edits.specs.laws.Rules.{insert_met}
-use Rattle.edits.specs.laws.Turns.{amount_on}
-use Rattle.edits.specs.laws.Verdicts.{insert_on, may_insert}
+use Rattle.edits.proofs.laws.Rules.{insert_met}
+use Rattle.edits.proofs.laws.Turns.{amount_on}
+use Rattle.edits.proofs.laws.Verdicts.{insert_on, may_insert}
 use Rattle.edits_rule.specs.laws.Rule.{insert_corners, rule_allows}
 use Rattle.forecasts_ask.specs.laws.Ask.{was_refused, was_foretold}
 use Rattle.forecasts_ask.proofs.ask.ask_insert_edge.Goals as goal

@@ -1,8 +1,8 @@
 -- `ask::ask_turn_edge` meets its contract. What turning edge e by an amount would do.
 use Rattle.edits.specs.declared.edit.Edit.TheVariants.{TurnEdge}
-use Rattle.edits.specs.laws.Rules.{turn_met}
-use Rattle.edits.specs.laws.Turns.{amount_on}
-use Rattle.edits.specs.laws.Verdicts.{turn_on, may_turn}
+use Rattle.edits.proofs.laws.Rules.{turn_met}
+use Rattle.edits.proofs.laws.Turns.{amount_on}
+use Rattle.edits.proofs.laws.Verdicts.{turn_on, may_turn}
 use Rattle.edits_rule.specs.laws.Rule.{turn_edge, rule_allows}
 use Rattle.table.specs.Layout.{edge_word}
 use Rattle.forecasts_ask.specs.laws.Ask.{was_refused, was_foretold}

@@ -1,7 +1,7 @@
 -- `commit::commit_delete_edge` meets its contract. Deletes edge e if the forecast holds.
 use Rattle.edits.specs.declared.edit.Edit.TheVariants.{DeleteEdge}
-use Rattle.edits.specs.laws.Verdicts.{may_delete}
-use Rattle.edits.specs.laws.WrittenGood.{may_delete_ready}
+use Rattle.edits.proofs.laws.Verdicts.{may_delete}
+use Rattle.edits.proofs.laws.WrittenGood.{may_delete_ready}
 use Rattle.forecasts_commit.specs.laws.Commit.{judges, may_edit, was_refused, was_done}
 use mathlib.Core.Path.{refl, sym, ◌∙◌}
 use Rattle.forecasts_commit.proofs.commit.commit_delete_edge.Goals as goal

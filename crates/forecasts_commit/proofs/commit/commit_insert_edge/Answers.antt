@@ -1,10 +1,10 @@
 -- `commit::commit_insert_edge` meets its contract. Inserts edge e if the forecast holds.
 use Rattle.edits.specs.Edge.{inserted}
 use Rattle.edits.specs.declared.edit.Edit.TheVariants.{InsertEdge}
-use Rattle.edits.specs.laws.Turns.{amount_on}
-use Rattle.edits.specs.laws.Verdicts.{may_insert}
-use Rattle.edits.specs.laws.WrittenGood.{may_insert_ready}
-use Rattle.forecasts.specs.laws.Forecast.{asked_insertion}
+use Rattle.edits.proofs.laws.Turns.{amount_on}
+use Rattle.edits.proofs.laws.Verdicts.{may_insert}
+use Rattle.edits.proofs.laws.WrittenGood.{may_insert_ready}
+use Rattle.forecasts.proofs.laws.Forecast.{asked_insertion}
 use Rattle.forecasts_commit.specs.laws.Commit.{judges, may_edit, was_refused, was_done}
 use mathlib.Core.Path.{refl, sym, ap, ◌∙◌}
 use Rattle.forecasts_commit.proofs.commit.commit_insert_edge.Goals as goal

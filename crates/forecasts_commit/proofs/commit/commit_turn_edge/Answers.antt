@@ -1,8 +1,8 @@
 -- `commit::commit_turn_edge` meets its contract. Turns edge e by an amount if the forecast holds.
 use Rattle.edits.specs.declared.edit.Edit.TheVariants.{TurnEdge}
-use Rattle.edits.specs.laws.Turns.{amount_on}
-use Rattle.edits.specs.laws.Verdicts.{may_turn}
-use Rattle.forecasts.specs.laws.Forecast.{asked_turn}
+use Rattle.edits.proofs.laws.Turns.{amount_on}
+use Rattle.edits.proofs.laws.Verdicts.{may_turn}
+use Rattle.forecasts.proofs.laws.Forecast.{asked_turn}
 use Rattle.forecasts_commit.specs.laws.Commit.{judges, may_edit, was_refused, was_done}
 use Rattle.table.specs.Layout.{edge_word}
 use Rattle.table.specs.Writes.{set_edge}

@@ -1,6 +1,6 @@
 -- `length::cut_length` meets its contract: the refusal of the step, 14, or the ribbon's length.
 use mathlib.Core.Path.{sym, ◌∙◌}
-use Rattle.weave.specs.laws.Calls.{there_steps}
+use Rattle.weave.proofs.laws.Calls.{there_steps}
 use Rattle.lengths.specs.laws.CutLength.{cut_refused, cut_not_plain, cut_along}
 use Rattle.lengths.proofs.length.cut_length.Goals as goal
 

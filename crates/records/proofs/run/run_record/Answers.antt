@@ -1,6 +1,6 @@
 -- `run::run_record` meets its contract: the table that the edit leaves, and a line if it was declined.
 use Rattle.records.specs.laws.Running.{line_done, line_declined}
-use Rattle.edits.specs.laws.Rules.{answer_in, answers_in}
+use Rattle.edits.proofs.laws.Rules.{answer_in, answers_in}
 use mathlib.Core.Path.{ap}
 use Rattle.records.proofs.run.run_record.Goals as goal
 

@@ -1,6 +1,6 @@
 -- `mesh::measure_mesh` meets its contract: labels, then the counts.
 use Rattle.surface_calls.specs.laws.Mesh.{mesh_counts}
-use Rattle.tracing.specs.laws.FaceCount.{faces_low}
+use Rattle.tracing.proofs.laws.FaceCount.{faces_low}
 use Rattle.surface_counts.specs.laws.Tally.{labelled_keyed}
 use Rattle.table.specs.laws.Lawful.{good_lawful}
 use native.Mathlib.Omega.{arith}

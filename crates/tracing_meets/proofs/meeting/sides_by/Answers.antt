@@ -1,7 +1,7 @@
 -- `meeting::sides_by` meets its contract, a return for each way in which the corners meet.
 use Rattle.tracing_meets.specs.laws.Read.{one_more}
 use mathlib.Core.Path.{sym, ap, ◌∙◌}
-use Rattle.tracing.specs.laws.Sides.{sides_met}
+use Rattle.tracing.proofs.laws.Sides.{sides_met}
 use Rattle.tracing_meets.proofs.meeting.sides_by.Goals as goal
 
 pub returns-in-Apart : goal.returns-in-Apart

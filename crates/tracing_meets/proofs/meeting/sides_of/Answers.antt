@@ -1,7 +1,7 @@
 -- `meeting::sides_of` meets its contract: the tags of the corners of both sides, of one trace.
 use Rattle.tracing_meets.specs.laws.Read.{edge_near, side_stands, side_low, sides_read}
 use mathlib.Core.Path.{◌∙◌, ap}
-use Rattle.tracing.specs.laws.Sides.{sides_met}
+use Rattle.tracing.proofs.laws.Sides.{sides_met}
 use native.Mathlib.Omega.{arith}
 use Prim.Native.Nat.{◌%◌}
 use Rattle.table.specs.Layout.{edge_word}

@@ -1,6 +1,6 @@
 -- `step::corner` meets its contract: a live dart's "next" is a dart.
 use Rattle.tracing_walks.specs.laws.Stands.{near, stands_dart, corner_next_word}
-use Rattle.tracing.specs.laws.Step.{corner_zero}
+use Rattle.tracing.proofs.laws.Step.{corner_zero}
 use Rattle.table.specs.Rotation.{rotation}
 use mathlib.Core.Path.{sym}
 use native.Mathlib.Omega.{arith}

@@ -3,7 +3,7 @@ use lib.Seq.{length-sets}
 use lib.ListN.{length}
 use native.Mathlib.Omega.{arith}
 use mathlib.Core.Path.{sym, ◌∙◌, ap}
-use Rattle.weave.specs.laws.Calls.{there_steps, letters_refused, letters_short, letters_done}
+use Rattle.weave.proofs.laws.Calls.{there_steps, letters_refused, letters_short, letters_done}
 use Rattle.weave_letters.proofs.call.letters.Goals as goal
 
 pub letter_count-size-requires : goal.letter_count-size-requires

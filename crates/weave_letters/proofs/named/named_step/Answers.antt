@@ -1,7 +1,7 @@
 -- `call::named_step` meets its contract, a return for each refusal in its order: torn, no such name, absent.
 use native.Mathlib.Omega.{arith}
 use Rattle.table.specs.laws.Check.{seen_good, seen_torn}
-use Rattle.weave.specs.laws.Calls.{named_torn, named_past, named_type, named_dead, named_there}
+use Rattle.weave.proofs.laws.Calls.{named_torn, named_past, named_type, named_dead, named_there}
 use Rattle.weave_letters.proofs.named.named_step.Goals as goal
 
 pub returns-then-not-is_good : goal.returns-then-not-is_good

@@ -1,6 +1,6 @@
 -- `call::alternates` meets its contract: the refusal of the step, or what the hands of its ribbon tell.
 use mathlib.Core.Path.{sym, ◌∙◌}
-use Rattle.weave.specs.laws.Calls.{there_steps, alternates_refused, alternates_done}
+use Rattle.weave.proofs.laws.Calls.{there_steps, alternates_refused, alternates_done}
 use Rattle.weave_plain.proofs.call.alternates.Goals as goal
 
 pub is_alternating-requires : goal.is_alternating-requires

@@ -1,6 +1,6 @@
 -- `call::plain` meets its contract: torn, or what the listed ribbons tell.
 use Rattle.table.specs.laws.Check.{seen_good, seen_torn}
-use Rattle.weave.specs.laws.Calls.{plain_torn, plain_done}
+use Rattle.weave.proofs.laws.Calls.{plain_torn, plain_done}
 use Rattle.weave_plain.proofs.call.plain.Goals as goal
 
 pub returns-then-not-is_good : goal.returns-then-not-is_good

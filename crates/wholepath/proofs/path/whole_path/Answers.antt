@@ -1,6 +1,6 @@
 -- `path::whole_path` meets its contract: the refusal of the step, or what the path from it gives.
 use Rattle.wholepath.specs.laws.WholePath.{path_refused, path_left}
-use Rattle.weave.specs.laws.Calls.{there_steps}
+use Rattle.weave.proofs.laws.Calls.{there_steps}
 use mathlib.Core.Path.{sym, ◌∙◌}
 use Rattle.wholepath.proofs.path.whole_path.Goals as goal
 

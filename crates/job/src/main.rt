@@ -15,11 +15,14 @@ ghost use Rattle.records.specs.Blocks.{left};
 ghost use Rattle.records.specs.Lines.{stop_line};
 ghost use Rattle.job.specs.Job.{goes_on, after_block, Turn, Read, Ended};
 
-use libc::{STDIN_FILENO, STDOUT_FILENO};
 use records::block::run_block;
 use records::lines::stop_line;
 use records::records::{Stop, reads_on};
 use report::report::show;
+use std::io;
+use std::io::Read;
+use std::rt::Runtime;
+use streams::{put, tell};
 use table::empty::empty;
 use table::layout::WORDS;
 
@@ -61,14 +64,16 @@ struct Job {
     printed: u64,
 }
 
+// The bytes that are read at once, and those that are written at once.
+const BLOCK: usize = 4096;
+
+const LINES: usize = 65536;
+
 // Hands some bytes to standard output. Where that fails, standard error says so.
-fn print(bytes: &[u8]) -> Printed
+fn print<R: Runtime>(rt: &R, bytes: &[u8]) -> Printed
     ensures { result.bytes ≡ length bytes.now }
 {
-    let fine = io::write_all(STDOUT_FILENO, bytes);
-    if !fine {
-        os::fail(b"standard output");
-    }
+    let fine = put(rt, &mut io::writer(rt), "standard output", bytes);
     Printed {
         fine,
         bytes: bytes.len(),
@@ -89,17 +94,17 @@ fn goes_on(fine: bool, came: usize, stop: Stop) -> bool
 }
 
 // Runs the records of the bytes that were left and of those that came after them, and prints the lines of those that are declined.
-fn run_and_print(t: &mut [u16], buf: &mut [u8], came: usize, p: Progress) -> Progress
+fn run_and_print<R: Runtime>(rt: &R, t: &mut [u16], buf: &mut [u8], came: usize, p: Progress) -> Progress
     requires { (length buf.old ≡ 4096) × (p.left + came ≤ 4096) × (p.next ≤ 2 ^ 61) × (p.read ≤ 2 ^ 61) × (p.printed ≤ 2 ^ 63) }
     ensures { (result ≡ after_block t.old p came (take (p.left + came) buf.old) result.fine)
         × (t.new ≡ run t.old (reading (take (p.left + came) buf.old)).edits)
         × (take result.left buf.new ≡ left (take (p.left + came) buf.old)) }
 {
-    let mut out = io::large_buffer();
+    let mut out = [0u8; LINES];
     let n = p.left + came;
     let block = run_block(t, buf, n, p.next, &mut out);
     let written = block.written;
-    let lines = print(&out[..written]);
+    let lines = print(rt, &out[..written]);
     let stop = block.stop;
     let going = goes_on(lines.fine, came, stop);
     Progress {
@@ -115,39 +120,40 @@ fn run_and_print(t: &mut [u16], buf: &mut [u8], came: usize, p: Progress) -> Pro
 }
 
 // Reads once and runs the records of what came.
-fn read_block(t: &mut [u16], buf: &mut [u8], p: Progress) -> Progress
+fn read_block<R: Runtime, I: Read>(rt: &R, input: &mut I, t: &mut [u16], buf: &mut [u8], p: Progress) -> Progress
     requires { (length buf.old ≡ 4096) × (p.left < longest_record) × (p.next ≤ 2 ^ 61) × (p.read ≤ 2 ^ 61) × (p.printed ≤ 2 ^ 63) }
     ensures { Turn t.old buf.old p t.new buf.new result }
 {
     let left = p.left;
-    let got = libc::read(STDIN_FILENO, &mut buf[left..]);
-    if got < 0 {
-        os::fail(b"standard input");
-        let stop = p.stop;
-        return Progress {
-            going: false,
-            fine: false,
-            left,
-            next: p.next,
-            stop,
-            came: p.came,
-            read: p.read,
-            printed: p.printed,
-        };
+    match input.read(&mut buf[left..]) {
+        Ok(came) => run_and_print(rt, t, buf, came, p),
+        Err(error) => {
+            tell(rt, "standard input", &error);
+            let stop = p.stop;
+            Progress {
+                going: false,
+                fine: false,
+                left,
+                next: p.next,
+                stop,
+                came: p.came,
+                read: p.read,
+                printed: p.printed,
+            }
+        }
     }
-    let came = io::count(got, &buf[left..]);
-    run_and_print(t, buf, came, p)
 }
 
 // A proved loop has to end, and nothing says that the input does. So the program reads up to a number of bytes that no input has.
 const MOST: u64 = 1 << 60;
 
 // Reads to the end of the input, or to a bad mark.
-fn read_job(t: &mut [u16]) -> Progress
+fn read_job<R: Runtime>(rt: &R, t: &mut [u16]) -> Progress
     requires { Good t.old }
     ensures { Read t.old t.new result }
 {
-    let mut buf = io::buffer();
+    let mut input = rt.reader();
+    let mut buf = [0u8; BLOCK];
     // No read has given nothing yet.
     let mut p = Progress {
         going: true,
@@ -160,31 +166,31 @@ fn read_job(t: &mut [u16]) -> Progress
         printed: 0,
     };
     while p.going && p.read < MOST {
-        p = read_block(t, &mut buf, p);
+        p = read_block(rt, &mut input, t, &mut buf, p);
     }
     p
 }
 
 // Prints the line of the refusal that ended the reading, if one did.
-fn print_stop(n: u64, stop: Stop) -> Printed
+fn print_stop<R: Runtime>(rt: &R, n: u64, stop: Stop) -> Printed
     ensures { result.bytes ≡ length (stop_line n stop) }
 {
     let mut line = [0u8; 64];
     let size = stop_line(&mut line, n, stop);
-    print(&line[..size])
+    print(rt, &line[..size])
 }
 
 // Prints the report, a window at a time.
-fn print_report(t: &[u16]) -> Printed
+fn print_report<R: Runtime>(rt: &R, t: &[u16]) -> Printed
     requires { Good t.now }
     ensures { (result.fine ≡ true → result.bytes ≡ length (report t.now)) × (result.bytes ≤ length (report t.now)) × (result.bytes < 2 ^ 31) }
 {
-    let mut out = io::large_buffer();
+    let mut out = [0u8; LINES];
     let mut from: usize = 0;
     loop {
         let window = show(t, from, &mut out);
         let shown = window.shown;
-        let part = print(&out[..shown]);
+        let part = print(rt, &out[..shown]);
         from += part.bytes;
         if !part.fine {
             return Printed {
@@ -202,12 +208,12 @@ fn print_report(t: &[u16]) -> Printed
 }
 
 // Runs a job over the empty mesh: its records, the line of the refusal that ended them, the report.
-fn run_job(t: &mut [u16]) -> Job
+fn run_job<R: Runtime>(rt: &R, t: &mut [u16]) -> Job
     requires { length t.old ≡ words }
     ensures { Ended empty_table t.new result }
 {
     empty(t);
-    let p = read_job(t);
+    let p = read_job(rt, t);
     if !p.fine {
         return Job {
             fine: false,
@@ -217,7 +223,7 @@ fn run_job(t: &mut [u16]) -> Job
         };
     }
     let stop = p.stop;
-    let line = print_stop(p.next, stop);
+    let line = print_stop(rt, p.next, stop);
     let printed = p.printed + line.bytes as u64;
     if !line.fine {
         return Job {
@@ -227,7 +233,7 @@ fn run_job(t: &mut [u16]) -> Job
             printed,
         };
     }
-    let lines = print_report(t);
+    let lines = print_report(rt, t);
     Job {
         fine: lines.fine,
         came: p.came,
@@ -236,7 +242,7 @@ fn run_job(t: &mut [u16]) -> Job
     }
 }
 
-fn main() {
+fn main(rt: HostRuntime) {
     let mut t = [0u16; WORDS];
-    run_job(&mut t);
+    run_job(&rt, &mut t);
 }

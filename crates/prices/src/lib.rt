@@ -1,5 +1,6 @@
 // The price sheet: every ribbon measured, its row written, and the call for it.
 #![tactic(auto)]
+
 pub mod call;
 pub mod quote;
 pub mod ribbons;

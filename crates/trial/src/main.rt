@@ -9,7 +9,10 @@ ghost use Rattle.trial_jobs.specs.Trial.{trial_size, trial_bytes};
 ghost use Rattle.trial.specs.Program.{outcome, output_of, message, Laid, Few};
 
 use arguments::number::{Parsed, number_in};
-use libc::{STDERR_FILENO, STDOUT_FILENO};
+use std::env::FillError;
+use std::io;
+use std::rt::Runtime;
+use streams::put;
 use table::answer::Answer;
 use table::layout::EDGES;
 use text::window::bytes;
@@ -121,44 +124,71 @@ fn make(count: usize, first: &[u8], second: &[u8], out: &mut [u8], line: &mut [u
 }
 
 // Hands some bytes to standard output, and answers how many. Where that fails, standard error says so.
-fn print(output: &[u8]) -> usize
+fn print<R: Runtime>(rt: &R, output: &[u8]) -> usize
     ensures { result ≡ length output.now }
 {
-    if !io::write_all(STDOUT_FILENO, output) {
-        os::fail(b"standard output");
-    }
+    put(rt, &mut io::writer(rt), "standard output", output);
     output.len()
 }
 
+// Hands a line to standard error. Where that fails, nobody is left to tell.
+fn complain<R: Runtime>(rt: &R, message: &[u8]) -> usize
+    ensures { result ≡ length message.now }
+{
+    if let Ok(text) = str::from_utf8(message) {
+        let _untold = eprint!(rt; "{text}");
+    }
+    message.len()
+}
+
 // Hands the line to standard error and the job to standard output. One of them is empty, and then nothing is written there.
-fn hand_over(message: &[u8], output: &[u8]) -> Printed
+fn hand_over<R: Runtime>(rt: &R, message: &[u8], output: &[u8]) -> Printed
     ensures { (result.output ≡ length output.now) × (result.message ≡ length message.now) }
 {
-    io::write_all(STDERR_FILENO, message);
-    let printed = print(output);
+    let told = complain(rt, message);
+    let printed = print(rt, output);
     Printed {
         output: printed,
-        message: message.len(),
+        message: told,
     }
 }
 
 // Runs the program on its arguments.
-fn run(count: usize, first: &[u8], second: &[u8]) -> Printed
+fn run<R: Runtime>(rt: &R, count: usize, first: &[u8], second: &[u8]) -> Printed
     ensures { (result.output ≡ length (output_of (outcome count first.now second.now)))
         × (result.message ≡ length (message (outcome count first.now second.now))) }
 {
-    let mut out = io::large_buffer();
+    let mut out = [0u8; 65536];
     let mut line = [0u8; 64];
     let made = make(count, first, second, &mut out, &mut line);
     let output = made.output;
     let message = made.message;
-    hand_over(&line[..message], &out[..output])
+    hand_over(rt, &line[..message], &out[..output])
 }
 
-fn main() {
-    let mut first = io::buffer();
-    let mut second = io::buffer();
-    let start = os::arg(1, &mut first);
-    let edges = os::arg(2, &mut second);
-    run(os::arg_count(), &first[..start], &second[..edges]);
+// How many arguments there are, the program's own name among them. More than are wanted are one more.
+fn argument_count<R: Runtime>(rt: &R) -> usize {
+    let mut none = [0u8; 1];
+    for i in 0..ARGUMENTS + 1 {
+        if let Err(FillError::NotPresent) = rt.arg(i, &mut none) {
+            return i;
+        }
+    }
+    ARGUMENTS + 1
+}
+
+// Puts an argument at the front of a buffer, and answers its number of bytes: none where there is no such argument, or it is longer than the buffer.
+fn argument<R: Runtime>(rt: &R, i: usize, buf: &mut [u8]) -> usize
+    ensures { result ≤ length buf.new }
+{
+    rt.arg(i, buf).unwrap_or(0)
+}
+
+fn main(rt: HostRuntime) {
+    let mut first = [0u8; 4096];
+    let mut second = [0u8; 4096];
+    let start = argument(&rt, 1, &mut first);
+    let edges = argument(&rt, 2, &mut second);
+    let count = argument_count(&rt);
+    run(&rt, count, &first[..start], &second[..edges]);
 }

@@ -1,6 +1,6 @@
 # Build the library and the two programs, job and trial, check everything, and install them.
 PREFIX ?= /usr/local
-VERSION := 6.0.0
+VERSION := 5.1.0
 
 .PHONY: all check uninstall install
 

@@ -24,14 +24,12 @@
 enum { WORDS = PLANNER_TABLE_WORDS, OUT = 4096, SHEET = PLANNER_ROW_WORDS * PLANNER_DARTS, LETTERS = 2048 * 99, PIECES = LETTERS + 1, ROUNDS = 21 };
 
 /* A table under test and what calls are lent beside it. Edits leave it as it was, two by two. One more to be filled, and one whose live names lie
-   apart. Two with more turns on every edge and the same walks: those of a ropework shell, and as many as there can be. One with a loop of the other
-   hand in a part of its own: its weave is plain too, but only its walks show that, not the turns alone. */
+   apart. Two with more turns on every edge and the same walks: those of a ropework shell, and as many as there can be. */
 static uint16_t table[WORDS];
 static uint16_t scratch[WORDS];
 static uint16_t spread_table[WORDS];
 static uint16_t rope_table[WORDS];
 static uint16_t turned_table[WORDS];
-static uint16_t both_table[WORDS];
 static int32_t points[3 * PLANNER_VERTICES];
 static int32_t lifts[3 * PLANNER_EDGES];
 
@@ -83,13 +81,6 @@ CALL(counts, (table, WORDS, ours.counts, OUT), (table, WORDS, theirs.counts, OUT
 CALL(parts, (table, WORDS, ours.counts, OUT), (table, WORDS, theirs.counts, OUT))
 CALL(alternates, (table, WORDS, 0, 0), (table, WORDS, 0, 0))
 CALL(plain, (table, WORDS), (table, WORDS))
-
-/* The test of the weave on the table of both hands, and on the one whose names lie apart. */
-static int64_t our_both_plain(void) { return planner_plain(both_table, WORDS); }
-static int64_t their_both_plain(void) { return plain_plain(both_table, WORDS); }
-static int64_t our_spread_plain(void) { return planner_plain(spread_table, WORDS); }
-static int64_t their_spread_plain(void) { return plain_plain(spread_table, WORDS); }
-
 CALL(letters, (table, WORDS, 0, 0, ours.letters, LETTERS), (table, WORDS, 0, 0, theirs.letters, LETTERS))
 CALL(float_path,
      (table, WORDS, 0, 0, points, 3 * PLANNER_VERTICES, lifts, 3 * PLANNER_EDGES, ours.words, OUT, ours.coords, 3 * OUT),
@@ -115,12 +106,6 @@ static int64_t their_turned_path(void) { return their_whole(turned_table); }
 
 CALL(cut_length, (table, WORDS, 0, 0), (table, WORDS, 0, 0))
 CALL(price_sheet, (table, WORDS, 180, 300, ours.sheet, SHEET), (table, WORDS, 180, 300, theirs.sheet, SHEET))
-
-/* The two calls on the table of both hands. */
-static int64_t our_both_length(void) { return planner_cut_length(both_table, WORDS, 0, 0); }
-static int64_t their_both_length(void) { return plain_cut_length(both_table, WORDS, 0, 0); }
-static int64_t our_both_sheet(void) { return planner_price_sheet(both_table, WORDS, 180, 300, ours.sheet, SHEET); }
-static int64_t their_both_sheet(void) { return plain_price_sheet(both_table, WORDS, 180, 300, theirs.sheet, SHEET); }
 
 /* The sheet of the table whose names lie apart. */
 static int64_t our_spread_sheet(void) { return planner_price_sheet(spread_table, WORDS, 180, 300, ours.sheet, SHEET); }
@@ -234,13 +219,9 @@ static const struct {
     {"planner_commit_turn_edge", our_commit_turn, their_commit_turn, 2, FEW},
     {"planner_alternates", our_alternates, their_alternates, 1, FEW},
     {"planner_plain", our_plain, their_plain, 1, FEW},
-    {"planner_plain, both hands", our_both_plain, their_both_plain, 1, FEW},
-    {"planner_plain, 32 edges, each in another block", our_spread_plain, their_spread_plain, 1, FEW},
     {"planner_letters", our_letters, their_letters, 1, FEW},
     {"planner_cut_length", our_cut_length, their_cut_length, 1, FEW},
-    {"planner_cut_length, both hands", our_both_length, their_both_length, 1, FEW},
     {"planner_price_sheet", our_price_sheet, their_price_sheet, 1, FEW},
-    {"planner_price_sheet, both hands", our_both_sheet, their_both_sheet, 1, FEW},
     {"planner_price_sheet, 32 edges, each in another block", our_spread_sheet, their_spread_sheet, 1, FEW},
     {"planner_float_path", our_float_path, their_float_path, 1, FEW},
     {"planner_whole_path", our_whole_path, their_whole_path, 1, ALL},
@@ -348,14 +329,6 @@ static void turn_all(uint16_t *turned, int more) {
     for (e = 0; e < free_edge; e++) {
         turned[PLANNER_EDGE_AT + e] = (uint16_t)(turned[PLANNER_EDGE_AT + e] + more);
     }
-}
-
-/* The table and a part more: a loop with one turn of the other hand, at a vertex of its own. */
-static void add_other_hand(void) {
-    const uint16_t corner = (uint16_t)(PLANNER_LONE_CORNER + free_vertex);
-    memcpy(both_table, table, sizeof table);
-    planner_add_vertex(both_table, WORDS, free_vertex);
-    planner_insert_edge(both_table, WORDS, free_edge, corner, corner, -1, 16);
 }
 
 /* Lengths of the live edges, and the points and lifts that are lent. */
@@ -523,7 +496,6 @@ int main(void) {
         place();
         turn_all(rope_table, 2);
         turn_all(turned_table, 98);
-        add_other_hand();
         foretell();
         for (row = 0; row < ROWS; row++) {
             if (!is_left_out(row)) {

@@ -1,9 +1,8 @@
 /*
  * A host to start from. It builds a small shell through the library and prints a line for each edit: how many faces there are
  * now, and why. Then it asks for the counts and prints the price sheet, as CSV and as an aligned table: for each ribbon its cut
- * length, the metres that it starts, how far the last of them is unused, and its price; then their sum. A strip of the wrong hand
- * makes the weave mixed: then there is no sheet, and it prints the ribbons that do not alternate. Last it makes ropework of two
- * strips and prints a ribbon's path over them, point by point. Build it with -I include and libplanner.a.
+ * length, the metres that it starts, how far the last of them is unused, and its price; then their sum. Last it makes ropework of
+ * two strips and prints a ribbon's path over them, point by point. Build it with -I include and libplanner.a.
  */
 #include "planner.h"
 
@@ -144,61 +143,17 @@ static void print_rows(const char *format, int ribbons) {
     }
 }
 
-/* The strips of a hand, 1 for positive turns and -1 for negative ones, in the order of travel along so many steps. */
-static void print_strips(const uint16_t *steps, int n, int hand) {
-    int i;
-    for (i = 0; i < n; i++) {
-        const int strip = steps[i] / 4;
-        if (hand * (table[PLANNER_EDGE_AT + strip] - 100) > 0) {
-            printf(" %d", strip);
-        }
-    }
-}
-
-/* Where to look in a mixed weave: each ribbon that does not alternate has strips of both hands. Those of the wrong one are to be
-   turned. The ribbons come first in the listing, then the isolated poles, whose walks have no steps. */
-static void print_mixed(void) {
-    const int64_t words = ask(planner_listing(table, WORDS, listing, LISTING), "listing");
-    int64_t at;
-    int ribbon = 0;
-    printf("no price sheet: the weave is mixed\n");
-    for (at = 0; at < words && listing[at] > 0; at += 1 + listing[at]) {
-        const uint16_t *steps = listing + at + 1;
-        if (ask(planner_alternates(table, WORDS, steps[0] / 2, steps[0] % 2), "alternates") == 0) {
-            printf("ribbon %d: positive turns on strips", ribbon);
-            print_strips(steps, listing[at], 1);
-            printf(", negative ones on");
-            print_strips(steps, listing[at], -1);
-            printf("\n");
-        }
-        ribbon++;
-    }
-}
-
 /* One call fills the sheet, a row for each ribbon in the order of the listing, and answers the sum of the prices. It is lent as much
-   as the ribbons need; a host that counted too few of them would be declined. So is a weave that is not plain: the call looks. */
+   as the ribbons need; a host that counted too few of them would be declined. */
 static void print_sheet(void) {
     const int ribbons = count_ribbons();
-    const int64_t sum = planner_price_sheet(table, WORDS, CENTS_A_METRE, LEAST_CENTS, sheet, ROW * ribbons);
-    if (sum == -PLANNER_NOT_PLAIN) {
-        print_mixed();
-        return;
-    }
-    ask(sum, "price sheet");
+    const int64_t sum = ask(planner_price_sheet(table, WORDS, CENTS_A_METRE, LEAST_CENTS, sheet, ROW * ribbons), "price sheet");
     printf("ribbon,length mm,metres,unused mm,cents\n");
     print_rows("%d,%s,%lu,%s,%lu\n", ribbons);
     printf("sum,,,,%lld\n\n", (long long)sum);
     printf("%-8s%12s%8s%12s%8s\n", "ribbon", "length mm", "metres", "unused mm", "cents");
     print_rows("%-8d%12s%8lu%12s%8lu\n", ribbons);
     printf("%-8s%40lld\n", "sum", (long long)sum);
-}
-
-/* A member turns a post the other way, asks for the sheet, and turns the post back. */
-static void mistake(void) {
-    printf("\n");
-    print_edit("turn strip", 6, planner_turn_edge(table, WORDS, 6, -2));
-    print_sheet();
-    print_edit("turn strip", 6, planner_turn_edge(table, WORDS, 6, 2));
 }
 
 /* Where the poles stand, and how far a ribbon is lifted where it crosses: 10 mm, across a post and upward elsewhere. */
@@ -265,7 +220,6 @@ int main(void) {
     build();
     print_counts();
     print_sheet();
-    mistake();
     rope();
     return 0;
 }

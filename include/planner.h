@@ -56,7 +56,6 @@ extern "C" {
 #define PLANNER_CUT_RECORD 11     /* fewer bytes than the record needs */
 #define PLANNER_STALE_FORECAST 12 /* a commit's forecast is not the one that ask gives now */
 #define PLANNER_MANY_EDGES 13     /* a trial job of more than PLANNER_EDGES edges */
-#define PLANNER_NOT_PLAIN 14      /* cut length or price sheet of a weave with a ribbon that does not alternate */
 
 /*
  * Fills the slice with the empty mesh: no vertex and no edge is live. Answers 0.
@@ -210,7 +209,7 @@ int64_t planner_commit_turn_edge(uint16_t *table, size_t words, uint16_t e, int1
 /* Answers 1 if cyclic neighbours among the ribbon's letters differ, else 0. No letters count as alternating. */
 int64_t planner_alternates(const uint16_t *table, size_t words, uint16_t dart, uint16_t type);
 
-/* Answers 1 if the weave is plain, that is, if every ribbon alternates, else 0. Declines: PLANNER_TORN alone. */
+/* Answers 1 if every ribbon alternates, else 0. Declines: PLANNER_TORN alone. */
 int64_t planner_plain(const uint16_t *table, size_t words);
 
 /*
@@ -224,8 +223,6 @@ int64_t planner_letters(const uint16_t *table, size_t words, uint16_t dart, uint
  * for each step, plus PLANNER_OVER_ALLOWANCE for each O among the ribbon's letters, plus PLANNER_LAP once, for a ribbon without
  * letters too. In sixteenths of a millimetre; it fits 32 bits. It is the same for every step that names the ribbon, in either
  * sense. An isolated vertex has no ribbon, and so no step that names one.
- * Declines besides, last: PLANNER_NOT_PLAIN if planner_plain answers 0. The whole weave is tested, so a ribbon that alternates
- * is declined too as long as another does not. The tally of planner_walk_step has the length in any weave.
  */
 #define PLANNER_OVER_ALLOWANCE 8 /* a strand that rides over takes up more strip: half a millimetre */
 #define PLANNER_LAP 320          /* a ribbon is closed with a lap: 20 millimetres */
@@ -237,10 +234,9 @@ int64_t planner_cut_length(const uint16_t *table, size_t words, uint16_t dart, u
  * sixteenths; its price, which is p for each metre started, or m where that is more. A length of a whole number of metres leaves 0
  * unused and starts no other. An isolated vertex has no ribbon, and so no row. Answers the sum, exactly that of the prices written,
  * which is at most 689,952,480; 0 without ribbons. Prices are in whole cents, as p and m are.
- * Declines, in this order: PLANNER_TORN; PLANNER_NOT_PLAIN if planner_plain answers 0; PLANNER_SHORT_SLICE if out_words is less
- * than PLANNER_ROW_WORDS for each ribbon. The ribbons are F of planner_counts, less the isolated vertices; PLANNER_ROW_WORDS *
- * PLANNER_DARTS words are enough for every table, since no two ribbons are listed from one dart. Words of `out` past the rows are
- * not changed.
+ * Declines, in this order: PLANNER_TORN; PLANNER_SHORT_SLICE if out_words is less than PLANNER_ROW_WORDS for each ribbon. The
+ * ribbons are F of planner_counts, less the isolated vertices; PLANNER_ROW_WORDS * PLANNER_DARTS words are enough for every table,
+ * since no two ribbons are listed from one dart. Words of `out` past the rows are not changed.
  */
 #define PLANNER_METRE 16000 /* the shop quotes by the started metre */
 #define PLANNER_ROW_WORDS 4 /* length, metres, unused, price */
@@ -298,9 +294,8 @@ int64_t planner_whole_path(const uint16_t *table, size_t words, uint16_t dart, u
  * and planner_cut_length check it once.
  * Declines, in this order: PLANNER_TORN; PLANNER_NO_SUCH_NAME, then PLANNER_ABSENT (the step or the start);
  * PLANNER_OVERTURNED (a field of the tally would pass 32 bits). Then neither the reader nor the tally has changed.
- * A tally begun at zeros fits over one walk, and its length is then the ribbon's cut length if the weave is plain. No step tests
- * that: in any other weave the length is reckoned in the same way, where planner_cut_length declines. Neither `reader` nor `tally`
- * may be NULL.
+ * A tally begun at zeros fits over one walk, and its length is then the ribbon's cut length. Neither `reader` nor `tally` may
+ * be NULL.
  */
 struct planner_reader {
     uint16_t dart, type, start_dart, start_type;

@@ -2,8 +2,8 @@
 //!
 //! "Where several hold: 1, 2, 3, 4, 5, 6, 8, 9, with 7 tested after 4." Every call here tests in that order, one
 //! `decline_if` after the other, before it writes anything. Document 02 adds 9 for an insertion, "the last of the
-//! edit's own numbers", 12 for a commit, "tested after all of the edit's own numbers", 13 for a trial job, where
-//! "otherwise 7" comes after it, and 14 for cut lengths and the price sheet, "tested after 4 and before 7".
+//! edit's own numbers", 12 for a commit, "tested after all of the edit's own numbers", and 13 for a trial job, where
+//! "otherwise 7" comes after it.
 
 #[derive(Clone, Copy, Debug, PartialEq, Eq)]
 pub enum Refusal {
@@ -20,7 +20,6 @@ pub enum Refusal {
     CutRecord = 11,
     StaleForecast = 12,
     ManyEdges = 13,
-    NotPlain = 14,
 }
 
 impl Refusal {

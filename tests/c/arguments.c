@@ -116,8 +116,7 @@ static void try_the_counts(void) {
    From (1, 0): type 1, before 0 is 2; (2, 1): type 0, next after 3 is 1; (1, 0).
    Letters of (0, 1): U; (4, 0) with turns -2: U O; (5, 0): U O; (2, 0): O. Letters of (1, 0): O; (2, 1): U. So the whole paths have six
    pieces and two, and Close.
-   The first ribbon does not alternate, so neither has a cut length. With four turns more on edge 2 the walks stay, and its steps have O U: both
-   alternate, the first with three O's, the second with one. Cut lengths: the edges, of lengths 1, 10 and 100, 8 for each O, 320 for the lap. */
+   Cut lengths: the edges, of lengths 1, 10 and 100, 8 for each O, 320 for the lap. The first ribbon has three O's, the second one. */
 static void try_dart_and_type(void) {
     static int32_t points[3 * PLANNER_VERTICES], lifts[3 * PLANNER_EDGES];
     uint8_t letters[6];
@@ -129,30 +128,26 @@ static void try_dart_and_type(void) {
     check(planner_alternates(table, WORDS, 0, 1) == 0 && planner_alternates(table, WORDS, 1, 0) == 1, "alternates: dart and type");
     check(planner_letters(table, WORDS, 0, 1, letters, 6) == 6 && memcmp(letters, "UUOUOO", 6) == 0, "letters of dart 0, type 1");
     check(planner_letters(table, WORDS, 1, 0, letters, 6) == 2 && memcmp(letters, "OU", 2) == 0, "letters of dart 1, type 0");
-    check(planner_cut_length(table, WORDS, 0, 1) == -PLANNER_NOT_PLAIN && planner_cut_length(table, WORDS, 1, 0) == -PLANNER_NOT_PLAIN,
-          "no cut lengths, not of the alternating ribbon either");
+    check(planner_cut_length(table, WORDS, 0, 1) == 1 + 100 + 100 + 10 + 3 * 8 + 320, "cut length of dart 0, type 1");
+    check(planner_cut_length(table, WORDS, 1, 0) == 1 + 10 + 8 + 320, "cut length of dart 1, type 0");
     check(planner_float_path(table, WORDS, 0, 1, points, 1536, lifts, 3072, kinds, 5, coords, 15) == -PLANNER_MANY_TURNS &&
               planner_float_path(table, WORDS, 1, 0, points, 1536, lifts, 3072, kinds, 5, coords, 15) == 3,
           "float path: dart and type");
     check(planner_whole_path(table, WORDS, 0, 1, points, 1536, lifts, 3072, kinds, 7, wholes, 21, remainders, 21) == 7 &&
               planner_whole_path(table, WORDS, 1, 0, points, 1536, lifts, 3072, kinds, 7, wholes, 21, remainders, 21) == 3,
           "whole path: dart and type");
-    check(planner_turn_edge(table, WORDS, 2, 4) == 2 + E && planner_plain(table, WORDS) == 1, "two turns of the same hand");
-    check(planner_cut_length(table, WORDS, 0, 1) == 1 + 100 + 100 + 10 + 3 * 8 + 320, "cut length of dart 0, type 1");
-    check(planner_cut_length(table, WORDS, 1, 0) == 1 + 10 + 8 + 320, "cut length of dart 1, type 0");
 }
 
-/* p and m, and the four words of a ribbon. The mesh of the two ribbons above, with two turns on edge 2 and lengths of 5,000, 11,000 and 20,000.
-   From (0, 0): type 1, before 1 is 3; (3, 1): type 0, next after 2 is 0. So the ribbon over edges 0 and 1 alone is listed first, with one O:
-   16,328, two metres less 15,672. The other one has three O's: 56,344, four metres less 7,656.
-   150 cents a metre and 400 at least: 400 and 600. 400 a metre and 150 at least: 800 and 1,600.
-   With turns of -2 on edge 2 the other ribbon does not alternate, and no word is written, whether there is room or not. */
+/* p and m, and the four words of a ribbon. The mesh of the two ribbons above, with lengths of 5,000, 11,000 and 20,000. From (0, 0): type 1,
+   before 1 is 3; (3, 1): type 0, next after 2 is 0. So the ribbon over edges 0 and 1 alone is listed first, with one O: 16,328, two metres less
+   15,672. The other one has three O's: 56,344, four metres less 7,656.
+   150 cents a metre and 400 at least: 400 and 600. 400 a metre and 150 at least: 800 and 1,600. */
 static void try_the_price_sheet(void) {
     static const uint32_t rows[] = {16328, 2, 15672, 400, 56344, 4, 7656, 600, 77};
     static const uint32_t exchanged[] = {16328, 2, 15672, 800, 56344, 4, 7656, 1600, 77};
     uint32_t out[9];
     out[8] = 77;
-    check(begin(0, 1) && insert(0, LONE, LONE, 1, 5000) == 2 + B2 && insert(1, 0, 1, 1, 11000) == 3 + B1 && insert(2, 2, LONE + 1, 2, 20000) == 2 + A,
+    check(begin(0, 1) && insert(0, LONE, LONE, 1, 5000) == 2 + B2 && insert(1, 0, 1, 1, 11000) == 3 + B1 && insert(2, 2, LONE + 1, -2, 20000) == 2 + A,
           "two ribbons of more than a metre");
     check(planner_price_sheet(table, WORDS, 150, 400, out, 9) == 1000 && memcmp(out, rows, sizeof rows) == 0,
           "length, metres, unused and price of each ribbon, and the sum");
@@ -161,17 +156,12 @@ static void try_the_price_sheet(void) {
     check(planner_price_sheet(table, WORDS, 400, 150, out, 7) == -PLANNER_SHORT_SLICE && out[0] == 0xa5a5a5a5u &&
               memcmp(out, out + 1, sizeof out - sizeof out[0]) == 0,
           "seven words are too short for them, and stay");
-    check(planner_turn_edge(table, WORDS, 2, -4) == 2 + E && planner_price_sheet(table, WORDS, 400, 150, out, 9) == -PLANNER_NOT_PLAIN &&
-              planner_price_sheet(table, WORDS, 400, 150, out, 8) == -PLANNER_NOT_PLAIN &&
-              planner_price_sheet(table, WORDS, 400, 150, out, 7) == -PLANNER_NOT_PLAIN && out[0] == 0xa5a5a5a5u &&
-              memcmp(out, out + 1, sizeof out - sizeof out[0]) == 0,
-          "a weave that is not plain, with room and without");
 }
 
 /* A chain of edge 0 with one turn from vertex 0 to 1, edge 1 with none to 2, edge 2 with turns -1 to 3; their lengths are 100, 1,000 and
    10,000. Around vertex 1 stand 1 and 2, around vertex 2 stand 3 and 4. The walk from (0, 0), and its letters:
    (0, 0) type 1, before 1 is 2: O. (2, 1) before 3 is 4. (4, 1) type 0, next after 5 is 5: with negative turns O. (5, 0) type 1, before 4 is 3: U.
-   (3, 1) before 2 is 1. (1, 1) type 0, next after 0 is 0: U. So O O U U, which the calls below do not look at. */
+   (3, 1) before 2 is 1. (1, 1) type 0, next after 0 is 0: U. */
 static int build_the_chain(void) {
     return begin(0, 3) && insert(0, LONE, LONE + 1, 1, 100) == 3 + A && insert(1, 1, LONE + 2, 0, 1000) == 2 + A &&
            insert(2, 3, LONE + 3, -1, 10000) == 1 + A;

@@ -354,33 +354,6 @@ static void try_the_price_sheet(void) {
     check(price_sheet(1, 0, 3) == -7 && price_sheet(65535, 65535, 1) == -7 && price_sheet(0, 0, 0) == -7, "one word too few: 7");
 }
 
-/* With a turn of the other hand on the last edge, which its walk passes by both darts, the ribbon has O O U U: 14, after 1, 2 and 4 and before 7. The
-   reader's tally has both edges twice, two O's and the lap. */
-static void try_the_weave(void) {
-    int64_t ends;
-    int steps;
-    check(turn(1023, -1) == 2 + B2 && plain() == 0, "a weave that is not plain");
-    check(cut_length(0, 0) == -14 && cut_length(2046, 1) == -14 && cut_length(2047, 0) == -14, "no cut length: 14");
-    check(cut_length(2048, 0) == -2 && cut_length(0, 2) == -2 && cut_length(2, 1) == -4 && cut_length(2045, 0) == -4, "after 2 and 4");
-    check(price_sheet(1, 0, 4) == -14 && price_sheet(65535, 65535, 5) == -14, "no price sheet: 14");
-    check(price_sheet(1, 0, 3) == -14 && price_sheet(65535, 65535, 1) == -14 && price_sheet(0, 0, 0) == -14, "before 7");
-    mesh[PLANNER_LENGTH_AT + 1] = 1;
-    check(all_torn() && cut_length(65535, 65535) == -1, "after 1, for a length of an edge that is not live");
-    mesh[PLANNER_LENGTH_AT + 1] = 0;
-    words = WORDS - 1;
-    check(all_torn() && cut_length(65535, 65535) == -1, "and for a size");
-    words = WORDS;
-    memset(&tally, 0, sizeof tally);
-    ends = step_at(0, 0);
-    for (steps = 1; steps < 4 && ends == 0; steps++) {
-        ends = walk_step();
-    }
-    check(ends == 1 && tally.overs == 2 && tally.length == 2 * 300 + 2 * 65535 + 16 + 320, "the reader's length");
-    memset(&tally, 0, sizeof tally);
-    check(turn(1023, 1) == 2 + B2 && plain() == 1 && cut_length(2046, 1) == 2 * 300 + 2 * 65535 + 8 + 320 && price_sheet(1, 0, 4) == 9,
-          "turned back, both answer");
-}
-
 /* Isolated vertices have no row. */
 static void try_no_ribbons(void) {
     check(empty() == 0 && price_sheet(65535, 65535, 0) == 0 && price_sheet(65535, 65535, 4) == 0, "a price sheet of the empty mesh");
@@ -536,7 +509,6 @@ int main(int argc, char **argv) {
     try_the_names();
     try_the_lengths();
     try_the_price_sheet();
-    try_the_weave();
     try_the_path();
     try_the_whole_path();
     try_the_reader();

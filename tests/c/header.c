@@ -162,40 +162,6 @@ static void try_the_price_sheet(void) {
           "no words are short, and a torn table is declined before");
 }
 
-/* Document 02: "14, weave not plain, tested after 4 and before 7". Edge 1 goes on from vertex 1: with a turn of the same hand the ribbon has
-   O U O U, with one of the other O O U U. It passes each edge, of length 1, twice. */
-static void try_the_weave(void) {
-    struct planner_reader reader = {0, 0, 0, 0};
-    struct planner_tally tally = {0, 0, 0, 0};
-    uint32_t out[PLANNER_ROW_WORDS] = {GUARD, GUARD, GUARD, GUARD};
-    int64_t ends = 0;
-    int steps;
-    check(PLANNER_NOT_PLAIN == 14, "14 not plain");
-    check(planner_empty(table, WORDS) == 0, "the empty mesh once more");
-    write_an_edge();
-    check(planner_add_vertex(table, WORDS, 2) == 2 && planner_insert_edge(table, WORDS, 1, 1, 32770, 1, 1) == 1 + A, "a chain of two edges");
-    check(planner_cut_length(table, WORDS, 0, 0) == 4 + 16 + 320 && planner_price_sheet(table, WORDS, 1, 1, out, 3) == -PLANNER_SHORT_SLICE,
-          "of one hand it is plain");
-    check(planner_turn_edge(table, WORDS, 1, -2) == 1 + E && planner_plain(table, WORDS) == 0, "of both hands it is not");
-    check(planner_cut_length(table, WORDS, 0, 0) == -PLANNER_NOT_PLAIN && planner_cut_length(table, WORDS, 3, 1) == -PLANNER_NOT_PLAIN,
-          "no cut length");
-    check(planner_cut_length(table, WORDS - 1, 4, 2) == -PLANNER_TORN && planner_cut_length(table, WORDS, 4, 2) == -PLANNER_NO_SUCH_NAME &&
-              planner_cut_length(table, WORDS, 4, 0) == -PLANNER_ABSENT,
-          "1, 2 and 4 come before");
-    check(planner_price_sheet(table, WORDS, 1, 1, out, 4) == -PLANNER_NOT_PLAIN &&
-              planner_price_sheet(table, WORDS, 1, 1, out, 3) == -PLANNER_NOT_PLAIN &&
-              planner_price_sheet(table, WORDS, 1, 1, NULL, 0) == -PLANNER_NOT_PLAIN &&
-              planner_price_sheet(table, WORDS - 1, 1, 1, NULL, 0) == -PLANNER_TORN,
-          "no price sheet, with room and without; 1 comes before");
-    check(out[0] == GUARD && out[1] == GUARD && out[2] == GUARD && out[3] == GUARD, "and no row");
-    for (steps = 0; steps < 4 && ends == 0; steps++) {
-        ends = planner_walk_step(table, WORDS, &reader, &tally);
-    }
-    check(ends == 1 && tally.steps == 4 && tally.overs == 2 && tally.length == 4 + 16 + 320, "the reader has the length");
-    check(planner_turn_edge(table, WORDS, 1, 2) == 1 + E && planner_cut_length(table, WORDS, 0, 0) == (int64_t)tally.length,
-          "turned back, it is cut");
-}
-
 /* Document 02: "13, N above 1,024; otherwise 7 for an output shorter than 32 + 10N bytes". */
 static void try_the_trial_job(void) {
     static uint8_t out[PLANNER_TRIAL_BYTES(PLANNER_EDGES) + 1];
@@ -250,7 +216,6 @@ int main(void) {
     try_the_forecasts();
     try_the_lengths();
     try_the_price_sheet();
-    try_the_weave();
     try_the_trial_job();
     try_the_job_record();
     return verdict();

@@ -37,7 +37,7 @@ static void *lend(size_t bytes) {
 }
 
 static uint16_t *table;
-static int64_t answers[41];
+static int64_t answers[38];
 
 /* The largest length of an edge. */
 enum { LONGEST = 65535 };
@@ -196,24 +196,6 @@ static void try_many_ribbons(void) {
     check(turn_all(1), "and one turn again");
 }
 
-static void calls_that_look_at_the_weave(void) {
-    answers[38] = planner_cut_length(table, WORDS, 0, 0);
-    answers[39] = planner_price_sheet(table, WORDS, 65535, 65535, sheet, PLANNER_ROW_WORDS);
-    answers[40] = planner_price_sheet(table, WORDS, 65535, 65535, sheet + PLANNER_ROW_WORDS, 0);
-}
-
-/* The last edge with the other hand: the one ribbon does not alternate. Into the exact size of its row, and into no words. */
-static void try_a_mixed_weave(void) {
-    sheet = (uint32_t *)lend(PLANNER_ROW_WORDS * sizeof *sheet);
-    sheet[0] = sheet[3] = 77;
-    check(planner_turn_edge(table, WORDS, EDGES - 1, -2) >= 0, "an edge of the other hand");
-    on_small_stack(calls_that_look_at_the_weave);
-    check(answers[38] == -PLANNER_NOT_PLAIN && answers[39] == -PLANNER_NOT_PLAIN && answers[40] == -PLANNER_NOT_PLAIN,
-          "neither a cut length nor a price sheet, with room and without");
-    check(sheet[0] == 77 && sheet[3] == 77, "and no row");
-    check(planner_turn_edge(table, WORDS, EDGES - 1, 2) >= 0, "and the same hand again");
-}
-
 /* An edit asked for and committed, three times; the last commit again, which finds the table changed. */
 static void calls_that_forecast(void) {
     answers[17] = planner_ask_turn_edge(table, WORDS, EDGES - 1, -1);
@@ -275,7 +257,6 @@ int main(void) {
           "a price sheet");
     try_the_longest_path();
     try_many_ribbons();
-    try_a_mixed_weave();
     on_small_stack(make_a_trial_job);
     /* Its last record is that of edge 1,023. */
     check(answers[26] == 10272 && trial[TRIAL - 10] == 'I' && trial[TRIAL - 8] == 3 && trial[TRIAL - 7] == 255, "a trial job of 1,024 edges");

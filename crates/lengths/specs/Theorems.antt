@@ -1,18 +1,15 @@
--- The theorems of this crate, document 02, d and i. Each is proved by the law of its name.
-use Rattle.std.specs.Prelude.{ℕ, ◌/◌, ◌%◌, ◌<◌, ◌≤◌, ◌≡◌, true, List, ◌↔◌, ◌≢◌}
+-- The theorems of this crate, document 02, d. Each is proved by the law of its name.
+use Rattle.std.specs.Prelude.{ℕ, ◌/◌, ◌<◌, ◌≤◌, ◌≡◌, true, List, ◌≢◌}
 use Rattle.table.specs.Layout.{leaves}
 use Rattle.table.specs.Good.{Good}
 use Rattle.table.specs.Rotation.{rotation, live?, alone?}
-use Rattle.table.specs.declared.answer.Answer.TheVariants.{Done, Declined}
-use Rattle.table.specs.declared.answer.Refusal.TheVariants.{NotPlain}
+use Rattle.table.specs.declared.answer.Answer.TheVariants.{Done}
 use Rattle.tracing.specs.Step.{steps, mirror}
 use Rattle.tracing.specs.Walk.{walk}
 use Rattle.tracing.specs.Listing.{has, lone_corner}
 use Rattle.weave.specs.declared.named.Named.TheVariants.{There}
 use Rattle.weave.specs.Calls.{named_step}
-use Rattle.weave.specs.Ribbon.{Mixed}
 use Rattle.lengths.specs.CutLength.{cut_length, cut_length_of}
-use Rattle.lengths.specs.laws.CutLength as call
 use Rattle.lengths.specs.laws.Sense as sense
 
 -- the cut length does not depend on the step that names the ribbon
@@ -39,8 +36,3 @@ cut_most = sense.cut_most
 -- "An isolated vertex still yields no ribbon": a dart that has a cut length does not leave one, and is not the corner of one
 pub lone_none : (t : List ℕ) (d k n : ℕ) → cut_length_of t d k ≡ Done n → (v : ℕ) → alone? t v ≡ true → (leaves t d ≢ v) × (d ≢ lone_corner v)
 lone_none = sense.lone_none
-
--- "The test must agree with the alternation fact of the third demand": whichever step on a live dart is named, the call is declined with 14 exactly if
--- some ribbon's turned edges do not all turn the same way, be it the named ribbon or another
-pub cut_mixed : (t : List ℕ) (g : Good t) (s : ℕ) → live? t (s / 2) ≡ true → (cut_length_of t (s / 2) (s % 2) ≡ Declined NotPlain) ↔ Mixed t
-cut_mixed = call.cut_mixed

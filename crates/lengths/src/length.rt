@@ -3,13 +3,12 @@ ghost use Rattle.std.specs.Prelude.{◌≡◌};
 ghost use Rattle.tracing_walks.specs.laws.Stands.{Stands};
 ghost use Rattle.lengths.specs.CutLength.{length_of, taken_by, cut_length, cut_length_of};
 
-use table::answer::{Answer, Refusal};
+use table::answer::Answer;
 use table::layout::LENGTH;
 use tracing_walks::step::step;
 use weave::named::Named;
 use weave_letters::letter::{edge_word, overs};
 use weave_letters::named::named_step;
-use weave_plain::plain::is_plain;
 
 // What a strand that rides over takes up, and the lap that closes a ribbon, in sixteenths of a millimetre.
 pub const OVER_ALLOWANCE: u32 = 8;
@@ -50,18 +49,13 @@ fn length_along(t: &[u16], s: u16) -> u32
     }
 }
 
-// The cut length of the ribbon through the step of dart and type, in sixteenths of a millimetre. The whole weave has to be plain.
+// The cut length of the ribbon through the step of dart and type, in sixteenths of a millimetre.
 pub fn cut_length(t: &[u16], dart: u16, kind: u16) -> Answer
     ensures { result ≡ cut_length_of t.now dart kind }
 {
     let n = named_step(t, dart, kind);
     match n {
         Named::Refused(r) => Answer::Declined(r),
-        Named::There(s) => {
-            if !is_plain(t) {
-                return Answer::Declined(Refusal::NotPlain);
-            }
-            Answer::Done(length_along(t, s))
-        }
+        Named::There(s) => Answer::Done(length_along(t, s)),
     }
 }

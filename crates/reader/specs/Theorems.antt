@@ -1,10 +1,9 @@
 -- The theorems of this crate, document 01, "Corners and walks". Each is proved by the law of its name.
-use Rattle.std.specs.Prelude.{ℕ, ◌≡◌, true, false, List, ◌≢◌, eqb, length}
+use Rattle.std.specs.Prelude.{ℕ, ◌≡◌, false, List, ◌≢◌, eqb, length}
 use Rattle.table.specs.Rotation.{rotation}
 use Rattle.table.specs.declared.answer.Answer.TheVariants.{Done}
 use Rattle.tracing.specs.Walk.{walk}
 use Rattle.tracing.specs.Listing.{has}
-use Rattle.weave.specs.Letters.{plain}
 use Rattle.lengths.specs.CutLength.{cut_length_of}
 use Rattle.reader.specs.declared.place.Step.{Step}
 use Rattle.reader_tally.specs.declared.tally.Tally.{Tally}
@@ -28,8 +27,8 @@ step_tallied = reader.step_tallied
 pub reader_walks : (t : List ℕ) (first : Step) → begin_of t first.dart first.kind ≡ Done 0 → Walked t first
 reader_walks = walked.reader_walks
 
--- at the walk's end the tally's length is the cut length: what the call for it answers where the weave is plain, as that call looks and the reader does not
-pub tally_cut : (t : List ℕ) (first : Step) → begin_of t first.dart first.kind ≡ Done 0 → plain t ≡ true
+-- at the walk's end the tally's length is the cut length: what the call for it answers
+pub tally_cut : (t : List ℕ) (first : Step) → begin_of t first.dart first.kind ≡ Done 0
     → cut_length_of t first.dart first.kind ≡ Done (after_steps t first (length (walk (rotation t) (word_at first)))).tally.length
 tally_cut = walked.tally_cut
 

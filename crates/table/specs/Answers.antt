@@ -1,8 +1,7 @@
 -- Document 01's numbers for what a call answers; a refusal unless a test holds, and what a declined call leaves.
 use Rattle.std.specs.Prelude.{ℕ, ℤ, pos, neg_ℤ, Bool, cond}
 use Rattle.table.specs.declared.answer.Refusal.{Refusal}
-use Rattle.table.specs.declared.answer.Refusal.TheVariants.{Torn, NoSuchName, Taken, Absent, Joined, Overturned, ShortSlice, ManyTurns, Far, BadMark, CutRecord}
-use Rattle.table.specs.declared.answer.Refusal.TheVariants.{StaleForecast, ManyEdges, NotPlain}
+use Rattle.table.specs.declared.answer.Refusal.TheVariants.{Torn, NoSuchName, Taken, Absent, Joined, Overturned, ShortSlice, ManyTurns, Far, BadMark, CutRecord, StaleForecast, ManyEdges}
 use Rattle.table.specs.declared.answer.Answer.{Answer}
 use Rattle.table.specs.declared.answer.Answer.TheVariants.{Done, Declined}
 
@@ -23,8 +22,6 @@ number_of CutRecord = 11
 number_of StaleForecast = 12
 -- request f
 number_of ManyEdges = 13
--- request i
-number_of NotPlain = 14
 
 -- a refusal, unless its test holds. Tests stand in the order in which they are made: "Where several hold: 1, 2, 3, .."
 abbrev pub unless : {A : Type 0} → Bool → A → A → A

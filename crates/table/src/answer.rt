@@ -2,7 +2,7 @@
 ghost use Rattle.std.specs.Prelude.{◌≡◌};
 ghost use Rattle.table.specs.Answers.{number_of, refusal_code, code_of};
 
-// Document 01, "When a call declines"; document 02 adds the last three.
+// Document 01, "When a call declines"; document 02 adds the last two.
 #[derive(Clone, Copy)]
 pub enum Refusal {
     Torn,
@@ -18,7 +18,6 @@ pub enum Refusal {
     CutRecord,
     StaleForecast,
     ManyEdges,
-    NotPlain,
 }
 
 #[derive(Clone, Copy)]
@@ -45,7 +44,6 @@ pub fn number_of(r: Refusal) -> u64
         Refusal::CutRecord => 11,
         Refusal::StaleForecast => 12,
         Refusal::ManyEdges => 13,
-        Refusal::NotPlain => 14,
     }
 }
 

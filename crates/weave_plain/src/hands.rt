@@ -1,15 +1,13 @@
 // The hands of a ribbon's edges: a ribbon alternates exactly if they do not include both.
-ghost use Rattle.std.specs.Prelude.{◌≡◌, not, ◌&&◌, length};
-ghost use Rattle.table.specs.Layout.{darts};
+ghost use Rattle.std.specs.Prelude.{◌≡◌};
 ghost use Rattle.table.specs.Rotation.{rotation};
-ghost use Rattle.tracing.specs.Walk.{walk, corners};
+ghost use Rattle.tracing.specs.Walk.{walk};
 ghost use Rattle.tracing_walks.specs.laws.Stands.{Stands};
-ghost use Rattle.tracing_walks.specs.laws.Marks.{mark};
 ghost use Rattle.weave.specs.Letters.{alternates};
 ghost use Rattle.weave_plain.specs.laws.Hands.{hands_with, hands_among};
 
-use table::layout::{DARTS, UNTURNED};
-use tracing_walks::step::{corner, step};
+use table::layout::UNTURNED;
+use tracing_walks::step::step;
 use weave_letters::letter::edge_word;
 
 // Is there an edge of positive turns, and is there one of negative turns.
@@ -38,16 +36,6 @@ fn with_edge(h: Hands, w: u16) -> Hands
     h
 }
 
-// Are these not both hands.
-pub fn turn_the_same_way(h: Hands) -> bool
-    ensures { result ≡ not (h.positive && h.negative) }
-{
-    if h.positive {
-        return !h.negative;
-    }
-    true
-}
-
 // The hands along the walk from step s.
 fn hands_along(t: &[u16], s: u16) -> Hands
     requires { Stands t.now s }
@@ -68,32 +56,14 @@ fn hands_along(t: &[u16], s: u16) -> Hands
     }
 }
 
-// The same of the ribbon from step s, and its corners are marked.
-pub fn mark_hands(t: &[u16], met: &mut [u8; DARTS], s: u16) -> Hands
-    requires { Stands t.now s × (length met.old ≡ darts) }
-    ensures { (result ≡ hands_among t.now (walk (rotation t.now) s)) × (met.new ≡ mark met.old (corners (rotation t.now) s)) }
-{
-    let mut here = s;
-    let mut seen = Hands {
-        positive: false,
-        negative: false,
-    };
-    loop {
-        let c = corner(t, here);
-        met[c] = 1;
-        let w = edge_word(t, here);
-        seen = with_edge(seen, w);
-        here = step(t, here);
-        if here == s {
-            return seen;
-        }
-    }
-}
-
 // Does the ribbon through step s alternate.
 pub fn is_alternating(t: &[u16], s: u16) -> bool
     requires { Stands t.now s }
     ensures { result ≡ alternates t.now s }
 {
-    turn_the_same_way(hands_along(t, s))
+    let seen = hands_along(t, s);
+    if seen.positive {
+        return !seen.negative;
+    }
+    true
 }

@@ -1,7 +1,5 @@
 // Which ribbons alternate, and whether the weave is plain.
 #![tactic(auto)]
-
 pub mod call;
 pub mod hands;
-pub mod one_hand;
 pub mod plain;

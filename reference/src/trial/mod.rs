@@ -7,4 +7,3 @@ pub mod k4;
 pub mod random;
 pub mod solids;
 pub mod tables;
-pub mod weaves;

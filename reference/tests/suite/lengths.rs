@@ -1,6 +1,6 @@
 //! Lengths in the table (document 02, request g): which edits write one, and what they leave alone. The check's two
 //! rules stand in `good`, the refusals in `refusals` and `forecasts`, the records in `job`, cut lengths and tallies
-//! in `ribbons`, `not_plain` and `reader`.
+//! in `ribbons` and `reader`.
 
 use crate::*;
 use reference::check::is_good;

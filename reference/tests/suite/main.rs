@@ -7,7 +7,6 @@ mod good;
 mod job;
 mod k4;
 mod lengths;
-mod not_plain;
 mod prices;
 mod reader;
 mod refusals;

@@ -7,7 +7,6 @@ use reference::price::{price_sheet, rows, Row};
 use reference::table::{length, live_edges, turns};
 use reference::trial::random::Random;
 use reference::trial::tables::random_table;
-use reference::trial::weaves::plain_weave;
 
 /// The sheet with room to spare: the sum, the four numbers of each ribbon, and that nothing past them is written.
 fn sheet(table: &[u16], p: u16, m: u16) -> (u64, Vec<[u32; 4]>) {
@@ -108,10 +107,10 @@ fn isolated_vertices_have_no_row() {
     assert_eq!(sheet(&beside, 10, 20), (40, vec![[420, 1, 15_580, 20]; 2]));
 }
 
-/// Loops 0 and 1 of one turn at vertex 0 and edge 2 of turns 2 to vertex 1; around vertex 0 stand 0, 3, 1, 4, 2. From
+/// Loops 0 and 1 of one turn at vertex 0 and edge 2 of turns -2 to vertex 1; around vertex 0 stand 0, 3, 1, 4, 2. From
 /// (0,0) the type is 1 and dart 3 is before 1; from (3,1) it is 0 and dart 0 comes after 2. The corners 0 and 1 are met, 2
 /// is not: from (2,0) come (0,1), (4,0), (5,0). O's: (0,0) has one, (3,1) none; (2,0) one, (0,1) none, (4,0) and (5,0) one
-/// each, OU. So O and U alternate on both.
+/// each, UO.
 #[test]
 fn two_ribbons_in_listing_order() {
     let table = made(&[
@@ -119,7 +118,7 @@ fn two_ribbons_in_listing_order() {
         add(1),
         insert_long(0, around(0), around(0), 1, 5_000),
         insert_long(1, 0, 1, 1, 11_000),
-        insert_long(2, 2, around(1), 2, 20_000),
+        insert_long(2, 2, around(1), -2, 20_000),
     ]);
     let starts: Vec<(u16, u8)> = ribbons(&table).iter().map(|steps| (steps[0].dart, steps[0].t)).collect();
     assert_eq!(starts, [(0, 0), (2, 0)]);
@@ -164,7 +163,7 @@ fn flat_loop_without_length() -> Vec<u16> {
     table
 }
 
-/// What holds of the sheet of every plain weave: a row's length is its ribbon's cut length; the last metre is used in part, and what is unused
+/// What holds of every sheet: a row's length is its ribbon's cut length; the last metre is used in part, and what is unused
 /// makes the length whole; the price is one of two numbers, and neither is more; "the sum is exactly that of the prices
 /// shown"; all lengths together are twice the edges', 8 for each crossing and a lap for each ribbon.
 #[test]
@@ -172,8 +171,7 @@ fn sheets_of_random_tables() {
     let mut random = Random::new(0x9_71ce);
     let mut seen = 0;
     for _ in 0..120 {
-        let drawn = random_table(&mut random);
-        let table = plain_weave(&mut random, &drawn);
+        let table = random_table(&mut random);
         let (p, m) = (random.pick(&[0, 1, 180, 65_535]), random.pick(&[0, 1, 300, 65_535]));
         let (sum, sheet) = sheet(&table, p, m);
         assert_eq!(sheet, rows(&table, p, m).iter().map(|row| row.words()).collect::<Vec<_>>());

@@ -1,14 +1,14 @@
 //! The walk reader and the tally.
 
 use crate::*;
-use reference::length::{cut_length, ribbon_length};
+use reference::length::cut_length;
 use reference::reader::{read_step, Read, Reader, Tally};
 use reference::refusal::Refusal;
 use reference::table::live_darts;
 use reference::trace::{step, walk_from, Step};
 use reference::trial::random::Random;
 use reference::trial::tables::random_table;
-use reference::weave::{count, letters_along, plain, Letter};
+use reference::weave::{count, letters_along, Letter};
 
 /// A loop of turns 3: one walk, (0,0) with OUO and (0,1) with UOU. Over an edge of length l the first step brings the
 /// tally l+16, the second l+8 and the lap of 320.
@@ -163,12 +163,10 @@ fn a_step_declines_as_the_making_would() {
     assert_eq!(tally, Tally { steps: u32::MAX, overs: 0, unders: 0, length: 7 });
 }
 
-/// Over one walk the tally is the walk's steps, letters and length, in any weave: no step looks whether the weave is plain.
-/// Where it is, that length is the cut length.
+/// Over one walk the tally is the walk's steps, letters and cut length.
 #[test]
 fn a_tally_over_one_walk() {
     let mut random = Random::new(0x7a11);
-    let (mut plain_weaves, mut mixed) = (0, 0);
     for _ in 0..40 {
         let table = random_table(&mut random);
         for start in live_darts(&table).take(2) {
@@ -184,12 +182,7 @@ fn a_tally_over_one_walk() {
                 (tally.steps as usize, tally.overs, tally.unders),
                 (walk.len(), count(&letters, Letter::O), count(&letters, Letter::U))
             );
-            assert_eq!(tally.length, ribbon_length(&table, &walk));
-            let is_plain = plain(&table).unwrap();
-            let cut = if is_plain { Ok(tally.length) } else { Err(Refusal::NotPlain) };
-            assert_eq!(cut_length(&table, start, 1), cut);
-            *(if is_plain { &mut plain_weaves } else { &mut mixed }) += 1;
+            assert_eq!(Ok(tally.length), cut_length(&table, start, 1));
         }
     }
-    assert!(plain_weaves > 10 && mixed > 10, "{plain_weaves} of plain weaves, {mixed} of mixed ones");
 }

@@ -29,7 +29,7 @@ fn accepts(change: Edit) {
 fn the_numbers_are_the_documents() {
     let of_01 = [Torn, NoSuchName, Taken, Absent, Joined, Overturned, ShortSlice, ManyTurns, Far, BadMark, CutRecord];
     assert_eq!(of_01.map(Refusal::number), [1, 2, 3, 4, 5, 6, 7, 8, 9, 10, 11]);
-    assert_eq!([StaleForecast.number(), ManyEdges.number(), NotPlain.number()], [12, 13, 14]);
+    assert_eq!([StaleForecast.number(), ManyEdges.number()], [12, 13]);
 }
 
 #[test]

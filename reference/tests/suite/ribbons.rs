@@ -1,14 +1,13 @@
 //! One ribbon: its letters, its cut length, its float path.
 
 use crate::*;
-use reference::length::{cut_length, ribbon_length};
+use reference::length::cut_length;
 use reference::path::float_path;
 use reference::refusal::Refusal;
 use reference::table::*;
 use reference::trace::{corner_met, other_sense, step, walk_from, Step};
 use reference::trial::random::Random;
 use reference::trial::tables::{random_table, with_lengths};
-use reference::trial::weaves::plain_weave;
 use reference::weave::{alternate, count, crossings, ribbon_alternates, ribbon_letters, Letter::*};
 
 #[test]
@@ -78,22 +77,16 @@ fn eight_for_each_letter_o() {
     }
 }
 
-/// Two loops with the darts 0, 3, 1, 2 around their vertex, of odd turns. From (1,0) the type is 1 and dart 2 is before 0;
-/// from (2,1) it is 0 again, and dart 1 comes next after 3. From (0,1) likewise (2,0) and back.
-/// O's of 99 and 3 turns: (1,0) 50 of 99, (2,1) UOU one; (0,1) 49 of 99, (2,0) OUO two. Of -3: OUO and UOU, so the ribbons
-/// do not alternate, and have a length that is not cut.
+/// Two loops with the darts 0, 3, 1, 2 around their vertex, of 99 and -3 turns. From (1,0) the type is 1 and dart 2 is
+/// before 0; from (2,1) it is 0 again, and dart 1 comes next after 3. From (0,1) likewise (2,0) and back.
+/// O's: (1,0) 50 of 99, (2,1) OUO two; (0,1) 49 of 99, (2,0) UOU one.
 #[test]
 fn each_side_has_its_own_overs() {
-    let loops = |k| made(&[add(0), insert_long(0, around(0), around(0), 99, 1_000), insert_long(1, 0, 1, k, 70)]);
-    let table = loops(3);
+    let table = made(&[add(0), insert_long(0, around(0), around(0), 99, 1_000), insert_long(1, 0, 1, -3, 70)]);
     assert_eq!(walk_from(&table, step(1, 0)), [step(1, 0), step(2, 1)]);
     assert_eq!(walk_from(&table, step(0, 1)), [step(0, 1), step(2, 0)]);
-    assert_eq!(cut_length(&table, 1, 0), Ok(1_000 + 70 + 8 * 51 + 320));
-    assert_eq!(cut_length(&table, 0, 1), Ok(1_000 + 70 + 8 * 51 + 320));
-    let mixed = loops(-3);
-    assert_eq!(ribbon_length(&mixed, &[step(1, 0), step(2, 1)]), 1_000 + 70 + 8 * 52 + 320);
-    assert_eq!(ribbon_length(&mixed, &[step(0, 1), step(2, 0)]), 1_000 + 70 + 8 * 50 + 320);
-    assert_eq!(cut_length(&mixed, 1, 0), Err(Refusal::NotPlain));
+    assert_eq!(cut_length(&table, 1, 0), Ok(1_000 + 70 + 8 * 52 + 320));
+    assert_eq!(cut_length(&table, 0, 1), Ok(1_000 + 70 + 8 * 50 + 320));
 }
 
 /// "An isolated vertex still yields no ribbon": no step names its empty walk, and the ribbons beside it stay.
@@ -114,8 +107,7 @@ fn every_step_names_the_same_cut_length() {
     let mut random = Random::new(0xc07);
     let mut named = 0;
     for _ in 0..30 {
-        let drawn = random_table(&mut random);
-        let table = plain_weave(&mut random, &drawn);
+        let table = random_table(&mut random);
         for ribbon in ribbons(&table).iter().filter(|ribbon| ribbon.len() < 300).take(8) {
             let mut names: Vec<Step> = ribbon.clone();
             names.extend(ribbon.iter().map(|&s| other_sense(&table, s)));

@@ -6,7 +6,6 @@ use reference::table::WORDS;
 use reference::trial::damage::damage;
 use reference::trial::random::Random;
 use reference::trial::tables::{random_table, Mesh};
-use reference::trial::weaves::{mixed_weave, plain_weave};
 
 /// A random table of this round: every fifth is damaged, and every fiftieth is cut short.
 pub fn whole_or_damaged(random: &mut Random, round: usize) -> Vec<u16> {
@@ -18,22 +17,6 @@ pub fn whole_or_damaged(random: &mut Random, round: usize) -> Vec<u16> {
         table.truncate(random.below(WORDS));
     }
     table
-}
-
-/// A random table whose weave is plain, often with both hands.
-pub fn plain_table(random: &mut Random) -> Vec<u16> {
-    let table = random_table(random);
-    plain_weave(random, &table)
-}
-
-/// A random table whose weave one edge alone makes mixed.
-pub fn mixed_table(random: &mut Random) -> Vec<u16> {
-    loop {
-        let table = random_table(random);
-        if let Some(mixed) = mixed_weave(random, &table) {
-            return mixed;
-        }
-    }
 }
 
 /// A step's dart and type: mostly in range, at times anything.
@@ -53,21 +36,6 @@ pub fn strip(turns: i32) -> Vec<u16> {
 pub fn crossed_loops(first: i32, second: i32) -> Vec<u16> {
     let edges = vec![(0, first, PLAIN_LENGTH), (1, second, PLAIN_LENGTH)];
     Mesh { rotations: vec![(0, vec![0, 3, 1, 2])], edges }.written()
-}
-
-/// Chains of two edges of odd turns, each chain given by its edges with their turns: a and b, at three vertices of its own, the first chain at
-/// 0, 1 and 2. Each has one ribbon: (2a, 0), (2b, 1), (2b+1, 0), (2a+1, 1).
-pub fn chains(edges: &[[(u16, i32); 2]]) -> Vec<u16> {
-    let around = |(at, &[(a, _), (b, _)]): (usize, &[(u16, i32); 2])| {
-        let v = 3 * at as u16;
-        [(v, vec![2 * a]), (v + 1, vec![2 * a + 1, 2 * b]), (v + 2, vec![2 * b + 1])]
-    };
-    let edges_of = |chain: &[(u16, i32); 2]| chain.map(|(e, turns)| (e, turns, PLAIN_LENGTH));
-    Mesh {
-        rotations: edges.iter().enumerate().flat_map(around).collect(),
-        edges: edges.iter().flat_map(edges_of).collect(),
-    }
-    .written()
 }
 
 /// Loops beside each other, their darts around the vertex being 0, 1, 2 and so on. With odd turns the type is 1 after (0, 0), and dart 0 is

@@ -9,7 +9,6 @@ use reference::check::check;
 use reference::counts::counts;
 use reference::edit::Edit;
 use reference::faces::Faces;
-use reference::length::cut_length;
 use reference::listing::words;
 use reference::price::price_sheet;
 use reference::table::*;
@@ -20,26 +19,7 @@ use reference::weave::plain;
 const GUARD: u16 = 0xa5c3;
 const LIES: [Lie; 2] = [Lie::Loops, Lie::Anywhere];
 
-/// The cut lengths by the first dart and the last, and the price sheet.
-fn compare_lengths(table: &[u16]) {
-    for dart in first_and_last(live_darts(table)) {
-        let length = cut_length(table, dart, 0).map(|length| length as usize);
-        assert_eq!(planner::cut_length(table, dart, 0), as_number(length));
-    }
-    let (mut sheet, mut expected) = (vec![u32::MAX; 8_192], vec![u32::MAX; 8_192]);
-    let sum = price_sheet(table, 180, 300, &mut expected);
-    assert_eq!(planner::price_sheet(table, (180, 300), &mut sheet), as_number(sum.map(|sum| sum as usize)));
-    assert_eq!(sheet, expected);
-}
-
-/// The same walks with all edges of one hand, a plain weave: only such a one has cut lengths and rows.
-fn of_one_hand(table: &[u16]) -> Vec<u16> {
-    let mut other = table.to_vec();
-    live_edges(table).for_each(|e| set_turns(&mut other, e, turns(table, e).abs()));
-    other
-}
-
-/// Check, listing, counts, parts, whether the weave is plain, cut lengths and the price sheet, of a good table.
+/// Check, listing, counts, parts, whether the weave is plain, and the price sheet, of a good table.
 fn compare(table: &[u16]) {
     assert_eq!(check(table), Ok(()));
     assert_eq!(planner::check(table), 0);
@@ -48,8 +28,10 @@ fn compare(table: &[u16]) {
     assert_eq!(planner::listing(table, &mut out), as_number(Ok(listing.len())));
     assert_eq!(out.split_last(), Some((&GUARD, &listing[..])));
     assert_eq!(planner::plain(table), as_number(plain(table).map(usize::from)));
-    compare_lengths(table);
-    compare_lengths(&of_one_hand(table));
+    let (mut sheet, mut expected) = (vec![u32::MAX; 8_192], vec![u32::MAX; 8_192]);
+    let sum = price_sheet(table, 180, 300, &mut expected);
+    assert_eq!(planner::price_sheet(table, (180, 300), &mut sheet), as_number(sum.map(|sum| sum as usize)));
+    assert_eq!(sheet, expected);
     let counts = counts(table).unwrap();
     for (call, expected) in
         [(planner::counts as fn(&[u16], &mut [i32]) -> i64, as_counts(&counts)), (planner::parts, as_parts(&counts))]

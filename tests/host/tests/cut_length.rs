@@ -1,11 +1,10 @@
 //! planner_cut_length: the reference's answers on whole, damaged and short tables, over the lengths that the table
 //! itself has; sums by hand of edges, O's and lap; every step that names a ribbon, in both senses; each edge's length
-//! and no other's. Which weaves it declines is tried in not_plain.rs.
+//! and no other's.
 
 use host::guarded::Guarded;
 use host::planner;
-use host::ribbons::length_by_reader;
-use host::tables::{any_step, crossed_loops, loops_in_a_row, plain_table, strip, whole_or_damaged};
+use host::tables::{any_step, crossed_loops, loops_in_a_row, strip, whole_or_damaged};
 use reference::edit::Edit;
 use reference::faces::{Faces, VERTEX_CORNER};
 use reference::length::cut_length;
@@ -14,7 +13,6 @@ use reference::trace::{other_sense, walk_from, Step};
 use reference::trial::random::Random;
 use reference::trial::solids::{cube, solid};
 use reference::trial::tables::{random_mesh, random_table, with_lengths};
-use reference::trial::weaves::plain_weave;
 use std::collections::{BTreeMap, BTreeSet};
 
 const GUARD: u16 = 0xa5c3;
@@ -80,29 +78,18 @@ fn letters_by_hand() {
             assert_eq!(compare(&table, dart, kind), 1_000 + 8 * overs + 320, "{turns} turns");
         }
     }
-    // One side of each of two loops of odd turns. (1, 0) and (2, 1): of 99 turns 50 O's, of 3 UOU. (0, 1) and (2, 0): 49, and OUO.
-    let table = with_1000_and_70(&crossed_loops(99, 3));
-    assert_eq!(compare(&table, 1, 0), 1_070 + 8 * (50 + 1) + 320);
-    assert_eq!(compare(&table, 0, 1), 1_070 + 8 * (49 + 2) + 320);
-    // The other hand: 49 and OUO, 50 and UOU.
-    let table = with_1000_and_70(&crossed_loops(-99, -3));
-    assert_eq!(compare(&table, 1, 0), 1_070 + 8 * (49 + 2) + 320);
-    assert_eq!(compare(&table, 0, 1), 1_070 + 8 * (50 + 1) + 320);
-    // One turn each: O and U, so one.
+    // One side of each of two loops of odd turns. (1, 0) and (2, 1): of 99 turns 50 O's, of -3 OUO. (0, 1) and (2, 0): 49, and UOU.
+    let table = with_1000_and_70(&crossed_loops(99, -3));
+    assert_eq!(compare(&table, 1, 0), 1_070 + 8 * (50 + 2) + 320);
+    assert_eq!(compare(&table, 0, 1), 1_070 + 8 * (49 + 1) + 320);
+    // The other hands: 49 and UOU, 50 and OUO.
+    let table = with_1000_and_70(&crossed_loops(-99, 3));
+    assert_eq!(compare(&table, 1, 0), 1_070 + 8 * (49 + 1) + 320);
+    assert_eq!(compare(&table, 0, 1), 1_070 + 8 * (50 + 2) + 320);
+    // One turn each, of either hand: O and U, so one; then O and O; then none.
     assert_eq!(compare(&with_1000_and_70(&crossed_loops(1, 1)), 1, 0), 1_070 + 8 + 320);
-}
-
-/// Both hands on one ribbon: the weave is not plain, and the reader alone tells a length. Of 99 and -3 turns: 50 O's and OUO, 49 and UOU; of -99 and
-/// 3: 49 and UOU, 50 and OUO; of 1 and -1: O and O, U and U.
-#[test]
-fn letters_of_a_mixed_weave_by_hand() {
-    for (turns, [first, second]) in [((99, -3), [52, 50]), ((-99, 3), [50, 52]), ((1, -1), [2, 0])] {
-        let table = with_1000_and_70(&crossed_loops(turns.0, turns.1));
-        for (step, overs) in [((1, 0), first), ((2, 1), first), ((0, 1), second), ((2, 0), second)] {
-            assert_eq!(compare(&table, step.0, step.1), -14, "{turns:?} turns");
-            assert_eq!(length_by_reader(&table, step), 1_070 + 8 * overs + 320, "{turns:?} turns");
-        }
-    }
+    assert_eq!(compare(&with_1000_and_70(&crossed_loops(1, -1)), 1, 0), 1_070 + 16 + 320);
+    assert_eq!(compare(&with_1000_and_70(&crossed_loops(1, -1)), 0, 1), 1_070 + 320);
 }
 
 /// 1,024 flat loops in a row, each of another length. The odd dart of each has a walk of its own, which tells that
@@ -125,7 +112,7 @@ fn one_length_at_a_time() {
     let mut random = Random::new(0x0e1);
     let (mut on_it, mut off_it) = (0, 0);
     for _ in 0..40 {
-        let table = plain_table(&mut random);
+        let table = random_table(&mut random);
         let edges: Vec<u16> = live_edges(&table).collect();
         if edges.is_empty() {
             continue;
@@ -156,14 +143,13 @@ fn the_largest_cut_length() {
     }
 }
 
-/// Long sums on random tables: their ribbons have other numbers of letters on each edge.
+/// Long sums on random tables: their ribbons have other letters on each edge.
 #[test]
 fn long_sums() {
     let mut random = Random::new(0x1a26e);
     let mut most = 0;
     for _ in 0..60 {
-        let drawn = random_mesh(&mut random, 2, EDGES).written();
-        let table = plain_weave(&mut random, &drawn);
+        let table = random_mesh(&mut random, 2, EDGES).written();
         most = most.max(compare(&all_of(&table, 65_535), 0, 0));
     }
     assert!(most > 1_000 * 65_535, "{most}");
@@ -183,7 +169,7 @@ fn every_step_of_both_senses() {
     let mut letters = vec![0; DARTS * 99];
     let mut seen: BTreeMap<&str, usize> = BTreeMap::new();
     for _ in 0..40 {
-        let table = plain_table(&mut random);
+        let table = random_table(&mut random);
         let mut all = 0;
         for ribbon in ribbons(&table) {
             let mirrored = ribbon.iter().map(|&s| other_sense(&table, s));
@@ -197,9 +183,9 @@ fn every_step_of_both_senses() {
             all += expected - 320;
 
             let hands: Vec<i32> = ribbon.iter().map(|s| turns(&table, s.edge())).collect();
+            let both_hands = hands.iter().any(|&k| k > 0) && hands.iter().any(|&k| k < 0);
             for (what, is_so) in [
-                ("of one hand", hands.iter().any(|&k| k > 0)),
-                ("of the other", hands.iter().any(|&k| k < 0)),
+                ("of both hands", both_hands),
                 ("with many turns", hands.iter().any(|&k| k.abs() > 3)),
                 ("without a letter", hands.iter().all(|&k| k == 0)),
                 ("of one step", ribbon.len() == 1),
@@ -211,7 +197,7 @@ fn every_step_of_both_senses() {
         let sides = |e: u16| 2 * i64::from(length(&table, e)) + 8 * i64::from(turns(&table, e).abs());
         assert_eq!(all, live_edges(&table).map(sides).sum::<i64>());
     }
-    assert!(seen.len() == 6 && seen.values().all(|&times| times > 10), "{seen:?}");
+    assert!(seen.len() == 5 && seen.values().all(|&times| times > 10), "{seen:?}");
 }
 
 /// The walk of an isolated vertex has no step, so nothing names it, and it has no cut length; the ribbons beside it keep theirs.
@@ -220,7 +206,7 @@ fn an_isolated_vertex_yields_no_ribbon() {
     let mut random = Random::new(0x150_1a7e);
     let mut alone = 0;
     for _ in 0..60 {
-        let mut table = plain_table(&mut random);
+        let mut table = random_table(&mut random);
         let cuts = |table: &[u16]| -> Vec<i64> {
             let answer = |ribbon: &Vec<Step>| compare(table, ribbon[0].dart, u16::from(ribbon[0].t));
             ribbons(table).iter().map(answer).collect()
@@ -253,7 +239,7 @@ fn random_tables_whole_and_damaged() {
             *seen.entry(compare(&table, dart, kind).min(0)).or_insert(0) += 1;
         }
     }
-    assert!(seen.keys().eq(&[-14, -4, -2, -1, 0]) && seen.values().all(|&times| times > 200), "{seen:?}");
+    assert!(seen.keys().eq(&[-4, -2, -1, 0]) && seen.values().all(|&times| times > 200), "{seen:?}");
 }
 
 /// A length of a live edge that is 0, or one of another edge that is not, on the ribbon or off it.

@@ -1,13 +1,11 @@
 //! planner_price_sheet: the reference's rows and sum on whole and damaged tables at prices of every size; outputs of the
 //! exact size, longer and shorter; by hand every whole number of metres that loops can have, and a sixteenth more and less, the
-//! longest ribbon and the most ribbons; and what the sheet has in common with the listing, the counts and the cut lengths. Which
-//! weaves it declines is tried in not_plain.rs.
+//! longest ribbon and the most ribbons; and what the sheet has in common with the listing, the counts and the cut lengths.
 
 use host::compare::Twins;
 use host::guarded::Guarded;
 use host::planner::{self, as_number};
-use host::ribbons::ribbons;
-use host::tables::{loops_in_a_row, plain_table, strip, whole_or_damaged};
+use host::tables::{loops_in_a_row, strip, whole_or_damaged};
 use reference::check::is_good;
 use reference::edit::Edit;
 use reference::price::{price_sheet, rows};
@@ -17,8 +15,6 @@ use reference::trial::edits::{random_edit, WINDOWS};
 use reference::trial::random::Random;
 use reference::trial::solids::{cube, solid};
 use reference::trial::tables::{random_mesh, random_table, with_lengths, Mesh};
-use reference::trial::weaves::plain_weave;
-use reference::weave::plain;
 use std::collections::BTreeMap;
 
 const GUARD: u16 = 0xa5c3;
@@ -43,28 +39,42 @@ fn written(table: &[u16], prices: Prices, out_words: usize) -> (i64, Vec<u32>) {
     (answer, out.slice().to_vec())
 }
 
-/// The sum and the rows of a plain weave, in an output of their exact size, which the reference knows.
+/// The sum and the rows of a good table, in an output of their exact size, which the reference knows.
 fn sheet(table: &[u16], prices: Prices) -> (i64, Vec<[u32; 4]>) {
     let exact = expected(table, prices).1.len();
     let (sum, words) = written(table, prices, exact);
     (sum, words.chunks(4).map(|row| [row[0], row[1], row[2], row[3]]).collect())
 }
 
-/// The reference's answer, and what an output of the exact size then holds.
+/// The reference's answer, and what it writes into an output of the exact size.
 fn expected(table: &[u16], (p, m): Prices) -> (i64, Vec<u32>) {
     let mut out = vec![OUT_GUARD; 4 * rows(table, p, m).len()];
     let answer = as_number(price_sheet(table, p, m, &mut out).map(|sum| sum as usize));
     (answer, out)
 }
 
+/// The steps of each ribbon, dart and type, as the library lists them.
+fn ribbons(table: &[u16]) -> Vec<Vec<(u16, u16)>> {
+    let mut out = vec![0; 5_000];
+    let words = usize::try_from(planner::listing(table, &mut out)).expect("a good table");
+    let (mut ribbons, mut at) = (Vec::new(), 0);
+    while at < words {
+        let steps = usize::from(out[at]);
+        if steps == 0 {
+            at += 2;
+        } else {
+            ribbons.push(out[at + 1..=at + steps].iter().map(|word| (word / 2, word % 2)).collect());
+            at += 1 + steps;
+        }
+    }
+    ribbons
+}
+
 /// The reference's sheet in an output of the exact size and in longer ones, which keep their rest; 7 for shorter ones, which
-/// keep all. In a weave that is not plain, 14 for outputs of every size.
+/// keep all.
 fn compare(random: &mut Random, table: &[u16], prices: Prices) {
     let (sum, rows) = expected(table, prices);
     let exact = rows.len();
-    if plain(table) == Ok(false) {
-        return declines(random, table, -14, exact);
-    }
     for more in [0, 1, 3, 100, random.below(40)] {
         let filled = [&rows[..], &vec![OUT_GUARD; more]].concat();
         assert_eq!(written(table, prices, exact + more), (sum, filled), "{more} words more");
@@ -231,7 +241,7 @@ fn isolated_vertices_have_no_row() {
     let mut random = Random::new(0x150);
     let mut came = 0;
     for _ in 0..60 {
-        let mut table = plain_table(&mut random);
+        let mut table = random_table(&mut random);
         let prices = (price(&mut random), 1 + random.below(65_535) as u16);
         let before = sheet(&table, prices);
         let more = random.below(40);
@@ -251,8 +261,7 @@ fn outputs_of_every_size() {
     let mut refused = 0;
     for _ in 0..40 {
         let edges = 1 + random.below(6);
-        let drawn = random_mesh(&mut random, 4, edges).written();
-        let table = plain_weave(&mut random, &drawn);
+        let table = random_mesh(&mut random, 4, edges).written();
         let (sum, rows) = expected(&table, (3, 4));
         for size in 0..=rows.len() + 8 {
             let (answer, out) = written(&table, (3, 4), size);
@@ -272,8 +281,8 @@ fn outputs_of_every_size() {
 fn random_tables_at_random_prices() {
     let mut random = Random::new(0x5e11);
     let mut seen: BTreeMap<&str, usize> = BTreeMap::new();
-    for _ in 0..700 {
-        let table = plain_table(&mut random);
+    for _ in 0..500 {
+        let table = random_table(&mut random);
         let prices = prices(&mut random);
         compare(&mut random, &table, prices);
         let rows = sheet(&table, prices).1;
@@ -298,7 +307,7 @@ fn tables_at_all_ends_of_prices() {
     let mut random = Random::new(0x5e12);
     const ENDS: [u16; 8] = [0, 1, 2, 255, 256, 32_768, 65_534, 65_535];
     for _ in 0..12 {
-        let table = plain_table(&mut random);
+        let table = random_table(&mut random);
         for p in ENDS {
             for m in ENDS {
                 assert_eq!(written(&table, (p, m), ENOUGH).0, expected(&table, (p, m)).0, "p {p}, m {m}");
@@ -316,8 +325,7 @@ fn full_tables() {
     let mut most = 0;
     for round in 0..120 {
         let vertices = [1, 2, 40, VERTICES][round % 4];
-        let drawn = random_mesh(&mut random, vertices, EDGES).written();
-        let table = plain_weave(&mut random, &drawn);
+        let table = random_mesh(&mut random, vertices, EDGES).written();
         let prices = prices(&mut random);
         compare(&mut random, &table, prices);
         most = most.max(expected(&table, prices).1.len() / 4);
@@ -333,7 +341,7 @@ fn rows_of_the_listed_ribbons() {
     let mut random = Random::new(0x5e14);
     let (mut steps, mut differing) = (0, 0);
     for _ in 0..60 {
-        let table = plain_table(&mut random);
+        let table = random_table(&mut random);
         let mut out = vec![OUT_GUARD; ENOUGH];
         let prices = prices(&mut random);
         let sum = planner::price_sheet(&table, prices, &mut out);
@@ -362,24 +370,19 @@ fn rows_of_the_listed_ribbons() {
     assert!(steps > 10_000 && differing > 1_000, "{steps} steps, {differing} neighbours of different lengths");
 }
 
-/// Declined with this number whatever the output is, none of whose words changes; so many words are the exact size.
-fn declines(random: &mut Random, table: &[u16], refusal: i64, exact: usize) {
-    for words in [0, 1, 4, exact.saturating_sub(1), exact, exact + 1, random.below(3_000), ENOUGH] {
-        assert_eq!(written(table, prices(random), words), (refusal, vec![OUT_GUARD; words]), "{words} words");
-    }
-    assert_eq!(planner::price_sheet_to_null(table, prices(random)), refusal);
-}
-
-/// A table that is not good has no rows, and so no exact size.
+/// A table that is not good is declined with 1 whatever the output is, none of whose words changes.
 fn declines_as_torn(random: &mut Random, table: &[u16]) {
-    declines(random, table, -1, 0);
+    for words in [0, 1, 4, random.below(3_000), ENOUGH] {
+        assert_eq!(written(table, prices(random), words), (-1, vec![OUT_GUARD; words]));
+    }
+    assert_eq!(planner::price_sheet_to_null(table, prices(random)), -1);
 }
 
 /// One word or a few of them, moved, exchanged or overwritten; or cut short.
 #[test]
 fn random_tables_whole_and_damaged() {
     let mut random = Random::new(0x5e15);
-    let (mut torn, mut mixed, mut plain_weaves) = (0, 0, 0);
+    let (mut torn, mut good) = (0, 0);
     for round in 0..1_500 {
         let mut table = whole_or_damaged(&mut random, round);
         if round % 3 == 0 && table.len() == WORDS {
@@ -388,13 +391,13 @@ fn random_tables_whole_and_damaged() {
         if is_good(&table) {
             let prices = prices(&mut random);
             compare(&mut random, &table, prices);
-            *(if plain(&table) == Ok(true) { &mut plain_weaves } else { &mut mixed }) += 1;
+            good += 1;
         } else {
             declines_as_torn(&mut random, &table);
             torn += 1;
         }
     }
-    assert!(torn > 300 && mixed > 200 && plain_weaves > 400, "{torn} torn, {mixed} mixed, {plain_weaves} plain");
+    assert!(torn > 300 && good > 700, "{torn} torn, {good} good");
 }
 
 /// Many words at once, and slices that were never a table. Lengths of a full table may be any but 0.
@@ -430,27 +433,18 @@ fn other_sizes_of_a_table() {
     }
 }
 
-/// The edit with turns of one hand alone: runs of such edits seldom mix a weave.
-fn of_one_hand(change: Edit) -> Edit {
-    match change {
-        Edit::InsertEdge { e, c1, c2, k, length } => Edit::InsertEdge { e, c1, c2, k: k.saturating_abs(), length },
-        Edit::TurnEdge { e, amount } => Edit::TurnEdge { e, amount: amount.saturating_abs() },
-        other => other,
-    }
-}
-
 /// After each edit of a run, declined ones too, the sheet is that of the table as it now is.
 #[test]
 fn the_sheet_after_each_edit() {
     let mut random = Random::new(0x5e18);
     let (mut kept, mut changed) = (0, 0);
     for round in 0..40 {
-        let table = if round % 4 == 0 { plain_table(&mut random) } else { empty_mesh() };
+        let table = if round % 4 == 0 { random_table(&mut random) } else { empty_mesh() };
         let mut twins = Twins::new(&table);
         let prices = (1 + random.below(500) as u16, price(&mut random));
         let mut before = sheet(twins.words(), prices);
         for _ in 0..120 {
-            let change = of_one_hand(random_edit(&mut random, twins.words(), WINDOWS[round % WINDOWS.len()], 8));
+            let change = random_edit(&mut random, twins.words(), WINDOWS[round % WINDOWS.len()], 8);
             let answer = twins.edit(change);
             let (sum, rows) = expected(twins.words(), prices);
             let now = sheet(twins.words(), prices);

@@ -5,7 +5,6 @@
 use host::compare::Twins;
 use host::guarded::Guarded;
 use host::planner::{self, Reader, Tally, B1, B2, BEFORE};
-use host::tables::crossed_loops;
 use reference::edit::Edit;
 use reference::table::{LENGTH, WORDS};
 use reference::trial::random::Random;
@@ -173,10 +172,9 @@ fn tables_of_the_old_size() {
     }
 }
 
-/// The crossed loops of both hands are a weave that is not plain, which is not looked at before the size.
 #[test]
 fn a_word_short_and_a_word_too_many() {
-    for table in [accepted(), crossed_loops(1, -1), random_table(&mut Random::new(0x52))] {
+    for table in [accepted(), random_table(&mut Random::new(0x52))] {
         all_decline(&table[..WORDS - 1]);
         all_decline(&table[1..]);
         for word in [0, 1, 16, 65_534, 65_535] {

@@ -1,18 +1,17 @@
 //! planner_walk_step: the reference's steps, ends and tallies over whole walks and twice round, each edge's length
-//! from the table, the lap with the last step alone, every refusal, and nothing changed by a declined step. No step looks whether
-//! the weave is plain.
+//! from the table, the lap with the last step alone, every refusal, and nothing changed by a declined step.
 
 use host::guarded::Guarded;
 use host::planner::{self, Reader, Tally};
 use host::tables::{any_step, crossed_loops, loops_in_a_row, whole_or_damaged};
-use reference::length::ribbon_length;
+use reference::length::cut_length;
 use reference::reader::{read_step, Tally as Expected};
 use reference::table::{length, live_darts, DARTS, EDGES, LENGTH, WORDS};
 use reference::trace::{other_sense, step, step_after, walk_from, Step};
 use reference::trial::random::Random;
 use reference::trial::solids::{cube, solid};
 use reference::trial::tables::{random_table, with_lengths};
-use reference::weave::{count, plain, ribbon_letters, step_letters, Letter};
+use reference::weave::{count, ribbon_letters, step_letters, Letter};
 use std::collections::BTreeMap;
 
 const WORD_GUARD: u16 = 0xa5c3;
@@ -78,7 +77,7 @@ fn a_cube_by_hand() {
 
 /// The crossed loops of 99 and -3 turns, with the lengths 1,000 and 70. Step (1, 0) has 50 O's of its 99 letters and
 /// (2, 1) has OUO; (0, 1) has 49 and (2, 0) has UOU. So they bring 1,000 + 400, 70 + 16, 1,000 + 392 and 70 + 8, and
-/// the last one of a walk 320 more. The weave is not plain, which the reader does not test.
+/// the last one of a walk 320 more.
 fn known() -> Vec<u16> {
     with_lengths(&crossed_loops(99, -3), |e| [1_000, 70][usize::from(e)])
 }
@@ -230,19 +229,17 @@ fn full_lengths() {
     assert_eq!(step_with(86, reader(2, 1, 0, 1)), (0, 0));
 }
 
-/// Whole walks, twice round: at the end of each the tally has the ribbon's steps, letters and length, in any weave. That is what
-/// planner_cut_length answers if the weave is plain.
+/// Whole walks, twice round: at the end of each the tally has the ribbon's steps, letters and cut length.
 #[test]
 fn whole_walks() {
     let mut random = Random::new(0x3a1c);
-    let (mut mixed, mut plain_weaves) = (0, 0);
     for _ in 0..120 {
         let table = random_table(&mut random);
         let Some(dart) = live_darts(&table).nth(random.below(3)) else { continue };
         let kind = random.below(2) as u16;
-        let walk = walk_from(&table, named(dart, kind));
-        let (steps, length_of_all) = (walk.len(), ribbon_length(&table, &walk));
+        let steps = walk_from(&table, named(dart, kind)).len();
         let letters = ribbon_letters(&table, dart, kind).unwrap().len() as u32;
+        let cut = cut_length(&table, dart, kind).unwrap();
         let mut reader = begun(dart, kind);
         for _ in 0..2 {
             let mut tally = Tally::default();
@@ -253,16 +250,10 @@ fn whole_walks() {
                 let lap = if taken == steps { 320 } else { 0 };
                 assert_eq!(tally.length - before.length, edge + 8 * (tally.overs - before.overs) + lap);
             }
-            let told = (tally.steps as usize, tally.overs + tally.unders, tally.length);
-            assert_eq!(told, (steps, letters, length_of_all));
+            assert_eq!((tally.steps as usize, tally.overs + tally.unders, tally.length), (steps, letters, cut));
             assert_eq!(reader, begun(dart, kind));
         }
-        let is_plain = plain(&table) == Ok(true);
-        let cut = if is_plain { i64::from(length_of_all) } else { -14 };
-        assert_eq!(planner::cut_length(&table, dart, kind), cut);
-        *(if is_plain { &mut plain_weaves } else { &mut mixed }) += 1;
     }
-    assert!(mixed > 20 && plain_weaves > 20, "{mixed} mixed, {plain_weaves} plain");
 }
 
 /// What a step that is not declined brings to the length: its edge, its O's, the lap if it is the last. None where it is declined whatever

@@ -1,6 +1,6 @@
 //! include/planner.h against the exported signatures of crates/planner/src/lib.rt: contracts name arguments, and C goes by
 //! their places, so names, order and types have to be the same in both, and so the fields of the records that are lent.
-//! And the numbers that a host works with as the sources do, those of the refusals among them, which the reference has too.
+//! And the numbers that a host works with as the sources do.
 //!
 //! In C a slice `x` is a pointer `x` and then its size, `n_x`, `x_words` or `x_bytes`. A struct `Name` of the sources is
 //! `struct planner_name`. Four names differ, and keep the documents' words in the header: the table's slice is `t` in the
@@ -11,12 +11,10 @@
 use crate::header::{self, Header};
 use crate::rattle::{self, Function};
 use crate::tree::Tree;
-use std::collections::{BTreeMap, BTreeSet};
+use std::collections::BTreeSet;
 
 const HEADER: &str = "include/planner.h";
 const EXPORTS: &str = "crates/planner/src/lib.rt";
-const ANSWERS: &str = "crates/table/src/answer.rt";
-const REFERENCE: &str = "reference/src/refusal.rs";
 
 /// Numbers of the header, each with the source and the constant that it is.
 const NUMBERS: [(&str, &str, &str); 12] = [
@@ -39,8 +37,7 @@ pub fn faults(tree: &Tree) -> Vec<String> {
     let (Some(header), Some(source)) = (tree.read(HEADER), tree.read(EXPORTS)) else {
         return vec![format!("{HEADER} or {EXPORTS} is not there")];
     };
-    let mut other_numbers = numbers_apart(tree, &header);
-    other_numbers.extend(refusals_apart(tree, &header));
+    let other_numbers = numbers_apart(tree, &header);
     let header = header::read(&header);
     let functions = rattle::functions(&source);
     let mut faults: Vec<String> = header.unread.iter().map(|item| format!("{HEADER}: cannot read `{item}`")).collect();
@@ -76,47 +73,6 @@ fn numbers_apart(tree: &Tree, header: &str) -> Vec<String> {
         }
     });
     compared.collect()
-}
-
-/// Refusals whose number is not the same in the sources, the reference and the header.
-fn refusals_apart(tree: &Tree, header: &str) -> Vec<String> {
-    let read = |path, before, between| refusals(&tree.read(path).unwrap_or_default(), before, between);
-    let (sources, reference) = (read(ANSWERS, "Refusal::", " => "), read(REFERENCE, "", " = "));
-    if sources.is_empty() {
-        return vec![format!("{ANSWERS}: no refusal has a number")];
-    }
-    let names: BTreeSet<&String> = sources.keys().chain(reference.keys()).collect();
-    let apart = names.into_iter().filter_map(|name| {
-        let three =
-            [sources.get(name).copied(), reference.get(name).copied(), header::number(header, &refusal_in_c(name))];
-        let said = |number: Option<u64>| number.map_or("none".to_string(), |number| number.to_string());
-        let [in_sources, in_reference, in_header] = three.map(said);
-        (three[1] != three[0] || three[2] != three[0]).then(|| {
-            format!("refusal {name}: {in_sources} in {ANSWERS}, {in_reference} in {REFERENCE}, {in_header} in {HEADER}")
-        })
-    });
-    apart.collect()
-}
-
-/// The refusals of a text with their numbers, each on a line of its own.
-fn refusals(text: &str, before: &str, between: &str) -> BTreeMap<String, u64> {
-    let numbered = |line: &str| {
-        let (name, number) = line.trim().strip_prefix(before)?.strip_suffix(',')?.split_once(between)?;
-        Some((name.to_string(), header::value(number)?))
-    };
-    text.lines().filter_map(numbered).collect()
-}
-
-/// `NoSuchName` is `PLANNER_NO_SUCH_NAME` in C.
-fn refusal_in_c(name: &str) -> String {
-    let mut in_c = "PLANNER".to_string();
-    for letter in name.chars() {
-        if letter.is_ascii_uppercase() {
-            in_c.push('_');
-        }
-        in_c.push(letter.to_ascii_uppercase());
-    }
-    in_c
 }
 
 /// Functions that stand on one side alone, or are not exported.

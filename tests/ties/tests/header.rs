@@ -14,16 +14,11 @@ const RECORDS: &str = "crates/records/src/records.rt";
 
 const ROWS: &str = "crates/prices/src/rows.rt";
 
-const ANSWERS: &str = "crates/table/src/answer.rt";
-
-const REFERENCE: &str = "reference/src/refusal.rs";
-
-const FILES: [(&str, &str); 9] = [
+const FILES: [(&str, &str); 7] = [
     (
         HEADER,
         "/* int64_t planner_no(int x); */\n#include <stdint.h>\n#ifdef __cplusplus\nextern \"C\" {\n#endif\n#define A 1\n#define B(x) \\\n    (x)\n\
          /* #define PLANNER_LAP 5 */\n#define PLANNER_OVER_ALLOWANCE 8 /* each */\n#define PLANNER_LAP 320\n\
-         #define PLANNER_TORN 1 /* not good */\n#define PLANNER_NO_SUCH_NAME 2\n\
          #define PLANNER_METRE 16000 /* started */\n#define PLANNER_ROW_WORDS 4\n\
          #define PLANNER_TABLE_WORDS 8704\n#define PLANNER_LENGTH_AT 7680 /* for each edge */\n\
          #define PLANNER_MARK_AV 0x4156\n#define PLANNER_MARK_RV 0x5256\n#define PLANNER_MARK_IE 0x4945\n\
@@ -56,11 +51,6 @@ const FILES: [(&str, &str); 9] = [
         "pub const MARK_AV: u16 = 0x4156;\npub const MARK_RV: u16 = 0x5256;\npub const MARK_IE: u16 = 0x4945;\n\
          pub const MARK_IL: u16 = 0x494C;\npub const MARK_DE: u16 = 17477;\npub const MARK_TW: u16 = 0x5457;\n",
     ),
-    (
-        ANSWERS,
-        "pub enum Refusal {\n    Torn,\n    NoSuchName,\n}\n\nmatch r {\n    Refusal::Torn => 1,\n    Refusal::NoSuchName => 2,\n}\n",
-    ),
-    (REFERENCE, "pub enum Refusal {\n    Torn = 1,\n    NoSuchName = 2,\n}\n"),
     (LAYOUT, "pub const WORDS: usize = 8704;\n\n// Where lengths begin.\npub const LENGTH: usize = 7680;\n"),
 ];
 
@@ -290,23 +280,6 @@ fn numbers() {
     TRIAL.after("of-its-own", LENGTH, "pub const LAP: u32 = 320;", "const LAP: u32 = 320;", &undeclared);
     let without = ["the constant OVER_ALLOWANCE is missing", "the constant LAP is missing"];
     TRIAL.found(&TRIAL.whole("no-lengths").remove(LENGTH), &without);
-}
-
-/// The number of a refusal stands in three places, and in each of them it may be another or be missing.
-#[test]
-fn refusals() {
-    let apart = |name: &str, sources: &str, reference: &str, header: &str| {
-        format!("refusal {name}: {sources} in {ANSWERS}, {reference} in {REFERENCE}, {header} in {HEADER}")
-    };
-    let name = "NoSuchName";
-    TRIAL.after("other-sources", ANSWERS, "NoSuchName => 2", "NoSuchName => 3", &[&apart(name, "3", "2", "2")]);
-    TRIAL.after("other-reference", REFERENCE, "NoSuchName = 2", "NoSuchName = 4", &[&apart(name, "2", "4", "2")]);
-    TRIAL.after("other-header", HEADER, "NO_SUCH_NAME 2", "NO_SUCH_NAME 14", &[&apart(name, "2", "2", "14")]);
-    let missing = "    Refusal::NoSuchName => 2,\n";
-    TRIAL.after("no-source", ANSWERS, missing, "", &[&apart(name, "none", "2", "2")]);
-    TRIAL.after("no-reference", REFERENCE, "    NoSuchName = 2,\n", "", &[&apart(name, "2", "none", "2")]);
-    TRIAL.after("no-header", HEADER, "#define PLANNER_NO_SUCH_NAME 2\n", "", &[&apart(name, "2", "2", "none")]);
-    TRIAL.found(&TRIAL.whole("no-answers").remove(ANSWERS), &["answer.rt: no refusal has a number"]);
 }
 
 #[test]

@@ -14,9 +14,7 @@ use Rattle.table.specs.Good.{Good}
 use Rattle.table.specs.Rotation.{Rotation, Lawful, rotation, live?, alone?, turns_of}
 use Rattle.table.specs.laws.Lawful.{good_lawful, rev_edge}
 use Rattle.table.specs.laws.Output.{done_declined}
-use Rattle.table.specs.Answers.{unless}
-use Rattle.table.specs.declared.answer.Answer.TheVariants.{Done, Declined}
-use Rattle.table.specs.declared.answer.Refusal.TheVariants.{NotPlain}
+use Rattle.table.specs.declared.answer.Answer.TheVariants.{Done}
 use Rattle.tracing.specs.Step.{steps, step_type, mirror, back}
 use Rattle.tracing.proofs.laws.Step.{back_dart, back_type}
 use Rattle.tracing.specs.Walk.{walk}
@@ -26,7 +24,7 @@ use Rattle.tracing.proofs.laws.Length.{walk_bound}
 use Rattle.tracing.proofs.laws.Totals.{total_most, total_named, total_mirror}
 use Rattle.tracing_walks.specs.laws.Stands.{Stands, stands_low}
 use Rattle.tracing_walks.specs.laws.Along.{walk_stands}
-use Rattle.weave.specs.Letters.{over, word_of, step_letters, plain}
+use Rattle.weave.specs.Letters.{over, word_of, step_letters}
 use Rattle.weave.specs.declared.named.Named.{Named}
 use Rattle.weave.specs.declared.named.Named.TheVariants.{There, Refused}
 use Rattle.weave.specs.Calls.{named_step}
@@ -84,7 +82,7 @@ module _ (t : List ℕ) (d k d' k' : ℕ) {s x : ℕ} (a : named_step t d k ≡ 
   stands = (there_steps t d k (sym a)).stands
 
   same_call : cut_length t s ≡ cut_length t x → cut_length_of t d k ≡ cut_length_of t d' k'
-  same_call e = ap (cut_length_by t) a ∙ ap (λ n. unless (plain t) (Declined NotPlain) (Done n)) e ∙ sym (ap (cut_length_by t) b)
+  same_call e = ap (cut_length_by t) a ∙ ap Done e ∙ sym (ap (cut_length_by t) b)
 
   pub answer_named : has x (walk (rotation t) s) ≡ true → cut_length_of t d k ≡ cut_length_of t d' k'
   answer_named e = same_call (cut_named t stands.good s x (stands_low stands) e)

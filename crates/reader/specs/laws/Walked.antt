@@ -28,14 +28,13 @@ use Rattle.tracing.specs.Listing.{gather, bit}
 use Rattle.tracing.proofs.laws.Totals.{total_last}
 use Rattle.tracing_walks.specs.laws.Stands.{Stands, stands_low, stands_step}
 use Rattle.weave.specs.declared.named.Named.TheVariants.{There}
-use Rattle.weave.specs.Letters.{over, under, step_letters, letters, plain}
+use Rattle.weave.specs.Letters.{over, under, step_letters, letters}
 use Rattle.weave_letters.specs.laws.Counts.{letters_few}
 use Rattle.weave_letters.specs.laws.Passing.{letters_before, before_suc}
 use Rattle.weave.specs.Ribbon.{some}
 use Rattle.weave.specs.Calls.{named_step}
 use Rattle.weave.proofs.laws.Calls.{there_steps}
-use Rattle.lengths.specs.CutLength.{taken_by, lap, cut_length_of}
-use Rattle.lengths.specs.laws.CutLength.{cut_along}
+use Rattle.lengths.specs.CutLength.{taken_by, lap, cut_length_by, cut_length_of}
 use Rattle.lengths.specs.laws.Summing.{cut_total, taken_before, taken_most, taken_most_lem}
 use Rattle.reader.specs.declared.place.Step.{Step}
 use Rattle.reader_tally.specs.declared.tally.Tally.{Tally}
@@ -224,10 +223,10 @@ reader_walks t first b =
     let few = walk_period_le R L (word_at first) low p in
     walked t first start h.first_type p few (walk_run R (word_at first) p few)
 
--- and the call for the cut length answers what the tally then has, where the weave is plain
-pub tally_cut : (t : List ℕ) (first : Step) → begin_of t first.dart first.kind ≡ Done 0 → plain t ≡ true
+-- and the call for the cut length answers what the tally then has
+pub tally_cut : (t : List ℕ) (first : Step) → begin_of t first.dart first.kind ≡ Done 0
     → cut_length_of t first.dart first.kind ≡ Done (after_steps t first (length (walk (rotation t) (word_at first)))).tally.length
-tally_cut t first b e =
+tally_cut t first b =
     let there = begun_there t first b in
     let tally = (reader_walks t first b).tally in
-    sym (cut_along t first.dart first.kind (sym there) refl e (ap (λ y. y.length) tally))
+    ap (cut_length_by t) there ∙ ap (λ y. Done y.length) (sym tally)

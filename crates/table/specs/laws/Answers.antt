@@ -11,8 +11,7 @@ use Rattle.std.specs.Int.Signed.{mag}
 use Rattle.std.proofs.Math.IntN.{+ℤ_idl}
 use Rattle.table.specs.Answers.{number_of, refusal_code, unless}
 use Rattle.table.specs.declared.answer.Refusal.{Refusal}
-use Rattle.table.specs.declared.answer.Refusal.TheVariants.{Torn, NoSuchName, Taken, Absent, Joined, Overturned, ShortSlice, ManyTurns, Far, BadMark, CutRecord}
-use Rattle.table.specs.declared.answer.Refusal.TheVariants.{StaleForecast, ManyEdges, NotPlain}
+use Rattle.table.specs.declared.answer.Refusal.TheVariants.{Torn, NoSuchName, Taken, Absent, Joined, Overturned, ShortSlice, ManyTurns, Far, BadMark, CutRecord, StaleForecast, ManyEdges}
 
 -- where tests let a call through, the first of them holds and the others let it through
 pub record LetThrough {A : Type 0} (test : Bool) (x y : A) : Type 0 where
@@ -38,7 +37,6 @@ number_low BadMark = omega arith
 number_low CutRecord = omega arith
 number_low StaleForecast = omega arith
 number_low ManyEdges = omega arith
-number_low NotPlain = omega arith
 
 -- a code that is handed on keeps its value
 pub handed_on : {z c : ℤ} → mag z < 2 ^ 63 → z ≡ c → to_z w64 (of_z w64 z) ≡ c

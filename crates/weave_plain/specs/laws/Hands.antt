@@ -3,22 +3,17 @@
 --     with_positive, with_negative, with_unturned    the three kinds of edge words
 --     Seeing                                         the loop over the walk
 --     seeing_none, seeing_more, seeing_all           it begins, goes on, ends
---     MarkSeeing                                     the loop that marks the corners too
---     mark_none, mark_more, mark_all                 it begins, goes on, ends
---     hands_tell                                     what the hands tell: whether the ribbon alternates
-use Rattle.std.specs.Prelude.{ℕ, zero, ◌+◌, ◌<◌, ◌≤◌, ◌≡◌, refl, Bool, true, false, not, ◌&&◌, ◌||◌, List, [], ◌∷◌, ◌++◌, ◌≢◌, length, set}
+--     tell_positive, tell_none                       what the hands tell: whether the ribbon alternates
+use Rattle.std.specs.Prelude.{ℕ, zero, ◌+◌, ◌<◌, ◌≤◌, ◌≡◌, refl, Bool, true, false, not, ◌&&◌, ◌||◌, List, [], ◌∷◌, ◌++◌, ◌≢◌}
 use Rattle.std.proofs.Common.{arith, add-one, sym, ◌∙◌, ap, ap₂}
 use Rattle.std.proofs.Math.Bool.{or-false, or-true}
 use borrow.Author.Tests.{lt-ltb, le-ltb}
-use Rattle.table.specs.Layout.{darts}
 use Rattle.table.specs.Rotation.{rotation}
-use Rattle.tracing.specs.Step.{step, corner}
-use Rattle.tracing.specs.Walk.{walk, corners}
+use Rattle.tracing.specs.Step.{step}
+use Rattle.tracing.specs.Walk.{walk}
 use Rattle.tracing.proofs.laws.Walk.{iterates, run_suc}
 use Rattle.tracing_walks.specs.laws.Stands.{Stands, stands_low}
 use Rattle.tracing_walks.specs.laws.Along.{Walking, walking_none, walking_more, walking_all}
-use Rattle.tracing_walks.specs.laws.Marks.{mark}
-use Rattle.tracing_walks.specs.laws.Size.{Marking, marking_none, marking_more, marking_all}
 use Rattle.weave_plain.specs.declared.hands.Hands.{Hands}
 use Rattle.weave.specs.Letters.{unturned, positive, negative, word_of, alternates}
 use Rattle.weave.specs.Ribbon.{some, some_positive, some_negative}
@@ -80,29 +75,13 @@ pub seeing_all : {t : List ℕ} {s at : ℕ} {h : Hands} {w : ℕ} {h' : Hands} 
     → next ≡ step (rotation t) at → next ≡ s → h' ≡ hands_among t (walk (rotation t) s)
 seeing_all k e f g b = rw (walking_all k.walking g b) (seen_more k e f)
 
--- the loop over the walk that marks its corners too
-pub record MarkSeeing (t : List ℕ) (s : ℕ) (m₀ : List ℕ) (at : ℕ) (h : Hands) (m : List ℕ) : Type 0 where
-  pub so_far : ℕ
-  pub marking : Marking t s m₀ so_far at m
-  pub seen : h ≡ hands_among t (iterates (step (rotation t)) s so_far)
-
-abbrev seeing : {t : List ℕ} {s : ℕ} {m₀ : List ℕ} {at : ℕ} {h : Hands} {m : List ℕ} → MarkSeeing t s m₀ at h m → Seeing t s at h
-seeing k = record { so_far = k.so_far; walking = k.marking.walking; seen = k.seen }
-
-pub mark_none : {t : List ℕ} {s : ℕ} {m : List ℕ} → Stands t s → length m ≡ darts → MarkSeeing t s m s (record { positive = false; negative = false }) m
-unfolding seeing_none
-mark_none h l = let none = seeing_none h in record { so_far = none.so_far; marking = marking_none h l; seen = none.seen }
-
-module _ {t : List ℕ} {s : ℕ} {m₀ : List ℕ} {at : ℕ} {h : Hands} {m : List ℕ} (k : MarkSeeing t s m₀ at h m) {c : ℕ} (on : c ≡ corner (rotation t) at) where
-  pub mark_more : {w : ℕ} {h' : Hands} {next : ℕ} → EdgeWord t at w → h' ≡ hands_with h w → next ≡ step (rotation t) at → next ≢ s
-      → MarkSeeing t s m₀ next h' (set m c 1)
-  mark_more e f g b = record { so_far = k.so_far + 1; marking = marking_more k.marking on g b; seen = seen_more (seeing k) e f }
-
-  pub mark_all : {w : ℕ} {h' : Hands} {next : ℕ} → EdgeWord t at w → h' ≡ hands_with h w → next ≡ step (rotation t) at → next ≡ s
-      → (h' ≡ hands_among t (walk (rotation t) s)) × (set m c 1 ≡ mark m₀ (corners (rotation t) s))
-  mark_all e f g b = (seeing_all (seeing k) e f g b, (marking_all k.marking on g b).marks)
-
 -- what the hands tell
-pub hands_tell : {t : List ℕ} {s : ℕ} {h : Hands} → Stands t s → h ≡ hands_among t (walk (rotation t) s) → not (h.positive && h.negative) ≡ alternates t s
+hands_tell : {t : List ℕ} {s : ℕ} {h : Hands} → Stands t s → h ≡ hands_among t (walk (rotation t) s) → alternates t s ≡ not (h.positive && h.negative)
 unfolding hands_among
-hands_tell {t} {s} st e = ap (λ g. not (g.positive && g.negative)) e ∙ sym (alternates_hands t st.good s (stands_low st))
+hands_tell {t} {s} st e = alternates_hands t st.good s (stands_low st) ∙ ap (λ g. not (g.positive && g.negative)) (sym e)
+
+pub tell_positive : {t : List ℕ} {s : ℕ} {h : Hands} → Stands t s → h ≡ hands_among t (walk (rotation t) s) → h.positive ≡ true → not h.negative ≡ alternates t s
+tell_positive st e p = sym (hands_tell st e ∙ rw p)
+
+pub tell_none : {t : List ℕ} {s : ℕ} {h : Hands} → Stands t s → h ≡ hands_among t (walk (rotation t) s) → h.positive ≡ false → true ≡ alternates t s
+tell_none st e p = sym (hands_tell st e ∙ rw p)

@@ -1,8 +1,22 @@
--- `plain::is_plain` meets its contract: the mesh has one hand, or its ribbons are traced.
-use mathlib.Core.Path.{sym}
-use Rattle.table.specs.laws.Rotation.{case_yes}
-use Rattle.weave_plain.specs.laws.OneHand.{one_hand_plain}
+-- `plain::is_plain` meets its contract. The invariant: the ribbons listed from the darts below d alternate, and their corners are marked.
+use Prim.Native.Nat.{◌-◌}
+use native.Mathlib.Omega.{arith}
+use mathlib.Core.Path.{◌≡◌}
+use Rattle.tracing_walks.specs.laws.Size.{seen_range}
+use Rattle.weave_plain.specs.laws.Plain.{judging_none, judging_more, judging_no, judging_all}
 use Rattle.weave_plain.proofs.plain.is_plain.Goals as goal
 
-pub returns-then-has_one_hand : goal.returns-then-has_one_hand
-returns-then-has_one_hand c = sym (one_hand_plain c.requires (case_yes c.has_one_hand.ensures c.if-has_one_hand.true))
+pub loop-d-init : goal.loop-d-init
+loop-d-init c = judging_none c.requires
+
+pub alternates_from-requires : goal.alternates_from-requires
+alternates_from-requires c = seen_range c.loop-d.invariant.seen c.loop-d-test.true
+
+pub returns-then-not-alternates_from : goal.returns-then-not-alternates_from
+returns-then-not-alternates_from c = judging_no c.loop-d.invariant c.loop-d-test.true c.alternates_from.ensures (c.if-not-alternates_from.true)
+
+pub loop-d-preserved : goal.loop-d-preserved
+loop-d-preserved c = judging_more c.loop-d.invariant c.loop-d-test.true c.alternates_from.ensures (c.if-not-alternates_from.false)
+
+pub returns : goal.returns
+returns c = let end : c.loop-d.d ≡ 2048 = omega arith in judging_all (rw end at c.loop-d.invariant)

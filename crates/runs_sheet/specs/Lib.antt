@@ -1,2 +1,0 @@
-pub mod laws
-pub mod Theorems

@@ -1,3 +1,0 @@
-// What the calls for lengths and prices answer after a run. No code.
-
-#![tactic(auto)]

@@ -17,4 +17,4 @@ pub bounds-remainders-n-3 : goal.bounds-remainders-n-3
 bounds-remainders-n-3 c = rw (length-set, length-set) (omega arith)
 
 pub returns : goal.returns
-returns c = piece_written c.form_word.ensures c.spot_of-q.ensures (record { x = c.type_inv.q.0.1; y = c.type_inv.q.1.0.1; z = c.type_inv.q.1.1.0.1 })
+returns c = piece_written c.form_word.ensures c.spot_of-q.ensures (record { x = c.spot_of-q.type_inv.0.1; y = c.spot_of-q.type_inv.1.0.1; z = c.spot_of-q.type_inv.1.1.0.1 })

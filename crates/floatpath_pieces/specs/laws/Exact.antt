@@ -2,7 +2,7 @@
 use Rattle.std.specs.Prelude.{ℕ, suc, ◌*◌, ◌^◌, ◌≤◌, ◌<◌, ◌≡◌, refl, Bool, true, false, T, ℤ, pos, negsuc, nat_abs, Float}
 use Rattle.std.proofs.Common.{mul_assoc, mul_comm, mul-pos, lt_of_lt_of_le, zero-lt-suc, sym, ◌∙◌, ap, lit≤, le→leb, lt→ltb, shl_lt}
 use Rattle.std.specs.Float.{nan, inf, fin, binary32}
-use Rattle.std.specs.Float.Ieee.{up, down, unlike, round, div, of_int, fits, of_bits, in_float}
+use Rattle.std.specs.Float.Ieee.{up, down, unlike, round, div, of_int, of_bits, in_float}
 use Rattle.std.specs.Float.Ieee.Exact.{HasValue, round_exact}
 use Rattle.std.specs.Float.Ieee.Back.{round_whole}
 use Rattle.std.specs.Float.Ieee.Scale.{round_same}

@@ -4,7 +4,6 @@ use Rattle.orbits.proofs.laws.Truth.{clash}
 use lib.Seq.{length-take-le}
 use native.Mathlib.Omega.{arith}
 use mathlib.Core.Path.{refl, sym}
-use Prim.Native.Nat.{◌-◌}
 use Rattle.job.proofs.print_report.Goals as goal
 
 pub loop-out-init : goal.loop-out-init

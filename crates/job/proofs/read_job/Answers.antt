@@ -1,9 +1,7 @@
 -- `read_job` meets its contract. The invariant: what came is read, and the bytes of a cut record wait
 -- at the front of the buffer. The measure is the bytes that may still come, and one more turn for the read that gives none.
-use Rattle.job.specs.laws.Progress.{going_none, going_ready, going_less, going_more, going_over}
-use Rattle.orbits.proofs.laws.Truth.{clash}
+use Rattle.job.specs.laws.Progress.{going_none, going_ready, going_less, going_more}
 use mathlib.Core.Path.{refl, sym}
-use Prim.Native.Nat.{◌-◌}
 use Rattle.job.proofs.read_job.Goals as goal
 
 pub loop-p-init : goal.loop-p-init

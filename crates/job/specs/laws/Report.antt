@@ -4,7 +4,7 @@
 --     ShowsPart, shows_part, part_room, part_handed, part_low    what a window shows is what is handed over
 --     start_good, read_good                                      the table is good at the start; after the reading
 --     ended_early, handed_low, ended_whole                       the ends of the program
-use Rattle.std.specs.Prelude.{ℕ, ◌+◌, ◌-◌, ◌≤◌, ◌<◌, ◌^◌, min, ◌≡◌, refl, Bool, true, false, not, List, take}
+use Rattle.std.specs.Prelude.{ℕ, ◌+◌, ◌-◌, ◌≤◌, ◌<◌, ◌^◌, min, ◌≡◌, refl, Bool, true, false, List, take}
 use Rattle.std.proofs.Common.{arith, sym, ◌∙◌, ap, length-take-le, eq-eqb}
 use Rattle.std.proofs.Math.ListN.{length, length-append}
 use Rattle.std.proofs.lemmas.List.Edits.{sets}
@@ -24,7 +24,7 @@ use Rattle.runs.specs.Run.{run}
 use Rattle.runs.proofs.laws.Theorem.{run_good}
 use Rattle.records.specs.Reading.{reading}
 use Rattle.records.specs.laws.Reading.{reading_bounds}
-use Rattle.records.specs.Lines.{lines, stop_line}
+use Rattle.records.specs.Lines.{stop_line}
 use Rattle.records.specs.laws.Lines.{lines_few, stop_few}
 use Rattle.records.specs.Blocks.{printed}
 use Rattle.job.specs.declared.Progress.{Progress}

@@ -29,9 +29,3 @@ module _ (t : List ℕ) (e : ℕ) where
       | no n ↦ length_live on n h
     ]
   ]
-
-  pub none_unfit : LengthRule t e → unfit (edge_word t e) (length_word t e) ≡ 0
-  none_unfit f = elim (ℕ_discrete (edge_word t e) 0) [
-    | yes off ↦ rw (eq-eqb (edge_word t e) 0 off, eq-eqb (length_word t e) 0 (f.none off))
-    | no on ↦ rw (ne_eqb (edge_word t e) 0 on, ne_eqb (length_word t e) 0 (f.some on))
-  ]

@@ -1,7 +1,6 @@
 -- `number::number_in` meets its contract. The invariant: the first i bytes are digits, and n is their number, at most the bound.
 use Rattle.arguments.specs.laws.Reading.{empty_nothing, reading_none, reading_below, reading_above, reading_large, reading_more, reading_all}
 use native.Mathlib.Omega.{arith}
-use Prim.Native.Nat.{◌-◌}
 use Rattle.arguments.proofs.number.number_in.Goals as goal
 
 pub returns-then-s-lt1 : goal.returns-then-s-lt1

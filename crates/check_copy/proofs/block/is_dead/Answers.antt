@@ -1,7 +1,6 @@
 -- `block::is_dead` meets its contract. The invariant: the words so far, or-ed together, are 0 exactly if each is, and each is counted.
 use Rattle.table.specs.laws.Blocks.{together_none, together_more, together_case, or_zero}
 use Rattle.table.specs.laws.Rotation.{eq_case}
-use Prim.Native.Nat.{◌-◌}
 use mathlib.Core.Path.{◌≡◌, refl, sym, ◌∙◌}
 use native.Mathlib.Omega.{arith}
 use lib.Bits.{or_zero_l}

@@ -3,7 +3,7 @@ use Rattle.table.specs.laws.Blocks.{together_none, together_more, together_case,
 use Rattle.table.specs.laws.Rotation.{le_case}
 use Rattle.table.specs.Layout.{isolated, vertex_word}
 use lib.Bits.{and_le_l, and_le_r}
-use Prim.Native.Nat.{◌+◌, ◌*◌, ◌-◌}
+use Prim.Native.Nat.{◌+◌, ◌*◌}
 use mathlib.Core.Path.{◌≡◌}
 use native.Mathlib.Omega.{arith}
 use Rattle.check_copy.proofs.block.is_loose.Goals as goal

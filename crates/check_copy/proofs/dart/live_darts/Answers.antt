@@ -7,7 +7,7 @@ use Rattle.table.specs.laws.Darts.{RuledBelow, passed_none, passed_idle, passed_
 use Rattle.table.specs.laws.Rotation.{case_yes}
 use native.Mathlib.Omega.{arith}
 use mathlib.Core.Path.{◌≡◌, sym}
-use Prim.Native.Nat.{◌+◌, ◌*◌, ◌-◌}
+use Prim.Native.Nat.{◌+◌, ◌*◌}
 use Rattle.check_copy.proofs.dart.live_darts.Goals as goal
 use Rattle.check_copy.proofs.dart.live_darts.Goals.{then-not-is_idle+in-Of, else-not-is_idle}
 

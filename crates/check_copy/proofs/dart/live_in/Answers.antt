@@ -9,7 +9,7 @@ use mathlib.Core.Path.{◌≡◌, refl, sym, ap, ◌∙◌}
 use Rattle.table.specs.laws.Rotation.{case_yes, case_no}
 use Rattle.table.specs.Layout.{edge_word, edge_of}
 use native.Mathlib.Omega.{arith}
-use Prim.Native.Nat.{◌+◌, ◌*◌, ◌-◌}
+use Prim.Native.Nat.{◌+◌, ◌*◌}
 use Rattle.check_copy.proofs.dart.live_in.Goals as goal
 use Rattle.check_copy.proofs.dart.live_in.Goals.{then-w-ne0, else-w-ne0}
 

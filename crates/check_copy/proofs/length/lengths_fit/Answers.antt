@@ -1,9 +1,10 @@
 -- `length::lengths_fit` meets its contract. The invariant: no edge so far has a length that does not fit its word, and two words of each are counted.
 use Rattle.table.specs.laws.Blocks.{together_none, together_more, together_case, or_zero}
 use Rattle.table.specs.laws.Rotation.{eq_case}
-use Rattle.table.specs.laws.Lengths.{unfit, unfit_none, none_unfit}
+use Rattle.table.specs.laws.Lengths.{unfit, unfit_none}
+use Rattle.table.proofs.Unfit.{none_unfit}
 use Rattle.table.specs.Layout.{edges, length_at, edge_word, length_word}
-use Prim.Native.Nat.{◌+◌, ◌-◌}
+use Prim.Native.Nat.{◌+◌}
 use mathlib.Core.Path.{◌≡◌, refl, sym, ◌∙◌, ap₂}
 use native.Mathlib.Omega.{arith}
 use lib.Bits.{or_zero_l}

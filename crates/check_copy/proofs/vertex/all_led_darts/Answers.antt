@@ -8,7 +8,7 @@ use Rattle.table.specs.laws.Rotation.{case_yes, case_no}
 use Rattle.table.specs.laws.Blocks.{vertex_blocks}
 use native.Mathlib.Omega.{arith}
 use mathlib.Core.Path.{◌≡◌}
-use Prim.Native.Nat.{◌+◌, ◌*◌, ◌-◌, ◌<◌}
+use Prim.Native.Nat.{◌+◌, ◌*◌, ◌<◌}
 use Rattle.check_copy.proofs.vertex.all_led_darts.Goals as goal
 use Rattle.check_copy.proofs.vertex.all_led_darts.Goals.{then-not-is_loose+in-Of, else-not-is_loose}
 

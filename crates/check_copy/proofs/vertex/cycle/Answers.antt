@@ -2,7 +2,6 @@
 use Rattle.table.specs.laws.Cycle.{round_none, round_more, round_short, round_all, round_lower}
 use Rattle.check_reads.proofs.laws.Vertices.{cycle_reads}
 use native.Mathlib.Omega.{arith}
-use Prim.Native.Nat.{◌-◌}
 use Rattle.check_copy.proofs.vertex.cycle.Goals as goal
 
 pub read-d-requires : goal.read-d-requires

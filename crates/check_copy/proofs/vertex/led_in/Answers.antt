@@ -6,7 +6,7 @@ use Rattle.table.specs.laws.Vertices.{summed_more, summed_few, summed_to, summed
 use Rattle.table.specs.laws.Counting.{counts_broken, counts_of_lem}
 use native.Mathlib.Omega.{arith}
 use mathlib.Core.Path.{◌≡◌, refl}
-use Prim.Native.Nat.{◌+◌, ◌*◌, ◌-◌}
+use Prim.Native.Nat.{◌+◌, ◌*◌}
 use Rattle.check_copy.proofs.vertex.led_in.Goals as goal
 
 pub loop-v-init : goal.loop-v-init

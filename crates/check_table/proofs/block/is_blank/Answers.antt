@@ -4,7 +4,7 @@ use Rattle.table.specs.laws.Rotation.{eq_case}
 use Rattle.table.specs.Layout.{nothing}
 use lib.ListN.{get_or}
 use lib.Bits.{and_le_l, and_self}
-use Prim.Native.Nat.{◌+◌, ◌-◌}
+use Prim.Native.Nat.{◌+◌}
 use mathlib.Core.Path.{◌≡◌, refl}
 use native.Mathlib.Omega.{arith}
 use Rattle.check_table.proofs.block.is_blank.Goals as goal

@@ -2,8 +2,9 @@
 use Rattle.table.specs.laws.Blocks.{together_none, together_more, together_case, or_zero}
 use Rattle.table.specs.laws.Rotation.{eq_case}
 use Rattle.table.specs.Layout.{edges, length_at}
-use Rattle.table.specs.laws.Lengths.{unfit_none, none_unfit}
-use Prim.Native.Nat.{◌+◌, ◌-◌}
+use Rattle.table.specs.laws.Lengths.{unfit_none}
+use Rattle.table.proofs.Unfit.{none_unfit}
+use Prim.Native.Nat.{◌+◌}
 use mathlib.Core.Path.{◌≡◌, refl}
 use native.Mathlib.Omega.{arith}
 use lib.Bits.{or_zero_l}

@@ -3,7 +3,7 @@ use Rattle.table.specs.laws.Vertices.{Summed, summed_none, summed_loose, summed_
 use Rattle.table.specs.laws.Rotation.{case_yes}
 use native.Mathlib.Omega.{arith}
 use mathlib.Core.Path.{◌≡◌}
-use Prim.Native.Nat.{◌+◌, ◌*◌, ◌-◌}
+use Prim.Native.Nat.{◌+◌, ◌*◌}
 use Rattle.check_table.proofs.vertex.all_led_darts.Goals as goal
 use Rattle.check_table.proofs.vertex.all_led_darts.Goals.{then-not-is_loose+in-Of, else-not-is_loose}
 

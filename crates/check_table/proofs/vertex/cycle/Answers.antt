@@ -2,7 +2,6 @@
 use Rattle.table.specs.laws.Cycle.{round_none, round_more, round_short, round_all, round_lower}
 use mir.Facts.{Fits-16_64}
 use native.Mathlib.Omega.{arith}
-use Prim.Native.Nat.{◌-◌}
 use Rattle.check_table.proofs.vertex.cycle.Goals as goal
 
 pub offset_bounds-t-w : goal.offset_bounds-t-w

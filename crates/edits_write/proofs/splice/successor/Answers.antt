@@ -3,7 +3,6 @@ use Rattle.edits.proofs.laws.Unlink.{seeking_none, seeking_more, seeking_here, s
 use borrow.Author.Tests.{eq-eqb, ne_eqb}
 use mir.Facts.{Fits-16_64}
 use native.Mathlib.Omega.{arith}
-use Prim.Native.Nat.{◌-◌}
 use Rattle.edits_write.proofs.splice.successor.Goals as goal
 
 pub returns-then-w-x : goal.returns-then-w-x

@@ -1,2 +1,1 @@
 pub mod Forward
-pub mod laws

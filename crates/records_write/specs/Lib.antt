@@ -1,4 +1,2 @@
 pub mod Encoding
 pub mod Call
-pub mod laws
-pub mod Theorems

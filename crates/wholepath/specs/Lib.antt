@@ -1,4 +1,3 @@
 pub mod WholePath
 pub mod Tied
 pub mod laws
-pub mod Theorems

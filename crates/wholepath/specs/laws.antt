@@ -1,4 +1,2 @@
 pub mod Survey
 pub mod WholePath
-pub mod Tied
-pub mod Sense

@@ -1,4 +1,3 @@
 pub mod Pieces
 pub mod Placed
 pub mod laws
-pub mod Theorems

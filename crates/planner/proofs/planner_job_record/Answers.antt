@@ -3,7 +3,7 @@ use mathlib.Core.Path.{◌∙◌, ap}
 use Rattle.table.specs.Answers.{code_of}
 use Rattle.table.specs.laws.Answers.{handed_on}
 use Rattle.records.specs.Records.{mark_of}
-use Rattle.records_write.specs.laws.Marked.{handed_call}
+use Rattle.records_write.proofs.laws.Marked.{handed_call}
 use Rattle.planner.proofs.planner_job_record.Goals as goal
 
 pub returns : goal.returns

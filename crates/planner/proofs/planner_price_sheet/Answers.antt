@@ -1,5 +1,5 @@
 -- `planner::planner_price_sheet` meets its contract. Writes four words for each ribbon, and answers the sum of the prices.
-use Rattle.prices.specs.laws.Call.{quote_payable}
+use Rattle.prices.proofs.laws.Call.{quote_payable}
 use Rattle.prices.specs.Sheet.{quote_code}
 use Rattle.table.specs.laws.Answers.{handed_on}
 use mathlib.Core.Path.{◌∙◌, ap}

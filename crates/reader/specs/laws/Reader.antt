@@ -36,7 +36,7 @@ use Rattle.reader_tally.specs.declared.tally.Tallied.{Tallied}
 use Rattle.reader_tally.specs.declared.tally.Tallied.TheVariants.{Brought, Kept}
 use Rattle.reader.specs.declared.walk.Stepped.{Stepped}
 use Rattle.reader_tally.specs.Forward.{step_tally, tally_of}
-use Rattle.reader_tally.specs.laws.Forward.{brought_is, kept_is}
+use Rattle.reader_tally.proofs.laws.Forward.{brought_is, kept_is}
 use Rattle.reader.specs.Reader.{begin_by, begin_of, word_at, step_at, is_step, placed, stays, ends_at, moved_to, stepped_by, tally_at, step_by, step_of, EachStep}
 
 -- "Every step declines as the making of the reader would"

@@ -41,7 +41,7 @@ use Rattle.reader_tally.specs.declared.tally.Tally.{Tally}
 use Rattle.tracing.specs.Met.{times, count_in, total}
 use Rattle.tracing.proofs.laws.Has.{count_in_append}
 use Rattle.reader_tally.specs.Forward.{past32, fits32, forward_of, lap_at, step_tally, tally_of}
-use Rattle.reader_tally.specs.laws.Forward.{lap_most}
+use Rattle.reader_tally.proofs.laws.Forward.{lap_most}
 use Rattle.reader.specs.Reader.{begin_of, word_at, step_at, ends_at, moved_to, step_by, step_of}
 use Rattle.reader.specs.laws.Reader.{in_range, placed_there, begun_named, begun_placed}
 use Rattle.reader.specs.Walked.{steps_from, after_steps, handed, Walked}

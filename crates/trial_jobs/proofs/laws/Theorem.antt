@@ -24,7 +24,7 @@ use Rattle.records.specs.Lines.{stop_line}
 use Rattle.records.specs.Reading.{reading}
 use Rattle.records.specs.Blocks.{printed_by, printed}
 use Rattle.records_write.specs.Encoding.{SignedWord, AllSixteen, none}
-use Rattle.records_write.specs.laws.Encoding.{job_read}
+use Rattle.records_write.proofs.laws.Encoding.{job_read}
 use Rattle.trial_jobs.specs.Trial.{first_vertex, second_vertex, turns_drawn, corner_at, insertion_on, additions, trial_job, trial_bytes, trial_size, draw, state}
 use Rattle.trial_jobs.specs.TrialLaws.{TrialLaws}
 use Rattle.trial_jobs.proofs.laws.Corners.{at_word}

@@ -35,7 +35,8 @@ use Rattle.wholepath_pieces.specs.declared.piece.Piece.{Piece}
 use Rattle.wholepath_pieces.specs.declared.piece.Piece.TheVariants.{Over, Under, Flat, Close}
 use Rattle.wholepath_places.specs.Between.{lifted_place}
 use Rattle.wholepath_pieces.specs.Pieces.{spots_on, spots_of, crossing_number, letter_on, spot_at, whole_piece_for, whole_piece_on, piece_at, up_to, step_pieces, spot_of}
-use Rattle.wholepath_places.specs.laws.Between.{Crossing, coordinate_word, coordinate_rest}
+use Rattle.wholepath_places.specs.laws.Between.{Crossing}
+use Rattle.wholepath_places.proofs.laws.Between.{coordinate_word, coordinate_rest}
 
 -- how many pieces there are on an edge
 module _ {w : ℕ} where

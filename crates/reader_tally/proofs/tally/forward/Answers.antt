@@ -1,5 +1,5 @@
 -- `tally::forward` meets its contract: each field is tested before it is added to.
-use Rattle.reader_tally.specs.laws.Forward.{past_steps, past_overs, past_unders, past_length, brought}
+use Rattle.reader_tally.proofs.laws.Forward.{past_steps, past_overs, past_unders, past_length, brought}
 use native.Mathlib.Omega.{arith}
 use Rattle.reader_tally.proofs.tally.forward.Goals as goal
 

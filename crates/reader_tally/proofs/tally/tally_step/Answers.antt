@@ -1,6 +1,6 @@
 -- `tally::tally_step` meets its contract: the letters and the length of the step, and then whether the tally goes past 32 bits.
 use Rattle.weave_letters.specs.laws.Counts.{unders_left}
-use Rattle.reader_tally.specs.laws.Forward.{bit_most, tally_forward}
+use Rattle.reader_tally.proofs.laws.Forward.{bit_most, tally_forward}
 use native.Mathlib.Omega.{arith}
 use Rattle.reader_tally.proofs.tally.tally_step.Goals as goal
 

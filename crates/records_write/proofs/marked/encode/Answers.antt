@@ -1,5 +1,5 @@
 -- `marked::encode` meets its contract: for each mark its record.
-use Rattle.records_write.specs.laws.Marked.{by_mark}
+use Rattle.records_write.proofs.laws.Marked.{by_mark}
 use Rattle.records_write.proofs.marked.encode.Goals as goal
 
 pub returns-in-AV : goal.returns-in-AV

@@ -2,7 +2,7 @@
 use mathlib.Core.Path.{refl}
 use mathlib.Core.List.{◌++◌}
 use Rattle.records_write.specs.Encoding.{bytes_of}
-use Rattle.records_write.specs.laws.Writing.{record_short, record_done}
+use Rattle.records_write.proofs.laws.Writing.{record_short, record_done}
 use Rattle.records_write.proofs.marked.encode_name.Goals as goal
 
 pub returns-then-out-lt-NAME_BYTES : goal.returns-then-out-lt-NAME_BYTES

@@ -5,7 +5,7 @@ use mir.Syntax.{w16}
 use mir.Facts.{to_z-of_z}
 use Rattle.records.specs.declared.records.Mark.TheVariants.{TW}
 use Rattle.records_write.specs.Encoding.{record_by}
-use Rattle.records_write.specs.laws.Writing.{record_short, record_done}
+use Rattle.records_write.proofs.laws.Writing.{record_short, record_done}
 use Rattle.records_write.proofs.marked.encode_turn.Goals as goal
 
 pub returns-then-out-lt-TURN_BYTES : goal.returns-then-out-lt-TURN_BYTES

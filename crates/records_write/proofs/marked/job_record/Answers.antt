@@ -1,5 +1,5 @@
 -- `marked::job_record` meets its contract: the record of a mark that there is, or 10.
-use Rattle.records_write.specs.laws.Marked.{known_mark, unknown_mark}
+use Rattle.records_write.proofs.laws.Marked.{known_mark, unknown_mark}
 use Rattle.records_write.proofs.marked.job_record.Goals as goal
 
 pub returns-in-Known : goal.returns-in-Known

@@ -1,5 +1,5 @@
 -- `record::complement` meets its contract: counted from -65,536 on the number is not negative, and its low 16 bits are two's complement.
-use Rattle.records_write.specs.laws.Writing.{widened, raised_fits, raised_whole, raised_low}
+use Rattle.records_write.proofs.laws.Writing.{widened, raised_fits, raised_whole, raised_low}
 use Rattle.records_write.proofs.record.complement.Goals as goal
 
 pub overflow_cast-result : goal.overflow_cast-result

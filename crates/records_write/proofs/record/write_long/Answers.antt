@@ -5,7 +5,7 @@ use lib.Seq.{sets}
 use mir.Syntax.{w16}
 use mir.Facts.{to_z-of_z}
 use Rattle.records_write.specs.Encoding.{bytes_of, insertion_words}
-use Rattle.records_write.specs.laws.Writing.{then_more}
+use Rattle.records_write.proofs.laws.Writing.{then_more}
 use Rattle.records_write.proofs.record.write_long.Goals as goal
 
 pub returns : goal.returns

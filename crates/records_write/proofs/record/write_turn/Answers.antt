@@ -3,7 +3,7 @@ use lib.Seq.{sets}
 use mathlib.Core.Path.{ap, ◌∙◌}
 use mathlib.Core.List.{◌++◌}
 use Rattle.records_write.specs.Encoding.{bytes_of, complement}
-use Rattle.records_write.specs.laws.Writing.{then_more, handed_complement}
+use Rattle.records_write.proofs.laws.Writing.{then_more, handed_complement}
 use Rattle.records_write.proofs.record.write_turn.Goals as goal
 
 pub returns : goal.returns

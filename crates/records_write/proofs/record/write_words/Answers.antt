@@ -1,6 +1,6 @@
 -- `record::write_words` meets its contract: one word after the other.
 use Rattle.records_write.specs.Encoding.{bytes_of}
-use Rattle.records_write.specs.laws.Writing.{then_more}
+use Rattle.records_write.proofs.laws.Writing.{then_more}
 use Rattle.records_write.proofs.record.write_words.Goals as goal
 
 pub returns : goal.returns

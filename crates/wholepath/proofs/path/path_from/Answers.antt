@@ -1,5 +1,5 @@
 -- `path::path_from` meets its contract: declined with the slices as they were, or the path written.
-use Rattle.wholepath.specs.laws.WholePath.{along_room, left_declined, left_done}
+use Rattle.wholepath.proofs.laws.WholePath.{along_room, left_declined, left_done}
 use mathlib.Core.Path.{sym, ◌∙◌}
 use Rattle.wholepath.proofs.path.path_from.Goals as goal
 

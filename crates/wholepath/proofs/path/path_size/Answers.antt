@@ -1,5 +1,5 @@
 -- `path::path_size` meets its contract: a return for each refusal in its order: five short slices, then far.
-use Rattle.wholepath.specs.laws.WholePath.{short_points, short_lifts, survey_few, short_forms, short_coords, short_rests, far_away, path_sized}
+use Rattle.wholepath.proofs.laws.WholePath.{short_points, short_lifts, survey_few, short_forms, short_coords, short_rests, far_away, path_sized}
 use native.Mathlib.Omega.{arith}
 use Rattle.wholepath.proofs.path.path_size.Goals as goal
 

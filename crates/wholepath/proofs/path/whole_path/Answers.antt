@@ -1,5 +1,5 @@
 -- `path::whole_path` meets its contract: the refusal of the step, or what the path from it gives.
-use Rattle.wholepath.specs.laws.WholePath.{path_refused, path_left}
+use Rattle.wholepath.proofs.laws.WholePath.{path_refused, path_left}
 use Rattle.weave.proofs.laws.Calls.{there_steps}
 use mathlib.Core.Path.{sym, ◌∙◌}
 use Rattle.wholepath.proofs.path.whole_path.Goals as goal

@@ -1,5 +1,5 @@
 -- `survey::survey_from` meets its contract. The invariant: the walk is under way, and its steps so far are surveyed.
-use Rattle.wholepath.specs.laws.Survey.{surveying_none, surveying_lent, surveying_most, surveying_more, surveying_all}
+use Rattle.wholepath.proofs.laws.Survey.{surveying_none, surveying_lent, surveying_most, surveying_more, surveying_all}
 use Rattle.tracing_walks.specs.laws.Along.{walking_less}
 use Rattle.wholepath.proofs.survey.survey_from.Goals as goal
 

@@ -1,5 +1,5 @@
 -- `survey::survey_from` meets its contract. The invariant: the walk is under way, and its steps so far are surveyed.
-use Rattle.wholepath.specs.laws.Survey.{Surveying}
+use Rattle.wholepath.proofs.laws.Survey.{Surveying}
 use Rattle.tracing_walks.specs.laws.Along.{left}
 use Rattle.wholepath.proofs.survey.survey_from.Given as goal
 

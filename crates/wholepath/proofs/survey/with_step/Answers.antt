@@ -1,5 +1,5 @@
 -- `survey::with_step` meets its contract: the pieces added, and far if this step is or one before was.
-use Rattle.wholepath.specs.laws.Survey.{with_far, with_near}
+use Rattle.wholepath.proofs.laws.Survey.{with_far, with_near}
 use Rattle.wholepath.proofs.survey.with_step.Goals as goal
 
 pub returns-then-far : goal.returns-then-far

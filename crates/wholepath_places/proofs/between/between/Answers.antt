@@ -1,5 +1,5 @@
 -- `between::between` meets its contract: a division of numbers that are not negative, and none of them passes its word.
-use Rattle.wholepath_places.specs.laws.Between.{first_raised, second_raised, weights, first_fits, second_fits, sum_fits, quotient_fits, word_fits, product_fits, product_low, rest_fits, place_made}
+use Rattle.wholepath_places.proofs.laws.Between.{first_raised, second_raised, weights, first_fits, second_fits, sum_fits, quotient_fits, word_fits, product_fits, product_low, rest_fits, place_made}
 use Rattle.wholepath_places.proofs.between.between.Goals as goal
 
 pub overflow_mul-sum : goal.overflow_mul-sum

@@ -1,5 +1,5 @@
 -- `between::coordinate` meets its contract: where the crossing sits, then its lift.
-use Rattle.wholepath_places.specs.laws.Between.{lift_near, lifted_made}
+use Rattle.wholepath_places.proofs.laws.Between.{lift_near, lifted_made}
 use Rattle.wholepath_places.proofs.between.coordinate.Goals as goal
 
 pub lifted-requires : goal.lifted-requires

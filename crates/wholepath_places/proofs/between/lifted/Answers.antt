@@ -1,5 +1,5 @@
 -- `between::lifted` meets its contract: the lift added over and taken off under, each sum within its word.
-use Rattle.wholepath_places.specs.laws.Between.{over_fits, under_fits, lifted_over, lifted_under, lifted_flat}
+use Rattle.wholepath_places.proofs.laws.Between.{over_fits, under_fits, lifted_over, lifted_under, lifted_flat}
 use Rattle.wholepath_places.proofs.between.lifted.Goals as goal
 
 pub overflow_add-result : goal.overflow_add-result

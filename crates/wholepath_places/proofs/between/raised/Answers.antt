@@ -1,5 +1,5 @@
 -- `between::raised` meets its contract: within range either way, the sum is not negative.
-use Rattle.wholepath_places.specs.laws.Between.{raised_fits, raised_whole, raised_made}
+use Rattle.wholepath_places.proofs.laws.Between.{raised_fits, raised_whole, raised_made}
 use Rattle.wholepath_places.proofs.between.raised.Goals as goal
 
 pub overflow_add-result : goal.overflow_add-result

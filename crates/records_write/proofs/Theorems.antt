@@ -7,8 +7,8 @@ use Rattle.records.specs.declared.records.Stop.TheVariants.{End}
 use Rattle.records.specs.Records.{first_record}
 use Rattle.records.specs.Reading.{reading}
 use Rattle.records_write.specs.Encoding.{record_by, edit_for, record_of, job_of, SignedWord, Sixteen, AllSixteen, Bytes}
-use Rattle.records_write.specs.laws.Bytes as bytes
-use Rattle.records_write.specs.laws.Encoding as encoding
+use Rattle.records_write.proofs.laws.Bytes as bytes
+use Rattle.records_write.proofs.laws.Encoding as encoding
 
 -- the record of a mark is read back, whatever follows it, as the edit that it says
 pub mark_read : (name c₁ c₂ : ℕ) (k : ℤ) (n : ℕ) → SignedWord k → (rest : List ℕ) (m : Mark)

@@ -13,8 +13,8 @@ use Rattle.floatpath.specs.PathCall.{path_answer}
 use Rattle.wholepath_pieces.specs.Pieces.{spots_of, piece_at, spot_of}
 use Rattle.wholepath.specs.WholePath.{whole_answer}
 use Rattle.wholepath.specs.Tied.{SpotNear, Tied}
-use Rattle.wholepath.specs.laws.Tied as tied
-use Rattle.wholepath.specs.laws.Sense as sense
+use Rattle.wholepath.proofs.laws.Tied as tied
+use Rattle.wholepath.proofs.laws.Sense as sense
 
 -- "one per crossing or flat edge, then Close", and how many there can be
 pub whole_count : (t : List ℕ) (d y : ℕ) (points lifts : List ℤ) (k c r n : ℕ) → whole_answer t d y points lifts k c r ≡ Done n

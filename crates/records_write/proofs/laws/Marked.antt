@@ -9,7 +9,7 @@ use Rattle.records.specs.declared.records.Mark.{Mark}
 use Rattle.records.specs.declared.records.Marked.{Marked}
 use Rattle.records.specs.declared.records.Marked.TheVariants.{Known, Unknown}
 use Rattle.records_write.specs.Encoding.{record_by}
-use Rattle.records_write.specs.laws.Writing.{same}
+use Rattle.records_write.proofs.laws.Writing.{same}
 use Rattle.records_write.specs.Call.{record_answer, record_out, marked_answer, marked_out}
 
 module _ (name c₁ c₂ : ℕ) (k : ℤ) (n : ℕ) (out : List ℕ) {a : Answer} {out' : List ℕ} (f : SFits w16 k) where

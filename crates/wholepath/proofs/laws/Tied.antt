@@ -50,9 +50,10 @@ use Rattle.floatpath.specs.laws.Laying.{path_length as float-length}
 use Rattle.wholepath_pieces.specs.declared.piece.Spot.{Spot}
 use Rattle.wholepath_pieces.specs.declared.piece.Piece.TheVariants as wholePiece
 use Rattle.wholepath_pieces.specs.Pieces.{spots_of, crossing_number, letter_on, spot_at, whole_piece_for, whole_piece_on, piece_at, up_to, step_pieces, pieces_along, whole_path, whole_form_of, spot_of}
-use Rattle.wholepath_places.specs.laws.Between.{Crossing, crossing_few, remains_low}
+use Rattle.wholepath_places.specs.laws.Between.{Crossing}
+use Rattle.wholepath_places.proofs.laws.Between.{crossing_few, remains_low}
 use Rattle.wholepath_pieces.specs.laws.Pieces.{number_low, pieces_total, pieces_most, spots_few_lem}
-use Rattle.wholepath_pieces.specs.laws.Placed.{spot_here_lem, middle_lifted}
+use Rattle.wholepath_pieces.proofs.laws.Placed.{spot_here_lem, middle_lifted}
 use Rattle.wholepath.specs.WholePath.{whole_along, whole_by, whole_answer}
 use Rattle.wholepath.specs.Tied.{SpotNear, Tied}
 use Rattle.wholepath_writing.specs.laws.Written.{forms_length, words_length, rests_length}

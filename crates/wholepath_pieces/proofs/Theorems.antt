@@ -5,7 +5,7 @@ use Rattle.table.specs.Rotation.{rotation}
 use Rattle.tracing.specs.Step.{steps, mirror, back}
 use Rattle.wholepath_pieces.specs.Pieces.{spots_of, step_pieces, pieces_along}
 use Rattle.wholepath_pieces.specs.Placed.{SpotPlaced}
-use Rattle.wholepath_pieces.specs.laws.Placed as placed
+use Rattle.wholepath_pieces.proofs.laws.Placed as placed
 use Rattle.wholepath_pieces.specs.laws.Back as backward
 
 -- "at a plus (2j+1)(b-a)/(2n), rounded towards minus infinity, and the remainder, 0 to 2n-1": every coordinate of every piece

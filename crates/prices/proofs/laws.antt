@@ -1,0 +1,5 @@
+pub mod Ribbons
+pub mod Rows
+pub mod Sense
+pub mod Together
+pub mod Call

@@ -1,0 +1,4 @@
+pub mod Survey
+pub mod WholePath
+pub mod Tied
+pub mod Sense

@@ -1,6 +1,7 @@
 // The C interface: each function takes numbers and slices, and answers 0 or more, or minus the refusal's number.
 // A slice is a pointer and then its number of elements. `include/planner.h` declares the functions.
 #![tactic(auto)]
+
 ghost use Rattle.std.specs.Prelude.{◌≡◌, length};
 ghost use Rattle.table.specs.Answers.{code_of};
 ghost use Rattle.table.specs.Check.{check_of};

@@ -6,7 +6,7 @@ use Prim.Native.Nat.{◌-◌}
 use Rattle.job.proofs.print_report.Given as goal
 
 abbrev pub invariant-loop-out : goal.invariant-loop-out
-invariant-loop-out l = Showing l.t l.out l.from
+invariant-loop-out g l = Showing l.t l.out l.from
 
 abbrev pub decreases-loop-out : goal.decreases-loop-out
-decreases-loop-out l = length (report l.t) - l.from
+decreases-loop-out g l = length (report l.t) - l.from

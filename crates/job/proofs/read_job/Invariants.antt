@@ -5,7 +5,7 @@ use Prim.Native.Nat.{◌+◌, ◌-◌, ◌^◌}
 use Rattle.job.proofs.read_job.Given as goal
 
 abbrev pub invariant-loop-p : goal.invariant-loop-p
-invariant-loop-p l = Going l.initial.t l.t l.buf l.p
+invariant-loop-p g l = Going l.initial.t l.t l.buf l.p
 
 abbrev pub decreases-loop-p : goal.decreases-loop-p
-decreases-loop-p l = waiting l.p.going + (2 ^ 61 - l.p.read)
+decreases-loop-p g l = waiting l.p.going + (2 ^ 61 - l.p.read)

@@ -3,4 +3,4 @@ use Rattle.report.specs.laws.Window.{window_made}
 use Rattle.report.proofs.report.show.Goals as goal
 
 pub returns : goal.returns
-returns c = window_made c.args.t.now c.args.from c.args.out.now c.report-size.ensures c.report-size.auto.out.1.0 c.shown_of-shown.ensures
+returns c = window_made c.args.t.now c.args.from c.args.out.now c.report-size.ensures c.report-size.auto.out c.shown_of-shown.ensures

@@ -15,7 +15,7 @@ give_dart-requires-2 c = (omega arith, ap length c.give_dart.ensures ∙ give_le
 
 pub returns : goal.returns
 returns c = let q : Drawn c.args.s c.after_draw-once.result c.after_draw-twice.result c.after_draw-thrice.result c.draw-a.result c.draw-b.result =
-    record { c.after_draw-once = c.after_draw-once.ensures; c.after_draw-twice = c.after_draw-twice.ensures; c.after_draw-thrice = c.after_draw-thrice.ensures; first = c.draw-a.ensures; second = c.draw-b.ensures } in
+    record { once = c.after_draw-once.ensures; twice = c.after_draw-twice.ensures; thrice = c.after_draw-thrice.ensures; first = c.draw-a.ensures; second = c.draw-b.ensures } in
     let k = turns_are c.draw.result 1 (omega arith) (omega arith) in (
       drawn_state q c.args.corners.now c.args.e,
       c.write_ends.ensures ∙ ap (λ E. sets c.args.out.now (trial_size c.args.e) (record_of E)) (drawn_edge q c.args.corners.now c.args.e c.draw.ensures refl refl k),

@@ -1,4 +1,5 @@
 -- `writing::write_piece` meets its contract: one word, and three coordinates and three remainders from three times its index on.
+use borrow.Author.Rules.{rules}
 use Rattle.wholepath_writing.specs.laws.Written.{piece_written}
 use lib.ListN.{length-set}
 use native.Mathlib.Omega.{arith}
@@ -17,4 +18,4 @@ pub bounds-remainders-n-3 : goal.bounds-remainders-n-3
 bounds-remainders-n-3 c = rw (length-set, length-set) (omega arith)
 
 pub returns : goal.returns
-returns c = piece_written c.form_word.ensures c.spot_of-q.ensures (record { x = c.type_inv.q.0.1; y = c.type_inv.q.1.0.1; z = c.type_inv.q.1.1.0.1 })
+returns c = piece_written c.form_word.ensures c.spot_of-q.ensures (record { x = search rules; y = search rules; z = search rules })

@@ -2,6 +2,7 @@
 //! `rt fmt` keeps: a body's opening brace ends its line, and after a contract stands alone on it.
 
 use crate::header::{value, without_comments};
+use std::ops::RangeInclusive;
 
 pub struct Function {
     pub name: String,
@@ -13,6 +14,8 @@ pub struct Function {
     pub text: String,
     /// The lines between the body's braces.
     pub body: String,
+    /// The numbers of its lines, from the one that declares it to its last brace.
+    pub lines: RangeInclusive<usize>,
 }
 
 pub struct Struct {
@@ -44,8 +47,10 @@ pub fn apart(text: &str) -> (Vec<Function>, String) {
             let body = body(&lines[begin..]);
             let exported = line.contains("extern \"C\"") && has_attribute(&lines[..i], "#[unsafe(no_mangle)]");
             outside.push_str(&declared);
+            let declaring = i + 1;
             i = begin + body.lines().count();
-            found.push(Function { body, ..read_function(&without_comments(&declared), &line[at..], exported) });
+            let lines = declaring..=i + 1;
+            found.push(Function { body, lines, ..read_function(&without_comments(&declared), &line[at..], exported) });
         } else {
             outside.push_str(line);
             outside.push('\n');
@@ -92,7 +97,7 @@ fn read_function(text: &str, from_name: &str, exported: bool) -> Function {
     let (arguments, after) = rest.split_once('(').and_then(|(_, rest)| rest.split_once(')')).unwrap_or(("", ""));
     let answer = after.trim_start().strip_prefix("->").unwrap_or("").split_whitespace().next().unwrap_or("");
     let (answer, text) = (answer.to_string(), text.to_string());
-    Function { name, exported, arguments: pairs(arguments), answer, text, body: String::new() }
+    Function { name, exported, arguments: pairs(arguments), answer, text, body: String::new(), lines: 0..=0 }
 }
 
 impl Function {

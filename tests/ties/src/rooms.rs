@@ -65,7 +65,8 @@ fn without_comment(line: &str) -> &str {
 fn names_second_room(line: &str) -> bool {
     let in_path = |room: &str, at: usize| {
         let path = line[..at].rsplit([' ', '(', '{', ',']).next().unwrap_or("");
-        let to_module = line[at + room.len()..].strip_prefix('.').is_some_and(|name| name.starts_with(char::is_uppercase));
+        let to_module =
+            line[at + room.len()..].strip_prefix('.').is_some_and(|name| name.starts_with(char::is_uppercase));
         let is_path = path.split('.').any(|part| OF_A_PATH.contains(&part));
         path.ends_with('.') && (is_path || to_module || room.starts_with(char::is_uppercase))
     };

@@ -122,7 +122,8 @@ fn a_file_that_is_not_there() {
 #[test]
 fn theorems() {
     // They are cited alike whether they stand in specs/ or in proofs/.
-    let cited = |name: &str| TRIAL.whole(name).change(CLAIMS, "`table/Passing` `passed_on`", "`table/Theorems` `holds`");
+    let cited =
+        |name: &str| TRIAL.whole(name).change(CLAIMS, "`table/Passing` `passed_on`", "`table/Theorems` `holds`");
     let there = "pub holds : ℕ\n";
     TRIAL.found(&cited("theorems-specs").add("crates/table/specs/Theorems.antt", there), &[]);
     let in_proofs = "crates/table/proofs/Theorems.antt";
@@ -147,7 +148,11 @@ fn a_law() {
     );
     let moved = TRIAL.whole("law-moved").remove("crates/table/specs/laws/Deep.antt");
     let moved = moved.add("crates/table/proofs/laws/Deep.antt", "pub deep : ℕ\n");
-    let cited = moved.change(CLAIMS, "`table/Passing` `passed_on`", "`table/Deep`").change(CLAIMS, "`inner`;", "`inner`, `deep`;");
+    let cited = moved.change(CLAIMS, "`table/Passing` `passed_on`", "`table/Deep`").change(
+        CLAIMS,
+        "`inner`;",
+        "`inner`, `deep`;",
+    );
     TRIAL.found(&cited, &["declares no `deep` (table/laws/Deep does)", "specs/Deep.antt (it is a law)"]);
     TRIAL.after("law", CLAIMS, "`table/Passing` `passed_on`", "`table/laws/Deep`", &["cites a law"]);
     TRIAL.after("law-path", INDEX, "`Passing.antt`", "`crates/table/specs/laws/Deep.antt`", &["cites a law"]);
@@ -275,7 +280,8 @@ fn the_entries_of_the_c_interface() {
     let exit = ["`checked t ..` is not in the contract of planner_check"];
     TRIAL.after("exit", INTERFACE, "checked t.now out.old", "checked t.new out.old", &exit);
     TRIAL.after("written", INTERFACE, "checked t.now out.old", "checked t.old out.old", &exit);
-    let field = TRIAL.whole("field-of").change(INTERFACE, "checked t.now out.old", "(checked t.now out.old.words).left");
+    let field =
+        TRIAL.whole("field-of").change(INTERFACE, "checked t.now out.old", "(checked t.now out.old.words).left");
     TRIAL.found(&field.change(INDEX, "`checked t ..`", "`(checked t out.words).left`"), &[]);
     TRIAL.after(
         "renamed",

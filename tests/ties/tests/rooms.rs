@@ -39,13 +39,7 @@ fn a_definition_that_names_a_law() {
     TRIAL.after("listed", GOOD, "Layout.{words}", "{laws}", &["table/Good names a law"]);
     TRIAL.after("lines", GOOD, "Layout.{words}", "{\n  Layout,\n  laws as why,\n}", &["table/Good names a law"]);
     TRIAL.after("long-list", GOOD, "Layout.{words}", "Layout.{\n  words,\n  darts,\n}", &[]);
-    TRIAL.after(
-        "on",
-        GOOD,
-        "use Rattle.table.specs.Layout",
-        "pub use Rattle.table.specs.laws.Layout",
-        &["names"],
-    );
+    TRIAL.after("on", GOOD, "use Rattle.table.specs.Layout", "pub use Rattle.table.specs.laws.Layout", &["names"]);
     TRIAL.after("path", GOOD, "  pub laws : ", "  pub far : specs.laws.Deep.", &["table/Good names a law:   pub far"]);
     TRIAL.after("theorem", GOOD, "specs.Layout.", "specs.Theorems.", &["table/Good names a law"]);
     TRIAL.after("field", GOOD, "t.laws ", "t.laws.Deep ", &["table/Good names a law"]);
@@ -79,5 +73,6 @@ fn a_public_contract_that_names_a_law() {
     TRIAL.after("contract-path", WHOLE, "Good result Deeper", path, &["names `Deep`", "check has a path into laws/"]);
     let module = "ghost use Rattle.table.specs.laws.Rest as rest;\nghost use Rattle.table.specs.laws.Deep";
     let whole = TRIAL.whole("contract-module").change(WHOLE, "ghost use Rattle.table.specs.laws.Deep", module);
-    TRIAL.found(&whole.change(WHOLE, "Good result Deeper", "rest.good result"), &["the contract of check names `rest`"]);
+    TRIAL
+        .found(&whole.change(WHOLE, "Good result Deeper", "rest.good result"), &["the contract of check names `rest`"]);
 }

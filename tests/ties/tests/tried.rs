@@ -44,7 +44,8 @@ fn a_function_without_an_edit() {
         "pub fn own() /*\n    requires { nothing }\n*/",
         &["the body of own"],
     );
-    let named = TRIAL.whole("named").change(SUMS, "fn own()", "pub fn own()").change(SUMS, "result ≡ 7", "result ≡ requires 7");
+    let named =
+        TRIAL.whole("named").change(SUMS, "fn own()", "pub fn own()").change(SUMS, "result ≡ 7", "result ≡ requires 7");
     TRIAL.found(&named, &["the body of own"]);
 }
 

@@ -13,5 +13,6 @@ pub mod Faces
 pub mod MirrorExchange
 pub mod FaceExchange
 pub mod Follow
+pub mod Alone
 pub mod PassThrough
 pub mod Instances

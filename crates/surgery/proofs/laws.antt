@@ -3,6 +3,7 @@ pub mod Alike
 pub mod Bypass
 pub mod Without
 pub mod Exchanged
+pub mod TwoSides
 pub mod Through
 pub mod Seat
 pub mod SeatFollows

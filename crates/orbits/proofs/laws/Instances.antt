@@ -28,7 +28,8 @@ use Rattle.orbits.specs.Mirror.{Mirror}
 use Rattle.orbits.proofs.laws.Mirror.{mirror_world, period_half}
 use Rattle.orbits.specs.Faces.{face_classes, faced}
 use Rattle.orbits.proofs.laws.MirrorExchange.{exch2_mirror, exch2_less, exch2_more, exch2_same}
-use Rattle.orbits.proofs.laws.PassThrough.{reach_alone, faces_alone, pass_out_orbits}
+use Rattle.orbits.proofs.laws.Alone.{reach_alone}
+use Rattle.orbits.proofs.laws.PassThrough.{faces_alone, pass_out_orbits}
 
 all : ℕ → Bool
 all i = true

@@ -1,52 +1,26 @@
--- Points put into an orbit, or taken out. A number that f fixes is alone in its orbit. One that has a predecessor is taken
+-- Points put into an orbit, or taken out. A number that f fixes is alone in its orbit (`Alone`). One that has a predecessor is taken
 -- out by the exchange of the values at the two: the other orbits, and what is left of this one, stay.
---     reach_alone, orbits_alone, alone_world    a fixed number is alone; without it there is one orbit less
 --     faces_alone, alone_mirror                 a fixed number with its mirror: without the two one face less, and the mirror stays
 --     pass_out, pass_out_world                  f s = z: the map that goes from s straight to f z follows f on the other numbers
 --     pass_out_orbits                           so without z it has as many orbits as f
 use Rattle.std.specs.Prelude.{◌≡◌, refl, ◌≢◌, Bool, true, false, ℕ, suc, ◌<◌}
 use Rattle.std.proofs.Common.{sym, ◌∙◌, ap, arith}
 use Rattle.std.proofs.Math.Decide.{ℕ_discrete}
-use Rattle.orbits.proofs.laws.Truth.{clash, false_unless}
-use Rattle.orbits.proofs.laws.Count.{count_one, without, without_at, without_other, without_on}
-use Rattle.orbits.specs.Reach.{Reach, reaches}
-use Rattle.orbits.proofs.laws.Reach.{reach_here, reach_one, reach_sym, reach_ind}
-use Rattle.orbits.specs.Classes.{head, classes}
-use Rattle.orbits.proofs.laws.Classes.{least_says, head_live, head_says}
+use Rattle.orbits.proofs.laws.Truth.{clash}
+use Rattle.orbits.proofs.laws.Count.{without, without_at, without_other, without_on}
+use Rattle.orbits.proofs.laws.Reach.{reach_here, reach_one, reach_sym}
 use Rattle.orbits.specs.Orbits.{orbits, World, On}
-use Rattle.orbits.proofs.laws.Orbits.{reach_partition, reach_on}
+use Rattle.orbits.proofs.laws.Orbits.{reach_on}
 use Rattle.orbits.specs.Exchange.{exch}
 use Rattle.orbits.proofs.laws.Exchange.{exch_left, exch_right, exch_off, exch_world}
 use Rattle.orbits.proofs.laws.Swap.{position, at_left, at_right, off}
 use Rattle.orbits.specs.Mirror.{Mirror}
+use Rattle.orbits.proofs.laws.Alone.{alone_world, orbits_alone}
 use Rattle.orbits.proofs.laws.Mirror.{mirror_world, mirror_part, mirror_on, mirror_next}
 use Rattle.orbits.specs.Faces.{face_classes}
 use Rattle.orbits.proofs.laws.Faces.{orbits_pair}
 use Rattle.orbits.specs.Follow.{land, pass, Follows}
 use Rattle.orbits.proofs.laws.Follow.{orbits_follow}
-
--- a fixed number is alone in its orbit
-pub reach_alone : {f : ℕ → ℕ} {z j : ℕ} → f z ≡ z → Reach f z j → j ≡ z
-reach_alone {f} {z} {j} e r = reach_ind f (λ k. k ≡ z) z refl (λ k s q. ap f q ∙ e) j r
-
-pub alone_world : {N : ℕ} {f : ℕ → ℕ} {live : ℕ → Bool} {z : ℕ} → World N f live → z < N → f z ≡ z → World N f (without live z)
-alone_world {N} {f} {live} {z} W h e = record {
-  perm = W.perm;
-  inv = λ i l. elim (ℕ_discrete i z) [
-    | yes s ↦ rw (s, e)
-    | no d ↦ rw (without_other live z i d, without_other live z (f i) (λ q. d (W.perm.inj i z l h (q ∙ sym e)))) (W.inv i l)
-  ];
-}
-
-pub orbits_alone : {N : ℕ} {f : ℕ → ℕ} {live : ℕ → Bool} {z : ℕ} → World N f live → On N live z → f z ≡ z
-    → orbits f N live ≡ suc (orbits f N (without live z))
-unfolding orbits classes head
-orbits_alone {N} {f} {live} {z} W o e =
-    count_one (head (reaches f N) live) (head (reaches f N) (without live z)) z N o.lt
-    (head_says (reaches f N) live z o.on
-    (least_says (reach_partition W.perm) z o.lt (λ j l r. let s = reach_alone e r in omega arith)))
-    (false_unless _ (λ t. clash (head_live (reaches f N) (without live z) z t) (without_at live z)))
-    (λ i h d. rw (without_other live z i d))
 
 -- a fixed number and its mirror, which is fixed too: a face of their own
 module _ {N : ℕ} {f m : ℕ → ℕ} {live : ℕ → Bool} {z : ℕ} (E : Mirror N f m live) (o : On N live z) (e : f z ≡ z) where

@@ -14,7 +14,8 @@ use Rattle.tracing.proofs.laws.Place.{places, trace, flip}
 use Rattle.tracing.proofs.laws.Mirrored.{mirrored as tracing-mirror}
 use Rattle.surgery.specs.Without.{Without}
 use Rattle.surgery.proofs.laws.Exchanged.{exchanged_is}
-use Rattle.surgery.proofs.laws.Through.{near, far, through, through_other, through_exchanged, near_far}
+use Rattle.surgery.proofs.laws.TwoSides.{near, far}
+use Rattle.surgery.proofs.laws.Through.{through, through_other, through_exchanged, near_far}
 use Rattle.surgery.proofs.laws.Past.{faces_of, Parts, Inside, Outside, level_in, level_out, own_level, near_on, far_on, through_mirror, past_faces}
 
 module _ {R R' : Rotation} {e : ℕ} (L : Lawful R) (L' : Lawful R') (W : Without R e R') {P P' : ℕ → Bool} (K : Parts R e R' P P') where

@@ -23,7 +23,8 @@ use Rattle.tracing.proofs.laws.Mirrored.{mirrored as tracing-mirror}
 use Rattle.surgery.proofs.laws.Spin.{flip_spin}
 use Rattle.surgery.specs.Without.{Without}
 use Rattle.surgery.proofs.laws.Exchanged.{exchanged_is, exchanged_back}
-use Rattle.surgery.proofs.laws.Through.{parity_type, near, far, through, through_exchanged, near_far}
+use Rattle.surgery.proofs.laws.TwoSides.{near, far}
+use Rattle.surgery.proofs.laws.Through.{parity_type, through, through_exchanged, near_far}
 use Rattle.surgery.proofs.laws.Seat.{seat, past}
 use Rattle.surgery.proofs.laws.SeatFollows.{seat_follows, seat_flip}
 use Rattle.surgery.proofs.laws.Past.{faces_of, Parts, Inside, level_in, near_on, far_on, through_mirror, past_faces, past_reach}

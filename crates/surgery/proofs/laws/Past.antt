@@ -24,7 +24,8 @@ use Rattle.tracing.proofs.laws.Place.{places, trace, flip, on, trace_low, on_ste
 use Rattle.tracing.proofs.laws.Mirrored.{Part, whole, mirrored}
 use Rattle.surgery.specs.Without.{Without}
 use Rattle.surgery.proofs.laws.Exchanged.{exchanged_is, exchanged_keeps}
-use Rattle.surgery.proofs.laws.Through.{parity_low, near, far, through, through_exchanged, near_low, far_low, near_back, far_back, own_four}
+use Rattle.surgery.proofs.laws.TwoSides.{near, far}
+use Rattle.surgery.proofs.laws.Through.{parity_low, through, through_exchanged, near_low, far_low, near_back, far_back, own_four}
 use Rattle.surgery.proofs.laws.Seat.{seat, passed_over}
 use Rattle.surgery.proofs.laws.SeatFollows.{seat_follows}
 use Rattle.surgery.specs.Change.{parity}

@@ -18,7 +18,8 @@ use Rattle.tracing.proofs.laws.Mirrored.{Part}
 use Rattle.surgery.proofs.laws.Spin.{spin, spin_from, step_type?, trace_spin, flip_spin, other_type_lem}
 use Rattle.surgery.specs.Without.{Without}
 use Rattle.surgery.proofs.laws.Without.{were, here_both}
-use Rattle.surgery.proofs.laws.Through.{near, far, parity_low}
+use Rattle.surgery.proofs.laws.TwoSides.{near, far}
+use Rattle.surgery.proofs.laws.Through.{parity_low}
 use Rattle.surgery.proofs.laws.Seat.{seat, halves, Seated, a_step, a_vertex, a_bare, seated}
 use Rattle.surgery.proofs.laws.SeatFollows.{seat_follows}
 use Rattle.surgery.proofs.laws.Past.{Parts, Inside, Outside, inside_whole}

@@ -23,7 +23,8 @@ use Rattle.tracing.proofs.laws.FaceCount.{place_of, place_dart, place_lone}
 use Rattle.surgery.proofs.laws.Spin.{spin, spin_next}
 use Rattle.surgery.specs.Without.{Without}
 use Rattle.surgery.proofs.laws.Without.{here_both, kept, not_own, were, filled}
-use Rattle.surgery.proofs.laws.Through.{near, near_low, through}
+use Rattle.surgery.proofs.laws.TwoSides.{near}
+use Rattle.surgery.proofs.laws.Through.{near_low, through}
 use Rattle.surgery.proofs.laws.Past.{Parts, Inside, level_in, own_level, through_mirror}
 use Rattle.surgery.proofs.laws.Seat.{seat, seat_step, seat_bare, past}
 use Rattle.surgery.proofs.laws.SeatFollows.{meet_bare}

@@ -2,7 +2,7 @@
 -- exchange of tracing at the edge's two sides: the step by the first dart with type 0, and the step by the second dart that
 -- runs along the other side.
 --     parity_low, parity_type                                   the parity of the edge's turns is a type
---     near, far, near_far, near_low, far_low                    the two sides
+--     near_far, near_low, far_low                               the two sides (`TwoSides`)
 --     through, through_own, through_other                       tracing past the edge, and its values
 --     trace_near, trace_far, trace_near_back, trace_far_back    where tracing takes the edge's four steps
 --     near_back, far_back, far_back_back, own_four              the opposites of these; they are all of its steps
@@ -20,6 +20,7 @@ use Rattle.surgery.specs.Without.{apart}
 use Rattle.surgery.proofs.laws.Without.{apart_own, apart_other}
 use Rattle.surgery.proofs.laws.Exchanged.{Exchanged}
 use Rattle.surgery.specs.Change.{parity}
+use Rattle.surgery.proofs.laws.TwoSides.{near, far}
 
 pub parity_low : (R : Rotation) (e : ℕ) → parity R e < 2
 parity_low R e = omega arith
@@ -43,12 +44,6 @@ bit_even (is_one z) = omega arith
 bit_odd : {p : ℕ} → Type? p → (1 - p + p) % 2 ≡ 1
 bit_odd (is_zero z) = omega arith
 bit_odd (is_one z) = omega arith
-
-abbrev pub near : ℕ → ℕ
-near e = 4 * e
-
-abbrev pub far : Rotation → ℕ → ℕ
-far R e = 4 * e + 2 + parity R e
 
 pub near_far : (R : Rotation) (e : ℕ) → near e ≢ far R e
 near_far R e = omega arith

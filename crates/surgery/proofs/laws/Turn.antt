@@ -24,7 +24,8 @@ use Rattle.tracing.proofs.laws.Mirrored.{Part, mirrored as tracing-mirror}
 use Rattle.surgery.proofs.laws.Spin.{other_type_lem}
 use Rattle.surgery.proofs.laws.Alike.{alike_around, alike_flip, alike_trace}
 use Rattle.surgery.proofs.laws.Exchanged.{Exchanged, exchanged_is}
-use Rattle.surgery.proofs.laws.Through.{parity_low, parity_type, near, far, far_low, own_four, trace_near, trace_far, trace_near_back, trace_far_back, near_back, far_back, far_back_back}
+use Rattle.surgery.proofs.laws.TwoSides.{near, far}
+use Rattle.surgery.proofs.laws.Through.{parity_low, parity_type, far_low, own_four, trace_near, trace_far, trace_near_back, trace_far_back, near_back, far_back, far_back_back}
 use Rattle.surgery.proofs.laws.Past.{faces_of, Inside, level_in, own_level, near_on}
 use Rattle.surgery.specs.Turn.{Turned}
 use Rattle.surgery.specs.Change.{parity}

@@ -2,11 +2,22 @@
 PREFIX ?= /usr/local
 VERSION := 5.1.0
 
-.PHONY: all check uninstall install
+.PHONY: all library programs check uninstall install
 
-all:
-	rt staticlib planner
-	rt check job trial
+# `rt run` proves and builds a program, and then runs it: job on nothing, trial for a job of one edge.
+all: library
+	cd crates/job && rt run </dev/null >/dev/null
+	cd crates/trial && rt run -- 0 1 >/dev/null
+	$(MAKE) --no-print-directory programs
+
+# `rt` leaves what it builds in the out/ of its crate; these put it where the documents say that it is.
+library:
+	cd crates/planner && rt lib
+	install -D -m 644 crates/planner/out/libplanner.a target/staticlib/libplanner.a
+
+programs:
+	install -D -m 755 crates/job/out/job target/bin/job
+	install -D -m 755 crates/trial/out/trial target/bin/trial
 
 # The gate.
 check:

@@ -14,6 +14,14 @@ pub struct Declared {
 }
 
 impl Declared {
+    /// What both declare.
+    pub fn with(mut self, other: Declared) -> Declared {
+        self.names.extend(other.names);
+        self.fields.extend(other.fields);
+        self.inner.extend(other.inner);
+        self
+    }
+
     pub fn all(&self) -> BTreeSet<String> {
         [&self.names, &self.fields, &self.inner].into_iter().flatten().cloned().collect()
     }

@@ -1,7 +1,7 @@
 //! What a document cites. The grammar stands at the head of docs/CLAIMS.md, "How to read them"; what does not fit it is a fault.
 
 use crate::markdown::{spans, Block, Mark, Span};
-use crate::tree::Tree;
+use crate::tree::{Tree, THEOREMS};
 use crate::{rattle, rooms};
 use std::collections::BTreeSet;
 
@@ -167,12 +167,13 @@ impl<'a> Citations<'a> {
         None
     }
 
-    /// `table/Good`, `crates/table/specs/Good.antt`, or `Good.antt` in the folder named last.
+    /// `table/Good`, `crates/table/specs/Good.antt`, or `Good.antt` of the crate named last.
     fn spec_of(&self, text: &str) -> Option<Spec> {
         let parts: Vec<&str> = text.split('/').collect();
         let (name, file) = match parts[..] {
             [name, file] if !file.contains('.') => (name.to_string(), file),
             ["crates", name, "specs", file] => (name.to_string(), file.strip_suffix(".antt")?),
+            ["crates", name, "proofs", "Theorems.antt"] => (name.to_string(), THEOREMS),
             [file] => (self.folder.clone()?, file.strip_suffix(".antt")?),
             _ => return None,
         };
@@ -222,7 +223,7 @@ impl<'a> Citations<'a> {
 
     fn file_is_missing(&mut self, span: &Span, spec: &Spec) {
         let Spec { name, file } = spec;
-        let law = self.tree.has(&format!("crates/{name}/specs/laws/{file}.antt"));
+        let law = self.tree.spec(name, &format!("laws/{file}")).is_some();
         let hint = if law { " (it is a law)" } else { "" };
         self.fault(span.line, format!("there is no crates/{name}/specs/{file}.antt{hint}"));
     }
@@ -288,7 +289,7 @@ fn ends_with_contract(before: &str) -> bool {
 
 /// A name of a spec or a function: letters, digits, and the signs that names are made of.
 fn is_name(text: &str) -> bool {
-    text.starts_with(|c: char| c.is_alphabetic()) && text.chars().all(|c| c.is_alphanumeric() || "-_?′".contains(c))
+    text.starts_with(|c: char| c.is_alphabetic()) && text.chars().all(|c| c.is_alphanumeric() || "-_?'′".contains(c))
 }
 
 /// The name of a crate or a wrong program.

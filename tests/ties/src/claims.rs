@@ -90,7 +90,7 @@ fn read_expressions(citations: &mut Citations, block: &Block, call: &str, functi
     let Some(function) = function else {
         return citations.fault(block.line, format!("{INTERFACE} has no function {call}"));
     };
-    let contract = plainly(&function.text);
+    let contract = plainly(function);
     for span in citations.spans_of(block).0 {
         if !contains(&contract, &span.text) {
             citations.fault(span.line, format!("`{}` is not in the contract of {}", span.text, function.name));
@@ -98,30 +98,47 @@ fn read_expressions(citations: &mut Citations, block: &Block, call: &str, functi
     }
 }
 
-/// A contract as the claims write it: `x` for a lent slice as it was before the call.
-fn plainly(contract: &str) -> String {
-    let text = contract.split_whitespace().collect::<Vec<_>>().join(" ");
-    let mut pieces = text.split("(now (");
-    let mut plain = pieces.next().unwrap_or("").to_string();
-    for piece in pieces {
-        match piece.split_once(" .entry))") {
-            Some((name, after)) if !name.contains(' ') => plain.extend([name, after]),
-            _ => plain.extend(["(now (", piece]),
-        }
+/// A contract as the claims write it: `x` for a lent slice as it was before the call, which is `x.now` where it is lent to be read, and else `x.old`.
+fn plainly(function: &Function) -> String {
+    let text = function.text.split_whitespace().collect::<Vec<_>>().join(" ");
+    let before = |text: String, (argument, kind): &(String, String)| match kind.strip_prefix('&') {
+        Some(lent) => unmarked(&text, argument, if lent.starts_with("mut ") { ".old" } else { ".now" }),
+        None => text,
+    };
+    function.arguments.iter().fold(text, before)
+}
+
+/// The text with `name` in the place of `name` and its mark, where these are whole words.
+fn unmarked(text: &str, name: &str, mark: &str) -> String {
+    let marked = format!("{name}{mark}");
+    let (mut plain, mut rest) = (String::new(), text);
+    while let Some(at) = rest.find(&marked) {
+        let (before, after) = (&rest[..at], &rest[at + marked.len()..]);
+        // A field may follow, `x.old.code`.
+        let whole = !ends_in_word(before) && (after.starts_with('.') || !begins_in_word(after));
+        plain.extend([before, if whole { name } else { &marked }]);
+        rest = after;
     }
-    plain
+    plain + rest
+}
+
+fn of_a_word(c: char) -> bool {
+    c.is_alphanumeric() || "-_?'′.".contains(c)
+}
+
+fn ends_in_word(text: &str) -> bool {
+    text.ends_with(of_a_word)
+}
+
+fn begins_in_word(text: &str) -> bool {
+    text.starts_with(of_a_word)
 }
 
 /// Does the text have the pieces of the expression, whole words, in their order; `..` stands for anything.
 fn contains(text: &str, expression: &str) -> bool {
     let mut rest = text;
     for piece in expression.split("..").map(str::trim).filter(|piece| !piece.is_empty()) {
-        let whole = |at: &usize| {
-            let before = rest[..*at].chars().next_back();
-            let after = rest[at + piece.len()..].chars().next();
-            let part_of_word = |c: Option<char>| c.is_some_and(|c| c.is_alphanumeric() || "-_?′.".contains(c));
-            !part_of_word(before) && !part_of_word(after)
-        };
+        let whole = |at: &usize| !ends_in_word(&rest[..*at]) && !begins_in_word(&rest[at + piece.len()..]);
         match rest.match_indices(piece).map(|(at, _)| at).find(whole) {
             Some(at) => rest = &rest[at + piece.len()..],
             None => return false,

@@ -5,7 +5,7 @@
 //! the constants and types that are listed here by name; the table is indexed, measured and lent on, and nothing else is done with it. So no word is read
 //! elsewhere, and none is kept.
 
-use crate::rattle::Function;
+use crate::rattle::{self, Function};
 use crate::tree::Tree;
 use std::collections::{BTreeMap, BTreeSet};
 
@@ -257,9 +257,8 @@ fn imports(tree: &Tree) -> Vec<String> {
             CONSTANTS.contains(&name) || TYPES.contains(&name) || is_below || is_function_of(tree, own, name)
         };
         let text = tree.read(&path).unwrap_or_default();
-        for name in text.lines().filter_map(|line| line.trim_start().trim_start_matches("pub ").strip_prefix("use ")) {
-            let name = name.trim_end_matches(';');
-            let whole = name.strip_prefix("crate::").map_or(name.to_string(), |rest| format!("{of}::{rest}"));
+        for name in rattle::uses(&text) {
+            let whole = name.strip_prefix("crate::").map_or(name.clone(), |rest| format!("{of}::{rest}"));
             if !may_use(&whole) {
                 faults.push(format!(
                     "{path} uses `{name}`, which is neither a constant or a type of the table nor its own"

@@ -26,15 +26,14 @@ pub fn faults(tree: &Tree) -> Vec<String> {
     for name in tree.crates() {
         let files = tree.files_of_both_rooms(&name).into_iter();
         for file in files.filter(|file| !matches!(file.as_str(), "Lib" | "laws")) {
-            faults.extend(in_file(tree, &name, &file));
+            faults.extend(tree.paths_of_spec(&name, &file).iter().flat_map(|path| in_file(tree, path)));
         }
     }
     faults
 }
 
-fn in_file(tree: &Tree, name: &str, file: &str) -> Vec<String> {
-    let path = format!("crates/{name}/specs/{file}.antt");
-    let text = tree.read(&path).unwrap_or_default();
+fn in_file(tree: &Tree, path: &str) -> Vec<String> {
+    let text = tree.read(path).unwrap_or_default();
     let head: Vec<&str> = text.lines().take_while(|line| line.starts_with("--")).collect();
     let says = head.first().is_some_and(|line| line.starts_with(COMMENT) && !line.starts_with(LIST));
     let list: Vec<(usize, &str)> = head.iter().enumerate().filter_map(|(i, line)| Some((i + 1, item(line)?))).collect();

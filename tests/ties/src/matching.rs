@@ -80,7 +80,8 @@ fn functions_apart(header: &Header, functions: &[Function]) -> Vec<String> {
     let mut faults = Vec::new();
     for function in functions.iter().filter(|function| function.name.starts_with("planner_")) {
         if !function.exported {
-            faults.push(format!("{EXPORTS}: {} is not exported by #[no_mangle] and extern \"C\"", function.name));
+            faults
+                .push(format!("{EXPORTS}: {} is not exported by #[unsafe(no_mangle)] and extern \"C\"", function.name));
         }
         match header.prototypes.iter().filter(|prototype| prototype.name == function.name).count() {
             0 => faults.push(format!("{HEADER}: {} is missing", function.name)),

@@ -1,6 +1,6 @@
 //! The order in which a reviewer reads the definitions, at the end of docs/CLAIMS.md, has every file of the first room: who reads along it has read all that
-//! is claimed. A path `crates/CRATE/specs/FILE.antt` names its crate, and `FILE.antt` after it stands for the same crate. That the files named are there is
-//! seen with the other citations.
+//! is claimed. A path `crates/CRATE/specs/FILE.antt` names its crate, and `FILE.antt` after it stands for the same crate, also `Theorems.antt` where that
+//! stands in proofs/. That the files named are there is seen with the other citations.
 
 use crate::tree::Tree;
 use std::collections::BTreeSet;
@@ -34,7 +34,7 @@ fn named(order: &str) -> BTreeSet<(String, String)> {
     let mut named = BTreeSet::new();
     for file in order.split('`').skip(1).step_by(2).filter_map(|text| text.strip_suffix(".antt")) {
         let name = match file.split('/').collect::<Vec<_>>()[..] {
-            ["crates", name, "specs", file] => {
+            ["crates", name, "specs" | "proofs", file] => {
                 of = name.to_string();
                 file
             }

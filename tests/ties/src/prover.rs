@@ -5,7 +5,7 @@ use std::collections::BTreeMap;
 
 /// An error, with the lines that go on.
 pub struct Error {
-    /// The path as it is printed: it ends with that of the file in the crate.
+    /// The path of the file in the crate; empty where none is named.
     pub path: String,
     /// The declaration that was refused; empty where none is named.
     pub need: String,
@@ -18,24 +18,32 @@ impl Error {
     pub fn is_of_a_fact(&self) -> bool {
         let begins = BEGINS.iter().any(|fact| self.text.starts_with(fact));
         let fact = begins || WITHIN.iter().any(|fact| self.text.contains(fact));
-        !self.need.is_empty() && fact && !self.text.contains(ANOTHER_NEED)
+        !self.need.is_empty() && fact && !self.text.contains(ANOTHER_PLACE)
     }
 
-    /// Is it only that the declaration rests on another that was refused.
+    /// Is it only that declarations rest on another that was refused: `2 declarations that depend on `NEED`, which was rejected, were not checked: ..`.
     pub fn follows(&self) -> bool {
-        self.text.contains("` was not admitted (")
+        let Some((count, told)) = self.text.split_once(' ') else { return false };
+        let depends = ["declaration that depends on `", "declarations that depend on `"];
+        let refused = ["`, which was rejected, w", "`, which was not admitted, w"];
+        count.chars().all(|c| c.is_ascii_digit())
+            && depends.iter().any(|depends| told.starts_with(depends))
+            && refused.iter().any(|refused| told.contains(refused))
     }
 }
 
 /// How errors begin in which two types or values differ, a goal does not follow, or an equation does not bear on it.
-const BEGINS: [&str; 7] = [
+const BEGINS: [&str; 10] = [
     "as printed, the two ",
     "computed as far as they go, the two ",
     "expected type `",
     "`omega`: the goal does not follow from what it read. All of that holds, and the goal fails, at ",
+    "`omega`: the part `",
+    "`grind`: the goal does not follow. The hypotheses hold, and ",
     "`search`: no proof of `",
     "`rw`: no occurrence of the path's left endpoint in the ",
-    "`simp`: no equation of the list has an instance in the goal",
+    "`simp`: no equation of the list can be applied in `",
+    "`simp`: no equation of the list has an instance where it is tried in `",
 ];
 
 /// What stands in errors that begin with the two sides of a comparison, or with advice.
@@ -44,8 +52,8 @@ const WITHIN: [&str; 2] = [
     "` has no last argument, so what it leaves must be a path whose two ends are equal",
 ];
 
-/// Where a proof's parts are put together and one is that of another need: the wrong program has more operations, or fewer.
-const ANOTHER_NEED: &str = "expected type `tie.Need-";
+/// Where what is known at one place of the code is handed over as what is known at another: the wrong program has other steps.
+const ANOTHER_PLACE: &str = "expected type `Lts.View.";
 
 /// What is said of a function.
 pub enum Verdict {
@@ -58,9 +66,18 @@ pub enum Verdict {
     },
 }
 
+/// A need that no proof file answers and that the search left open.
+pub struct Open {
+    /// The source's path in the crate, and the line in it.
+    pub path: String,
+    pub line: usize,
+    pub need: String,
+}
+
 #[derive(Default)]
 pub struct Said {
     pub errors: Vec<Error>,
+    pub open: Vec<Open>,
     /// By the functions' paths.
     pub verdicts: BTreeMap<String, Verdict>,
     /// That the crate is not proved.
@@ -81,33 +98,56 @@ pub fn read(log: &str) -> Said {
         } else {
             in_error = false;
             said.verdicts.extend(verdict(line));
+            said.open.extend(open(line));
             said.refused |= line == "logic=not-proved";
         }
     }
     said
 }
 
-/// `PATH:LINE:COLUMN: error: `NEED`: TEXT`.
+/// `PATH:LINE:COLUMN: error: `NEED`: TEXT`. Where the sources are refused before any proof, it is `error[NAME]`.
 fn error(line: &str) -> Option<Error> {
-    let (at, told) = line.split_once(": error: ")?;
+    let (at, told) = match line.strip_prefix("error") {
+        Some(told) => ("", told),
+        None => line.split_once(": error")?,
+    };
+    let told = told.strip_prefix(": ").or(Some(told).filter(|told| told.starts_with('[')))?;
     let (need, text) = told.strip_prefix('`').and_then(|told| told.split_once("`: ")).unwrap_or(("", told));
-    let path = at.rsplitn(3, ':').nth(2).unwrap_or(at);
-    Some(Error { path: path.to_string(), need: need.to_string(), text: text.to_string() })
+    Some(Error { path: place(at)?.0, need: need.to_string(), text: text.to_string() })
 }
 
-/// `fn FUNCTION: proved`, `fn FUNCTION: not proved`, or `fn FUNCTION: no proof: ..` where it has no proof file. After `; ` stands why: `it calls ..`, that its
-/// proof is by hand, or ``search` does not close `NEED`, `NEED``.
+/// `PATH:LINE:COLUMN` without the column; nothing where nothing stands.
+fn place(at: &str) -> Option<(String, usize)> {
+    if at.is_empty() {
+        return Some((String::new(), 0));
+    }
+    let [_, line, path] = at.rsplitn(3, ':').collect::<Vec<_>>()[..] else { return None };
+    Some((path.strip_prefix("./").unwrap_or(path).to_string(), line.parse().ok()?))
+}
+
+/// `note: PATH:LINE:COLUMN: it is not proved that .. (`NEED`)`.
+fn open(line: &str) -> Option<Open> {
+    let (at, told) = line.strip_prefix("note: ")?.split_once(": it is not proved that ")?;
+    let (_, need) = told.split_once("(`")?;
+    let (path, line) = place(at)?;
+    Some(Open { path, line, need: need.split_once("`)")?.0.to_string() })
+}
+
+/// `fn FUNCTION: proved`, `fn FUNCTION: not proved`, or `fn FUNCTION: no proof: ..` where it has no proof file. After `: ` or `; ` stands why: `it calls ..`, that
+/// its proof is by hand, or ``search` did not prove `NEED`, `NEED` and `NEED``.
 fn verdict(line: &str) -> Option<(String, Verdict)> {
     let (function, told) = line.strip_prefix("fn ")?.split_once(": ")?;
-    let (told, why) = told.split_once("; ").unwrap_or((told, ""));
+    let told = told.strip_prefix("no proof: ").map_or(told.to_string(), |why| format!("no proof; {why}"));
+    let (told, why) = told.split_once("; ").unwrap_or((&told, ""));
+    let whys = || why.split("; ").filter(|why| !why.starts_with("expected answers in "));
     let verdict = if told == "proved" && why.is_empty() {
         Verdict::Proved
-    } else if told != "not proved" && !told.starts_with("no proof: ") {
+    } else if told != "not proved" && (told != "no proof" || why.is_empty()) {
         return None;
-    } else if why.split("; ").any(|why| why.starts_with("it calls `")) {
+    } else if whys().any(|why| why.starts_with("it calls `")) {
         Verdict::Follows
-    } else if let Some(open) = why.strip_prefix("`search` does not close ") {
-        Verdict::Fails { open: open.split(", ").map(bare).collect() }
+    } else if let Some(open) = whys().find_map(|why| why.strip_prefix("`search` did not prove ")) {
+        Verdict::Fails { open: open.split(", ").flat_map(|open| open.split(" and ")).map(bare).collect() }
     } else if why.is_empty() || why.starts_with(BY_HAND) {
         Verdict::Fails { open: Vec::new() }
     } else {

@@ -2,6 +2,7 @@
 //! `rt fmt` keeps: a body's opening brace ends its line, and after a contract stands alone on it.
 
 use crate::header::{value, without_comments};
+use std::ops::RangeInclusive;
 
 pub struct Function {
     pub name: String,
@@ -13,6 +14,8 @@ pub struct Function {
     pub text: String,
     /// The lines between the body's braces.
     pub body: String,
+    /// The numbers of its lines, from the one that declares it to its last brace.
+    pub lines: RangeInclusive<usize>,
 }
 
 pub struct Struct {
@@ -42,10 +45,12 @@ pub fn apart(text: &str) -> (Vec<Function>, String) {
             let declared = declaration(&lines[i..]);
             let begin = i + declared.lines().count();
             let body = body(&lines[begin..]);
-            let exported = line.contains("extern \"C\"") && i > 0 && lines[i - 1].trim() == "#[no_mangle]";
+            let exported = line.contains("extern \"C\"") && has_attribute(&lines[..i], "#[unsafe(no_mangle)]");
             outside.push_str(&declared);
+            let declaring = i + 1;
             i = begin + body.lines().count();
-            found.push(Function { body, ..read_function(&without_comments(&declared), &line[at..], exported) });
+            let lines = declaring..=i + 1;
+            found.push(Function { body, lines, ..read_function(&without_comments(&declared), &line[at..], exported) });
         } else {
             outside.push_str(line);
             outside.push('\n');
@@ -53,6 +58,12 @@ pub fn apart(text: &str) -> (Vec<Function>, String) {
         }
     }
     (found, outside)
+}
+
+/// Does one of the attributes that end these lines, a line each, stand for what is declared below them.
+fn has_attribute(above: &[&str], attribute: &str) -> bool {
+    let attributes = above.iter().rev().map(|line| line.trim()).take_while(|line| line.starts_with("#["));
+    attributes.into_iter().any(|line| line == attribute)
 }
 
 /// Where the name begins in a line that declares a function.
@@ -86,20 +97,19 @@ fn read_function(text: &str, from_name: &str, exported: bool) -> Function {
     let (arguments, after) = rest.split_once('(').and_then(|(_, rest)| rest.split_once(')')).unwrap_or(("", ""));
     let answer = after.trim_start().strip_prefix("->").unwrap_or("").split_whitespace().next().unwrap_or("");
     let (answer, text) = (answer.to_string(), text.to_string());
-    Function { name, exported, arguments: pairs(arguments), answer, text, body: String::new() }
+    Function { name, exported, arguments: pairs(arguments), answer, text, body: String::new(), lines: 0..=0 }
 }
 
 impl Function {
     pub fn has_contract(&self) -> bool {
-        self.text.contains("ensures {")
+        self.text.lines().any(|line| begins_clause(line, "ensures"))
     }
 
     /// What it promises to who calls it, without what it asks: each clause of a contract begins a line.
     pub fn promise(&self) -> String {
         let mut within = false;
         let lines = self.text.lines().filter(|line| {
-            let start = line.trim_start();
-            within = start.starts_with("ensures {") || (within && !start.starts_with("requires {"));
+            within = begins_clause(line, "ensures") || (within && !begins_clause(line, "requires"));
             within
         });
         lines.flat_map(|line| [line, "\n"]).collect()
@@ -116,13 +126,19 @@ impl Function {
 
     /// Does it ask something of who calls it: each clause of a contract begins a line.
     pub fn asks(&self) -> bool {
-        self.text.lines().any(|line| line.trim_start().starts_with("requires {"))
+        self.text.lines().any(|line| begins_clause(line, "requires"))
     }
 
     /// Can be called from outside, and asks nothing of who does.
     pub fn is_open(&self) -> bool {
         self.is_public() && !self.asks()
     }
+}
+
+/// Is it the first line of a clause: `requires { .. }`, or one with a name, `requires low { .. }`.
+fn begins_clause(line: &str, kind: &str) -> bool {
+    let after = line.trim_start().strip_prefix(kind);
+    after.is_some_and(|after| !after.starts_with(|c: char| c.is_alphanumeric() || c == '_'))
 }
 
 pub fn structs(text: &str) -> Vec<Struct> {
@@ -134,7 +150,7 @@ pub fn structs(text: &str) -> Vec<Struct> {
             let name = rest.chars().take_while(|c| c.is_alphanumeric()).collect();
             let body: Vec<&str> =
                 lines[i + 1..].iter().map(|line| line.trim()).take_while(|line| *line != "}").collect();
-            let repr_c = i > 0 && lines[i - 1].trim() == "#[repr(C)]";
+            let repr_c = has_attribute(&lines[..i], "#[repr(C)]");
             found.push(Struct { name, repr_c, fields: pairs(&body.join(" ")) });
         }
     }
@@ -159,8 +175,49 @@ fn pairs(text: &str) -> Vec<(String, String)> {
         .collect()
 }
 
-/// Where the source takes a name from: `use a::b::Name;` gives a::b.
+/// Where the source takes a name from: `use a::b::Name;` gives a::b, and so does `use a::b::{Name, Other};`.
 pub fn used_from(text: &str, name: &str) -> Option<String> {
-    let end = format!("::{name};");
-    text.lines().find_map(|line| line.strip_prefix("use ")?.strip_suffix(&end).map(String::from))
+    let end = format!("::{name}");
+    uses(text).into_iter().find_map(|used| used.strip_suffix(&end).map(String::from))
+}
+
+/// What a source brings in, each with its whole path: `use a::{b, c::{d, e as f}};`, in one line or several, brings a::b, a::c::d and a::c::e as f.
+pub fn uses(text: &str) -> Vec<String> {
+    let mut found = Vec::new();
+    let mut open: Option<String> = None;
+    for line in code(text).into_iter().map(str::trim) {
+        let begun = line.strip_prefix("pub ").unwrap_or(line).strip_prefix("use ").map(String::from);
+        let Some(statement) = open.take().map(|open| open + " " + line).or(begun) else { continue };
+        match statement.split_once(';') {
+            Some((tree, _)) => found.extend(leaves("", tree.trim())),
+            None => open = Some(statement),
+        }
+    }
+    found
+}
+
+/// The paths of what stands after `use`, below this one.
+fn leaves(below: &str, tree: &str) -> Vec<String> {
+    let Some((front, list)) = tree.split_once('{') else { return vec![format!("{below}{tree}")] };
+    let below = format!("{below}{front}");
+    let list = list.trim().strip_suffix('}').unwrap_or(list);
+    parts(list).into_iter().flat_map(|part| leaves(&below, part)).collect()
+}
+
+/// The parts of a list that commas separate; those within braces do not.
+fn parts(list: &str) -> Vec<&str> {
+    let (mut depth, mut begin, mut found) = (0, 0, Vec::new());
+    for (at, c) in list.char_indices() {
+        match c {
+            '{' => depth += 1,
+            '}' => depth -= 1,
+            ',' if depth == 0 => {
+                found.push(&list[begin..at]);
+                begin = at + 1;
+            }
+            _ => {}
+        }
+    }
+    found.push(&list[begin..]);
+    found.into_iter().map(str::trim).filter(|part| !part.is_empty()).collect()
 }

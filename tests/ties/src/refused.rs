@@ -1,12 +1,13 @@
-//! Every wrong program is refused at its own need, for a fact. `rt ci` has seen that each must-fail edit as a whole is refused; here its log
-//! (target/must-fail/CRATE/EDIT/.log) is read, and each of its wrong programs must have an error at the place that its section names. Every error is of a fact,
-//! or follows from one that is, and no function fails of its own but those that the edit changes. A log that is missing, is of other sources, or has an
-//! error that is not understood is a fault.
+//! Every wrong program is refused at its own need, for a fact. `rt ci` has seen that each must-fail edit as a whole is refused; here what the prover said of it
+//! is read, target/must-fail/CRATE/EDIT/.log, which `tests/try-edits` keeps, and each of its wrong programs must have an error at the place that its section
+//! names. Every error is of a fact, or follows from one that is, and no function fails of its own but those that the edit changes. A log that is missing, is
+//! of other sources, or has an error that is not understood is a fault.
 
-use crate::prover::{self, Said, Verdict};
+use crate::prover::{self, Open, Said, Verdict};
 use crate::sections::{self, owner};
 use crate::tree::Tree;
 use crate::wrong::{Edit, Place};
+use std::collections::BTreeMap;
 
 /// One line for each fault.
 pub fn faults(tree: &Tree) -> Vec<String> {
@@ -29,47 +30,57 @@ pub fn faults(tree: &Tree) -> Vec<String> {
 fn in_log(tree: &Tree, of: &str, edit: &Edit) -> Vec<String> {
     let tried = format!("target/must-fail/{of}/{}", edit.name);
     let Some(log) = tree.read(&format!("{tried}/.log")) else {
-        return vec![format!("there is no {tried}/.log; `rt ci` makes it")];
+        return vec![format!("there is no {tried}/.log; tests/try-edits makes it")];
     };
     let said = prover::read(&log);
     if !said.refused {
         return vec!["the prover did not say that it is not proved".to_string()];
     }
+    let files = match sections::after(tree, of, edit) {
+        Ok(changed) => files(tree, of, changed),
+        Err(fault) => return vec![fault],
+    };
     let mut faults = Vec::new();
-    if !is_of_these_sources(tree, of, edit, &tried) {
-        faults.push(format!("{tried} is not this edit of these sources; `rt ci` tries it again"));
+    if tree.read(&format!("{tried}/.sources")) != Some(sources(&files)) {
+        faults.push(format!("{tried} is not this edit of these sources; tests/try-edits tries it again"));
     }
     for wrong in &edit.wrongs {
-        for place in wrong.places.iter().filter(|place| !refuses(&said, &tried, place)) {
+        for place in wrong.places.iter().filter(|place| !refuses(&said, of, &files, place)) {
             faults.push(format!("{}: no fact is refused at {place}", wrong.name));
         }
     }
-    faults.extend(of_shape(&said, &tried));
+    faults.extend(of_shape(&said));
     faults.extend(failing_besides(tree, of, edit, &said));
     faults
 }
 
 /// Errors that show nothing: a proof that no longer fits the code is refused whatever the code does.
-fn of_shape(said: &Said, tried: &str) -> Vec<String> {
+fn of_shape(said: &Said) -> Vec<String> {
     let of_shape = said.errors.iter().filter(|error| !error.is_of_a_fact() && !error.follows());
     of_shape
         .map(|error| {
-            let file = error.path.split_once(&format!("{tried}/")).map_or(error.path.as_str(), |(_, file)| file);
             let begin: String = error.text.chars().take(60).collect();
-            format!("{file} {} is refused for its shape: {begin}", error.need)
+            format!("{} {} is refused for its shape: {begin}", error.path, error.need)
         })
         .collect()
 }
 
 /// Has the prover refused a fact there.
-fn refuses(said: &Said, tried: &str, place: &Place) -> bool {
+fn refuses(said: &Said, of: &str, files: &BTreeMap<String, String>, place: &Place) -> bool {
     match place {
         Place::In { file, need } => {
-            let path = format!("{tried}/{file}");
-            said.errors.iter().any(|error| error.need == *need && error.path.ends_with(&path) && error.is_of_a_fact())
+            said.errors.iter().any(|error| error.need == *need && error.path == *file && error.is_of_a_fact())
         }
         Place::Of { function, need } => {
-            matches!(said.verdicts.get(function), Some(Verdict::Fails { open }) if open.contains(need))
+            let left_open = |open: &Open| {
+                let text = files.get(&open.path).map_or("", String::as_str);
+                open.need == *need && sections::function_at(of, &open.path, text, open.line).as_ref() == Some(function)
+            };
+            match said.verdicts.get(function) {
+                Some(Verdict::Fails { open }) => open.contains(need) || said.open.iter().any(left_open),
+                Some(Verdict::Follows) => said.open.iter().any(left_open),
+                Some(Verdict::Proved) | None => false,
+            }
         }
     }
 }
@@ -91,13 +102,16 @@ fn failing_besides(tree: &Tree, of: &str, edit: &Edit, said: &Said) -> Vec<Strin
     faults
 }
 
-/// Is what was checked this edit, of the crate as it is now.
-fn is_of_these_sources(tree: &Tree, of: &str, edit: &Edit, tried: &str) -> bool {
-    let Ok(changed) = sections::after(tree, of, edit) else { return false };
-    let files = tree.files_below(&format!("crates/{of}"), &["src", "specs", "proofs"]);
-    let same = |file: &String| {
-        let expected = changed.get(file).cloned().or_else(|| tree.read(&format!("crates/{of}/{file}")));
-        tree.read(&format!("{tried}/{file}")) == expected
-    };
-    files == tree.files_below(tried, &["src", "specs", "proofs"]) && files.iter().all(same)
+/// The files of a crate as an edit leaves them, by their paths in it.
+fn files(tree: &Tree, of: &str, mut changed: BTreeMap<String, String>) -> BTreeMap<String, String> {
+    for file in tree.files_below(&format!("crates/{of}"), &["src", "specs", "proofs"]) {
+        let text = || tree.read(&format!("crates/{of}/{file}")).unwrap_or_default();
+        changed.entry(file.clone()).or_insert_with(text);
+    }
+    changed
+}
+
+/// They in one text, as `tests/try-edits` writes them: each below its path and its size.
+pub fn sources(files: &BTreeMap<String, String>) -> String {
+    files.iter().map(|(path, text)| format!("== {path} {}\n{text}\n", text.len())).collect()
 }

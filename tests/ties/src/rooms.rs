@@ -1,4 +1,4 @@
-//! The two rooms of the specs: what is believed stands in specs/, why it holds in specs/laws/. A file of the first room names
+//! The two rooms of the specs: what is believed stands in specs/, why it holds in specs/laws/ or proofs/. A file of the first room names
 //! nothing of the second, and no theorem; but for a crate's Theorems.antt, whose proofs name laws, and for the definitions that are read off a
 //! proof and say so. The contract of a public function that asks nothing of its caller names the first room alone.
 
@@ -6,10 +6,14 @@ use crate::rattle;
 use crate::tree::Tree;
 
 /// First-room files that a definition leads into laws/, with the line that does.
-const READ_OFF_A_PROOF: [(&str, &str); 1] = [("table/Check", "use Rattle·table·specs.specs.laws.Decided.{good-dec}")];
+const READ_OFF_A_PROOF: [(&str, &str); 1] = [("table/Check", "use Rattle.table.specs.laws.Decided.{good_dec}")];
 
-/// The module of a crate's laws, and that of its theorems, which name laws.
-const SECOND_ROOM: [&str; 2] = ["laws", "Theorems"];
+/// The module of a crate's laws, that of its theorems, which name laws, and that of its proofs, where both may stand.
+const SECOND_ROOM: [&str; 3] = ["laws", "Theorems", "proofs"];
+/// What stands before these in a path, and not before a field of the same name.
+const OF_A_PATH: [&str; 3] = ["Rattle", "specs", "proofs"];
+/// The library's proofs declare words that definitions are said with, such as `some` and `none`.
+const OF_THE_LIBRARY: &str = "Rattle.std.";
 
 /// One line for each fault.
 pub fn faults(tree: &Tree) -> Vec<String> {
@@ -56,10 +60,18 @@ fn without_comment(line: &str) -> &str {
     }
 }
 
-/// Does a line lead into the second room: by an import of it or from it, or by a path through it. A field may have the same name.
+/// Does a line lead into the second room: by an import of it or from it, or by a path through it. A field may have the same name: `t.laws` is one, but
+/// `specs.laws` and `t.laws.Deep` are not.
 fn names_second_room(line: &str) -> bool {
-    let in_path = |at: usize| line[..at].ends_with('.') && !line[..at - 1].ends_with([' ', '(']);
-    SECOND_ROOM.iter().any(|room| words(line, room).into_iter().any(|at| is_use(line) || in_path(at)))
+    let in_path = |room: &str, at: usize| {
+        let path = line[..at].rsplit([' ', '(', '{', ',']).next().unwrap_or("");
+        let to_module =
+            line[at + room.len()..].strip_prefix('.').is_some_and(|name| name.starts_with(char::is_uppercase));
+        let is_path = path.split('.').any(|part| OF_A_PATH.contains(&part));
+        path.ends_with('.') && (is_path || to_module || room.starts_with(char::is_uppercase))
+    };
+    let own = |at: &usize| !line[..*at].ends_with(OF_THE_LIBRARY);
+    SECOND_ROOM.iter().any(|room| words(line, room).into_iter().filter(own).any(|at| is_use(line) || in_path(room, at)))
 }
 
 fn is_use(line: &str) -> bool {

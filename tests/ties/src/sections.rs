@@ -68,7 +68,7 @@ pub fn named_twice(edits: &[Edit]) -> Vec<String> {
 
 /// What is wrong with a section by itself.
 fn in_section(tree: &Tree, of: &str, wrong: &Wrong) -> Option<String> {
-    if wrong.changes.iter().all(|change| change.file.starts_with("proofs/")) {
+    if !wrong.changes.iter().any(|change| has_statements(&change.file)) {
         return Some("it changes neither code nor a statement".to_string());
     }
     let [place] = &wrong.places[..] else {
@@ -110,7 +110,7 @@ pub fn owner(tree: &Tree, of: &str, wrong: &Wrong) -> Result<Option<Owner>, Stri
     let before = |file: &str| crate_file(tree, of, file);
     let after = applied(before, &wrong.changes)?;
     let mut bodies = Vec::new();
-    for (file, text) in after.iter().filter(|(file, _)| !file.starts_with("proofs/")) {
+    for (file, text) in after.iter().filter(|(file, _)| has_statements(file)) {
         match changed_bodies(&before(file).unwrap_or_default(), text) {
             Some(functions) if file.starts_with("src/") => {
                 bodies.extend(functions.iter().map(|function| Owner::new(of, file, function)));
@@ -131,6 +131,20 @@ pub fn functions_of(tree: &Tree, of: &str) -> Vec<Owner> {
         functions.into_iter().map(move |function| Owner::new(of, &source, &function.name))
     };
     tree.source_files(of).into_iter().flat_map(in_file).collect()
+}
+
+/// The function, as the prover names it, in which a line of a source stands.
+pub fn function_at(of: &str, source: &str, text: &str, line: usize) -> Option<String> {
+    let function = rattle::functions(text).into_iter().find(|function| function.lines.contains(&line))?;
+    Some(Owner::new(of, source, &function.name).path)
+}
+
+/// Is it a file of statements, and not the proof of a function: laws and theorems may stand in proofs/.
+fn has_statements(file: &str) -> bool {
+    match file.strip_prefix("proofs/") {
+        Some(file) => file == "Theorems.antt" || file.strip_prefix("laws/").is_some_and(|law| !law.contains('/')),
+        None => true,
+    }
 }
 
 /// The functions whose bodies differ; none if anything else does.

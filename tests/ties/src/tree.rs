@@ -1,10 +1,15 @@
 //! The files of the repository, under a root.
+//!
+//! What a crate's specs say stands in two rooms: what is believed in specs/, why it holds in specs/laws/ or proofs/laws/. A crate's theorems stand in
+//! specs/Theorems.antt or proofs/Theorems.antt: in proofs/ where an edit of a definition has to leave all of specs/ as it is.
 
 use crate::antt::{declared, Declared};
 use crate::{header, rattle, wrong};
 use std::collections::BTreeSet;
 use std::fs;
 use std::path::{Path, PathBuf};
+
+pub const THEOREMS: &str = "Theorems";
 
 pub struct Tree {
     root: PathBuf,
@@ -39,33 +44,37 @@ impl Tree {
         self.listed("crates", "")
     }
 
-    /// The files of a crate's first room.
+    /// The files of a crate's first room, and its theorems.
     pub fn spec_files(&self, name: &str) -> BTreeSet<String> {
-        self.listed(&format!("crates/{name}/specs"), ".antt")
+        let mut files = self.listed(&format!("crates/{name}/specs"), ".antt");
+        files.extend(self.has(&format!("crates/{name}/proofs/{THEOREMS}.antt")).then(|| THEOREMS.to_string()));
+        files
     }
 
     /// The files of a crate's two rooms; of the second as laws/FILE.
-    pub fn files_of_both_rooms(&self, name: &str) -> Vec<String> {
-        let in_folder = |folder: &str| {
-            let files = self.listed(&format!("crates/{name}/specs/{folder}"), ".antt");
-            files.into_iter().map(|file| format!("{folder}{file}")).collect::<Vec<_>>()
-        };
-        ["", "laws/"].into_iter().flat_map(in_folder).collect()
+    pub fn files_of_both_rooms(&self, name: &str) -> BTreeSet<String> {
+        let laws = ["specs", "proofs"].into_iter().flat_map(|part| {
+            self.listed(&format!("crates/{name}/{part}/laws"), ".antt").into_iter().map(|file| format!("laws/{file}"))
+        });
+        self.spec_files(name).into_iter().chain(laws).collect()
+    }
+
+    /// Where a file of a crate's two rooms stands: in specs/, or a law or the theorems in proofs/.
+    pub fn paths_of_spec(&self, name: &str, file: &str) -> Vec<String> {
+        let is_second = file == THEOREMS || file.starts_with("laws/");
+        let parts = if is_second { &["specs", "proofs"][..] } else { &["specs"] };
+        let paths = parts.iter().map(|part| format!("crates/{name}/{part}/{file}.antt"));
+        paths.filter(|path| self.has(path)).collect()
     }
 
     pub fn source_files(&self, name: &str) -> BTreeSet<String> {
         self.listed(&format!("crates/{name}/src"), ".rt")
     }
 
-    /// What crates/CRATE/specs/FILE.antt declares. Laws stand in a folder below and are not looked at.
+    /// What a file of a crate's two rooms declares.
     pub fn spec(&self, name: &str, file: &str) -> Option<Declared> {
-        self.read(&format!("crates/{name}/specs/{file}.antt")).map(|text| declared(&text))
-    }
-
-    /// What all of a crate's specs declare, laws left out.
-    pub fn specs(&self, name: &str) -> BTreeSet<String> {
-        let files = self.listed(&format!("crates/{name}/specs"), ".antt");
-        files.iter().filter_map(|file| self.spec(name, file)).flat_map(|found| found.names).collect()
+        let texts = self.paths_of_spec(name, file).into_iter().filter_map(|path| self.read(&path));
+        texts.map(|text| declared(&text)).reduce(Declared::with)
     }
 
     /// The spec files that declare a name, as crate/File; a law's is crate/laws/File.

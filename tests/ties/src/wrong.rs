@@ -11,7 +11,7 @@
 //! ```
 //!
 //! PATH is a file under the crate, for the pairs after it, and its TEXT stands there once. PLACE is the file in which the proof must fail and NEED
-//! the declaration there, or, where a function has no proof file, `fn CRATE::MODULE::FUNCTION` and the need. `rt` applies all pairs of a
+//! the declaration there, or, where no proof file of a function answers the need, `fn CRATE::MODULE::FUNCTION` and the need. `rt` applies all pairs of a
 //! file to one copy of the crate and checks it once; it passes over the lines that it does not know.
 
 use std::collections::BTreeMap;

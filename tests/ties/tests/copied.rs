@@ -11,28 +11,28 @@ const READ: &str = "crates/check_copy/src/read.rt";
 const FILES: [(&str, &str); 4] = [
     (
         BELOW,
-        "pub const BLOCK: usize = 32;\n\npub fn is_dead(t: &[u16], b: usize) -> bool\n    requires { ⌜ b < 32 ⌝ }\n\
-         \x20   ensures { λ r. ⌜ Dead t b ⌝ }\n{\n    t[BLOCK * b] == 0\n}\n\nfn for_the_trace(t: &[u16]) -> u16 {\n    t[7]\n}\n",
+        "pub const BLOCK: usize = 32;\n\npub fn is_dead(t: &[u16], b: usize) -> bool\n    requires { b < 32 }\n\
+         \x20   ensures { Dead t b }\n{\n    t[BLOCK * b] == 0\n}\n\nfn for_the_trace(t: &[u16]) -> u16 {\n    t[7]\n}\n",
     ),
     (
         WHOLE,
-        "use table::block::is_dead;\n\nfn linked(t: &[u16], d: usize) -> bool\n    ensures { λ r. ⌜ Linked t d ⌝ }\n{\n\
-         \x20   // Back again.\n    t[t[d] as usize] as usize == d\n}\n\npub fn check(t: &[u16]) -> bool\n    ensures { λ r. ⌜ r ≡ good t ⌝ }\n{\n\
+        "use table::block::is_dead;\n\nfn linked(t: &[u16], d: usize) -> bool\n    ensures { Linked t d }\n{\n\
+         \x20   // Back again.\n    t[t[d] as usize] as usize == d\n}\n\npub fn check(t: &[u16]) -> bool\n    ensures { result ≡ good t }\n{\n\
          \x20   if t.len() != 64 {\n        return false;\n    }\n    if is_dead(t, 1) {\n        return true;\n    }\n    linked(t, 2 * (t[0] as usize))\n}\n",
     ),
     (
         COPY,
         "use check_copy::read::read;\n\npub struct Checked {\n    pub good: bool,\n    pub reads: usize,\n}\n\n\
-         fn is_dead(t: &[u16], b: usize, reads: &mut usize) -> bool\n    requires { ⌜ now reads < room ⌝ }\n    ensures { λ r. ⌜ Told t b r reads ⌝ }\n{\n\
-         \x20   read(t, BLOCK * b, reads) == 0\n}\n\nfn linked(t: &[u16], d: usize, reads: &mut usize) -> bool\n    ensures { λ r. ⌜ Told t d r reads ⌝ }\n{\n\
-         \x20   // Back again, counted.\n    read(t, read(t, d, reads) as usize, reads) as usize == d\n}\n\nfn check(t: &[u16], reads: &mut usize) -> bool\n    ensures { λ r. ⌜ r ≡ good t ⌝ }\n{\n\
+         fn is_dead(t: &[u16], b: usize, reads: &mut usize) -> bool\n    requires { reads.old < room }\n    ensures { Told t b result reads }\n{\n\
+         \x20   read(t, BLOCK * b, reads) == 0\n}\n\nfn linked(t: &[u16], d: usize, reads: &mut usize) -> bool\n    ensures { Told t d result reads }\n{\n\
+         \x20   // Back again, counted.\n    read(t, read(t, d, reads) as usize, reads) as usize == d\n}\n\nfn check(t: &[u16], reads: &mut usize) -> bool\n    ensures { result ≡ good t }\n{\n\
          \x20   if t.len() != 64 {\n        return false;\n    }\n    if is_dead(t, 1, reads) {\n        return true;\n    }\n    linked(t, 2 * (read(t, 0, reads) as usize), reads)\n}\n\n\
-         pub fn counted_check(t: &[u16]) -> Checked\n    ensures { λ r. ⌜ r .reads ≤ 9 ⌝ }\n{\n    let mut reads: usize = 0;\n    let good = check(t, &mut reads);\n\
+         pub fn counted_check(t: &[u16]) -> Checked\n    ensures { result.reads ≤ 9 }\n{\n    let mut reads: usize = 0;\n    let good = check(t, &mut reads);\n\
          \x20   Checked { good: good, reads: reads }\n}\n",
     ),
     (
         READ,
-        "pub fn read(t: &[u16], i: usize, reads: &mut usize) -> u16\n    ensures { λ w. ⌜ w ≡ at t i ⌝ }\n{\n    *reads += 1;\n    t[i]\n}\n",
+        "pub fn read(t: &[u16], i: usize, reads: &mut usize) -> u16\n    ensures { result ≡ at t i }\n{\n    *reads += 1;\n    t[i]\n}\n",
     ),
 ];
 
@@ -238,7 +238,7 @@ fn another_callee() {
 fn a_name_twice() {
     // The one that is not compared could be the one that is called.
     let other = "crates/check_table/src/other.rt";
-    let again = "fn linked(t: &[u16], d: usize) -> bool\n    ensures { λ r. ⌜ Linked t d ⌝ }\n{\n    t[d] == 0\n}\n";
+    let again = "fn linked(t: &[u16], d: usize) -> bool\n    ensures { Linked t d }\n{\n    t[d] == 0\n}\n";
     let twice = TRIAL.whole("twice-check").add(other, again);
     TRIAL.found(&twice, &["two functions of the check are named linked"]);
     let copied = "crates/check_copy/src/other.rt";
@@ -294,8 +294,19 @@ fn another_import() {
         "const BLOCK: usize = 16;\n\nfn linked",
         &["constant of its own"],
     );
+    // In a list, which may go over several lines.
+    let listed = "use table::layout::{EDGE, LENGTH};\nuse table::block::{BLOCK, peek};\nuse check_copy::read::read;";
+    TRIAL.after("listed", COPY, "use check_copy::read::read;", listed, &["whole.rt uses `table::block::peek`"]);
+    let lines = "use table::{\n    block::BLOCK,\n    layout::{\n        EDGE, // the words\n        EDGES as LENGTH,\n    },\n};\nuse check_copy::read::read;";
+    TRIAL.after("lines", COPY, "use check_copy::read::read;", lines, &["uses `table::layout::EDGES as LENGTH`"]);
+    TRIAL.after("listed-own", COPY, "check_copy::read::read;", "check_copy::read::{read, peek};", &["::read::peek`"]);
+    TRIAL.after("listed-all", WHOLE, "::is_dead;", "::{is_dead, *};", &["whole.rt uses `table::block::*`"]);
+    let passed = "pub use table::{block::peek};\nuse check_copy::read::read;";
+    TRIAL.after("passed-on", COPY, "use check_copy::read::read;", passed, &["whole.rt uses `table::block::peek`"]);
     let right = "use table::counted::Counted;\nuse table::layout::EDGE;\nuse check_copy::read::read;";
     TRIAL.after("right", COPY, "use check_copy::read::read;", right, &[]);
+    let all = "use table::block::{BLOCK, DART_BLOCK};\nuse table::layout::{\n    EDGE,\n    LENGTH,\n};\nuse check_copy::read::{read};";
+    TRIAL.after("all-right", COPY, "use check_copy::read::read;", all, &[]);
 }
 
 #[test]

@@ -33,11 +33,11 @@ const FILES: [(&str, &str); 7] = [
     (
         EXPORTS,
         "use reader::tally::Tally;\nuse table::answer::code;\n// pub extern \"C\" fn planner_no(x: i16) -> i64\n\n\
-         #[no_mangle]\npub extern \"C\" fn planner_insert(t: &mut [u16], e: u16, c1: u16, c2: u16, k: i16, strip: u16) -> i64\n\
-         \x20   ensures { λ r. ⌜ r ≡ insert (now (t .entry)) e c1 c2 k strip ⌝ }\n{\n    code(insert(t, e, c1, c2, k, strip))\n}\n\n\
-         #[no_mangle]\npub extern \"C\" fn planner_path(\n    t: &[u16],\n    dart: u16,\n    kind: u16,\n    points: &[i32],\n\
-         \x20   out: &mut [f32],\n) -> i64\n    ensures { λ r. ⌜ r ≡ path ⌝ }\n{\n    0\n}\n\n\
-         #[no_mangle]\npub extern \"C\" fn planner_step(tally: &mut Tally, from: &Tally) -> i64\n    ensures { λ r. ⌜ r ≡ 0 ⌝ }\n{\n    0\n}\n\n\
+         #[unsafe(no_mangle)]\npub extern \"C\" fn planner_insert(t: &mut [u16], e: u16, c1: u16, c2: u16, k: i16, strip: u16) -> i64\n\
+         \x20   ensures { result ≡ insert t.old e c1 c2 k strip }\n{\n    code(insert(t, e, c1, c2, k, strip))\n}\n\n\
+         #[unsafe(no_mangle)]\npub extern \"C\" fn planner_path(\n    t: &[u16],\n    dart: u16,\n    kind: u16,\n    points: &[i32],\n\
+         \x20   out: &mut [f32],\n) -> i64\n    ensures { result ≡ path }\n{\n    0\n}\n\n\
+         #[unsafe(no_mangle)]\npub extern \"C\" fn planner_step(tally: &mut Tally, from: &Tally) -> i64\n    ensures { result ≡ 0 }\n{\n    0\n}\n\n\
          fn own(x: u16) -> bool {\n    true\n}\n",
     ),
     (TALLY, "// A tally.\n#[repr(C)]\npub struct Tally {\n    pub steps: u32,\n    // over\n    pub overs: u32,\n    pub start_kind: u16,\n}\n"),
@@ -192,10 +192,15 @@ fn a_function_on_one_side_alone() {
     TRIAL.after(
         "mangled",
         EXPORTS,
-        "#[no_mangle]\npub extern \"C\" fn planner_step",
+        "#[unsafe(no_mangle)]\npub extern \"C\" fn planner_step",
         "pub extern \"C\" fn planner_step",
         &["planner_step is not exported"],
     );
+    let old = "#[no_mangle]\npub extern \"C\" fn planner_step";
+    let marked = "#[unsafe(no_mangle)]\npub extern \"C\" fn planner_step";
+    TRIAL.after("mangled-otherwise", EXPORTS, marked, old, &["planner_step is not exported"]);
+    let beside = "#[unsafe(no_mangle)]\n#[tactic(auto)]\npub extern \"C\" fn planner_step";
+    TRIAL.after("attributes", EXPORTS, marked, beside, &[]);
 }
 
 #[test]
@@ -218,6 +223,15 @@ fn fields_of_a_record() {
         &["3 fields in the header, 4 in", "field 3"],
     );
     TRIAL.after("layout", TALLY, "#[repr(C)]\n", "", &["struct Tally is not #[repr(C)]"]);
+    TRIAL.after("derived", TALLY, "#[repr(C)]\n", "#[repr(C)]\n#[derive(Clone, Copy)]\n", &[]);
+    TRIAL.after("derived-first", TALLY, "#[repr(C)]\n", "#[derive(Clone, Copy)]\n#[repr(C)]\n", &[]);
+    let listed = "use reader::{place::Place, tally::{Tally, Count}};";
+    TRIAL.after("listed", EXPORTS, "use reader::tally::Tally;", listed, &[]);
+    let lines = "use reader::tally::{\n    Count,\n    Tally,\n};";
+    TRIAL.after("listed-lines", EXPORTS, "use reader::tally::Tally;", lines, &[]);
+    let elsewhere = "use reader::place::{Tally, Place};";
+    let not_there = ["crates/reader/src/place.rt: struct Tally is not there"];
+    TRIAL.after("listed-elsewhere", EXPORTS, "use reader::tally::Tally;", elsewhere, &not_there);
     TRIAL.after("struct", TALLY, "pub struct Tally", "pub struct Tallies", &["tally.rt: struct Tally is not there"]);
     TRIAL.after(
         "record-gone",

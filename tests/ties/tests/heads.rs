@@ -44,6 +44,10 @@ fn nothing_where_all_is_well() {
 #[test]
 fn a_long_file_without_a_head() {
     TRIAL.found(&long("none", DEEP), &[&format!("specs/laws/Deep.antt: 62 {NO_HEAD}")]);
+    for place in ["proofs/laws/Deep.antt", "proofs/Theorems.antt"] {
+        let moved = TRIAL.whole("moved").remove(DEEP).add(&format!("crates/tracing/{place}"), &"more = 1\n".repeat(61));
+        TRIAL.found(&moved, &[&format!("{place}: 61 {NO_HEAD}")]);
+    }
     let about = long("about", WALK).change(WALK, "-- Walks, which end.\n-- They are long.\n", "");
     TRIAL.found(&about, &[NO_HEAD]);
     let first = long("after", WALK).change(WALK, "-- Walks, which end.\n", "\n-- Walks, which end.\n");

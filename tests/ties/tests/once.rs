@@ -6,14 +6,16 @@ use ties::small::Trial;
 const WALK: &str = "crates/tracing/specs/Walk.antt";
 const RUN: &str = "crates/runs/specs/Run.antt";
 
-const FILES: [(&str, &str); 5] = [
+const FILES: [(&str, &str); 7] = [
     (WALK, "pub walk : ℕ\nabbrev pub step : ℕ\npub record Step : Type 0 where\n  pub size : ℕ\n"),
     (
         RUN,
         "pub run : ℕ\npub record Run : Type 0 where\n  pub size : ℕ\n\npub data Deed : Type 0 where\n  plain : Deed\n",
     ),
-    ("crates/runs/specs/Theorems.antt", "pub step : ℕ\n"),
-    ("crates/runs/specs/laws/Run.antt", "pub walk : ℕ\n"),
+    ("crates/runs/proofs/Theorems.antt", "pub step : ℕ\n"),
+    ("crates/runs/proofs/laws/Run.antt", "pub walk : ℕ\n"),
+    ("crates/tracing/specs/Theorems.antt", "pub run : ℕ\n"),
+    ("crates/tracing/specs/laws/Walk.antt", "pub run : ℕ\n"),
     ("crates/runs/specs/Lib.antt", "pub mod Run\npub mod laws\npub mod Theorems\n"),
 ];
 

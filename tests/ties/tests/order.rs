@@ -43,6 +43,16 @@ fn a_file_that_is_left_out() {
     TRIAL.after("crate", CLAIMS, "`crates/tracing/specs/Step.antt`, `Walk.antt`", moved, &missing);
     let new = TRIAL.whole("new").add("crates/runs/specs/New.antt", "pub new : ℕ\n");
     TRIAL.found(&new, &["runs/New is not in the order of reading"]);
+    // Theorems, in specs/ or in proofs/.
+    let order = |name: &str| TRIAL.whole(name).add("crates/runs/proofs/Theorems.antt", "pub holds : ℕ\n");
+    TRIAL.found(&order("theorems-left"), &["runs/Theorems is not in the order of reading"]);
+    let last = "2. `crates/runs/specs/Run.antt`";
+    TRIAL.found(&order("theorems").change(CLAIMS, last, "2. `crates/runs/specs/Run.antt`, `Theorems.antt`"), &[]);
+    let by_path = "2. `crates/runs/proofs/Theorems.antt`; `crates/runs/specs/Run.antt`";
+    TRIAL.found(&order("theorems-path").change(CLAIMS, last, by_path), &[]);
+    // Laws have no place in it, and a lemma of proofs/ neither.
+    let laws = TRIAL.whole("laws").add("crates/runs/proofs/laws/Deep.antt", "").add("crates/runs/proofs/Far.antt", "");
+    TRIAL.found(&laws, &[]);
 }
 
 #[test]

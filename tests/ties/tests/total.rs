@@ -11,12 +11,12 @@ const LISTING: &str = "crates/tracing_listing/src/call.rt";
 const FILES: [(&str, &str); 2] = [
     (
         INTERFACE,
-        "#[no_mangle]\npub extern \"C\" fn planner_check(t: &[u16]) -> i64\n    ensures { λ r. ⌜ r ≡ codeOf (checkOf (now (t .entry))) ⌝ }\n{\n    code(check(t))\n}\n\n\
-         fn inner(n: u16) -> u16\n    requires { ⌜ n < 9 ⌝ }\n    ensures { λ r. ⌜ r ≡ n ⌝ }\n{\n    n\n}\n",
+        "#[unsafe(no_mangle)]\npub extern \"C\" fn planner_check(t: &[u16]) -> i64\n    ensures { result ≡ code_of (check_of t.now) }\n{\n    code(check(t))\n}\n\n\
+         fn inner(n: u16) -> u16\n    requires { n < 9 }\n    ensures { result ≡ n }\n{\n    n\n}\n",
     ),
     (
         LISTING,
-        "pub fn list(t: &[u16], out: &mut [u16]) -> Answer\n    ensures { λ r. ⌜ r ≡ listAnswer (now (t .entry)) ⌝ }\n{\n    Answer::Done(0)\n}\n",
+        "pub fn list(t: &[u16], out: &mut [u16]) -> Answer\n    ensures { result ≡ list_answer t.now }\n{\n    Answer::Done(0)\n}\n",
     ),
 ];
 
@@ -36,15 +36,15 @@ fn nothing_where_all_is_well() {
 
 #[test]
 fn an_exported_function_that_asks() {
-    let asks = "-> i64\n    requires { ⌜ length (now words) ≡ 7680 ⌝ }\n";
+    let asks = "-> i64\n    requires { length t.now ≡ 7680 }\n";
     TRIAL.after("exported", INTERFACE, "-> i64\n", asks, &["planner_check is for C and has a `requires`"]);
-    let unmarked = TRIAL.whole("unmarked").change(INTERFACE, "#[no_mangle]\n", "");
+    let unmarked = TRIAL.whole("unmarked").change(INTERFACE, "#[unsafe(no_mangle)]\n", "");
     TRIAL.found(&unmarked.change(INTERFACE, "-> i64\n", asks), &["planner_check is for C and has a `requires`"]);
 }
 
 #[test]
 fn an_operation_that_asks() {
-    let asks = "-> Answer\n    requires { ⌜ Good (now t) ⌝ }\n";
+    let asks = "-> Answer\n    requires { Good t.now }\n";
     TRIAL.after(
         "operation",
         LISTING,
@@ -52,6 +52,10 @@ fn an_operation_that_asks() {
         asks,
         &["crates/tracing_listing/src/call.rt: list has a `requires`"],
     );
+    let named = "-> Answer\n    requires good { Good t.now }\n    requires short { length out.old < 9 }\n";
+    TRIAL.after("named", LISTING, "-> Answer\n", named, &["list has a `requires`"]);
+    let lines = "-> Answer\n    requires {\n        Good t.now\n    }\n";
+    TRIAL.after("lines", LISTING, "-> Answer\n", lines, &["list has a `requires`"]);
     TRIAL.after(
         "private",
         LISTING,

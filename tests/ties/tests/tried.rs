@@ -9,9 +9,9 @@ const EDIT: &str = "crates/sums/must-fail/two_for_one.edit";
 const FILES: [(&str, &str); 2] = [
     (
         SUMS,
-        "pub fn one() -> u16\n    ensures { λ r. ⌜ r ≡ 1 ⌝ }\n{\n    1 + 0\n}\n\n\
-         pub fn inner(n: u16) -> u16\n    requires { ⌜ n < 9 ⌝ }\n    ensures { λ r. ⌜ r ≡ n ⌝ }\n{\n    n\n}\n\n\
-         fn own() -> u16\n    ensures { λ r. ⌜ r ≡ 7 ⌝ }\n{\n    7\n}\n",
+        "pub fn one() -> u16\n    ensures { result ≡ 1 }\n{\n    1 + 0\n}\n\n\
+         pub fn inner(n: u16) -> u16\n    requires { n < 9 }\n    ensures { result ≡ n }\n{\n    n\n}\n\n\
+         fn own() -> u16\n    ensures { result ≡ 7 }\n{\n    7\n}\n",
     ),
     (
         EDIT,
@@ -32,6 +32,8 @@ fn nothing_where_all_is_well() {
 fn a_function_without_an_edit() {
     TRIAL.found(&TRIAL.whole("untried").remove(EDIT), &UNTRIED);
     TRIAL.after("public", SUMS, "fn own()", "pub fn own()", &["the body of own"]);
+    TRIAL.after("named-clause", SUMS, "requires { n < 9 }", "requires low { n < 9 }", &[]);
+    TRIAL.after("named-promise", SUMS, "requires { n < 9 }", "ensures low { n < 9 }", &["the body of inner"]);
     // Neither a remark nor a name of the contract asks anything of a caller.
     let remark = "pub fn own() -> u16 /* requires { nothing } */";
     TRIAL.after("remark", SUMS, "fn own() -> u16", remark, &["the body of own"]);
@@ -42,13 +44,14 @@ fn a_function_without_an_edit() {
         "pub fn own() /*\n    requires { nothing }\n*/",
         &["the body of own"],
     );
-    let named = TRIAL.whole("named").change(SUMS, "fn own()", "pub fn own()").change(SUMS, "r ≡ 7", "r ≡ requires 7");
+    let named =
+        TRIAL.whole("named").change(SUMS, "fn own()", "pub fn own()").change(SUMS, "result ≡ 7", "result ≡ requires 7");
     TRIAL.found(&named, &["the body of own"]);
 }
 
 #[test]
 fn an_edit_elsewhere() {
-    TRIAL.after("statement", EDIT, "old:     1 + 0", "old:     ensures { λ r. ⌜ r ≡ 1 ⌝ }", &UNTRIED);
+    TRIAL.after("statement", EDIT, "old:     1 + 0", "old:     ensures { result ≡ 1 }", &UNTRIED);
     TRIAL.after("callee", EDIT, "old:     1 + 0", "old:     7", &UNTRIED);
     TRIAL.after("file", EDIT, "src/sums.rt", "src/other.rt", &UNTRIED);
 }

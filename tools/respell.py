@@ -15,7 +15,7 @@ BREAK = r"[\s(){}\[\];,.`]"
 WORD = re.compile(r"[^\s(){}\[\];,.`]+")
 PLAIN = re.compile(r"[a-z][-A-Za-z0-9_'?₀₁₂₃₄₅₆₇₈₉ℤ]*$")
 TOP = re.compile(r"(?:abbrev )?(?:pub )?(?:abbrev )?(?:unfoldable )?(?:pub )?([^\s(){}\[\];,.:`]+) :(?:\s|$)")
-FIELD = re.compile(r"\s+(?:pub )?([^\s(){}\[\];,.:`]+) :\s")
+FIELD = re.compile(r"\s+(?:abbrev )?(?:pub )?(?:abbrev )?(?:unfoldable )?([^\s(){}\[\];,.:`]+) :\s")
 # names that dashes are kept for: none of them is declared here, but a field could be called so
 KEEP = set()
 

@@ -4,7 +4,7 @@
 --     dart_most, edge_most, idle_most, block_most    the bounds for a dart, an edge, a blank block, any block of edges
 --     vertex_crude, vertex_block_crude               rough bounds for a vertex and a block of them
 --     room                                           the number that a count of reads stays below
---     leavingBelow, leavingAt                        the live darts that leave the vertices below v; that leave v
+--     leaving_below, leaving_at                        the live darts that leave the vertices below v; that leave v
 --     cycle_most, vertex_most, blocks_most           what cycles, vertices and their blocks read, by these
 use Prim.Native.Nat.{ℕ, zero, suc, ◌+◌, ◌-◌, ◌*◌, ◌≤◌, ◌<◌}
 use native.Mathlib.Omega.{arith}
@@ -128,13 +128,13 @@ module _ (t : List ℕ) where
       ]
 
   -- the live darts that leave the vertices below v
-  abbrev leavingBelow : ℕ → ℕ
-  leavingBelow v = count (λ d. live? t d && ltb (leaves t d) v) darts
+  abbrev leaving_below : ℕ → ℕ
+  leaving_below v = count (λ d. live? t d && ltb (leaves t d) v) darts
 
-  abbrev leavingAt : ℕ → ℕ
-  leavingAt v = count (λ d. live? t d && eqb (leaves t d) v) darts
+  abbrev leaving_at : ℕ → ℕ
+  leaving_at v = count (λ d. live? t d && eqb (leaves t d) v) darts
 
-  leaving_more : (v : ℕ) → leavingBelow (v + 1) ≡ leavingBelow v + leavingAt v
+  leaving_more : (v : ℕ) → leaving_below (v + 1) ≡ leaving_below v + leaving_at v
   leaving_more v =
       count_split (λ d. live? t d && ltb (leaves t d) (v + 1)) (λ d. live? t d && ltb (leaves t d) v) (λ d. live? t d && eqb (leaves t d) v) darts
       (λ d h. ap (λ b. live? t d && b) (one_more (leaves t d) v) ∙ spread (live? t d) (ltb (leaves t d) v) (eqb (leaves t d) v))
@@ -145,7 +145,7 @@ module _ (t : List ℕ) where
 
   module _ (r : Ruled t darts) where
     -- a cycle is among the darts that leave its vertex
-    cycle_most : (v w : ℕ) → Live t w → leaves t w ≡ v → (cycle_test t w).reads ≤ leavingAt v
+    cycle_most : (v w : ℕ) → Live t w → leaves t w ≡ v → (cycle_test t w).reads ≤ leaving_at v
     cycle_most v w l here =
         let p = period (next_inj t r) w l.low in
         let some = p.some in
@@ -161,7 +161,7 @@ module _ (t : List ℕ) where
         (eq-eqb (leaves t d) v (rw (← c.lands) (iter_leaves t r c.steps w ∙ here)))) in
         omega (arith, until, size, fewer, q)
 
-    vertex_most : (v : ℕ) → v < vertices → reads_of (vertex_tests t v) ≤ 2 + leavingAt v
+    vertex_most : (v : ℕ) → v < vertices → reads_of (vertex_tests t v) ≤ 2 + leaving_at v
     unfolding reads_of total
     vertex_most v h = elim (truth (leads_none t v)) [
       | yes_true e ↦ rw (tests_none t v e) (omega arith)
@@ -177,7 +177,7 @@ module _ (t : List ℕ) where
       ])
     ]
 
-    vertices_most : (b n : ℕ) → 32 * b + n ≤ vertices → reads_below (vertex_in t b) n + leavingBelow (32 * b) ≤ 2 * n + leavingBelow (32 * b + n)
+    vertices_most : (b n : ℕ) → 32 * b + n ≤ vertices → reads_below (vertex_in t b) n + leaving_below (32 * b) ≤ 2 * n + leaving_below (32 * b + n)
     unfolding reads_below
     vertices_most b zero h = rw (add-zero (32 * b)) (omega arith)
     vertices_most b (suc n) h =
@@ -190,7 +190,7 @@ module _ (t : List ℕ) where
           | yes-false e ↦ rw (e, q) (omega (arith, s, more))
         ]
 
-    blocks_most : (n : ℕ) → n ≤ 16 → reads_below (vertex_block t) n ≤ 96 * n + leavingBelow (32 * n)
+    blocks_most : (n : ℕ) → n ≤ 16 → reads_below (vertex_block t) n ≤ 96 * n + leaving_below (32 * n)
     unfolding reads_below vertex_block
     blocks_most zero h = omega arith
     blocks_most (suc n) h =

@@ -66,41 +66,41 @@ odd_turned w a f =
 
 -- a vertex is added, or removed: R has it not, R₁ has it isolated
 module _ (t : List ℕ) (g : Good t) (v : ℕ) (low : v < vertices) (absent : vertex_word t v ≡ nothing) where
-  abbrev with-v : List ℕ
-  with-v = set_vertex t v isolated
+  abbrev with_v : List ℕ
+  with_v = set_vertex t v isolated
 
-  edge_kept : (e : ℕ) → e < edges → edge_word with-v e ≡ edge_word t e
+  edge_kept : (e : ℕ) → e < edges → edge_word with_v e ≡ edge_word t e
   edge_kept e h = edge_vertex t v isolated e h
 
-  live_kept : (d : ℕ) → live? with-v d ≡ live? t d
-  live_kept d = same_truth (live? with-v d) (live? t d)
-      (λ l. let m = live_yes with-v d l in let h = m.low in yes_live t d (record { low = h; on = rw (edge_kept (edge_of d) (omega arith)) at m.on }))
-      (λ l. let m = live_yes t d l in let h = m.low in yes_live with-v d (record { low = h; on = rw (edge_kept (edge_of d) (omega arith)) m.on }))
+  live_kept : (d : ℕ) → live? with_v d ≡ live? t d
+  live_kept d = same_truth (live? with_v d) (live? t d)
+      (λ l. let m = live_yes with_v d l in let h = m.low in yes_live t d (record { low = h; on = rw (edge_kept (edge_of d) (omega arith)) at m.on }))
+      (λ l. let m = live_yes t d l in let h = m.low in yes_live with_v d (record { low = h; on = rw (edge_kept (edge_of d) (omega arith)) m.on }))
 
-  next_kept : (d : ℕ) → next_dart with-v d ≡ next_dart t d
+  next_kept : (d : ℕ) → next_dart with_v d ≡ next_dart t d
   next_kept d = elim (truth (live? t d)) [
     | holds l ↦
-        next_dart_live with-v d (live_kept d ∙ l) ∙ next_vertex t v isolated d (live_yes t d l).low ∙ sym (next_dart_live t d l)
-    | fails f ↦ next_dart_dead with-v d (live_kept d ∙ f) ∙ sym (next_dart_dead t d f)
+        next_dart_live with_v d (live_kept d ∙ l) ∙ next_vertex t v isolated d (live_yes t d l).low ∙ sym (next_dart_live t d l)
+    | fails f ↦ next_dart_dead with_v d (live_kept d ∙ f) ∙ sym (next_dart_dead t d f)
   ]
 
-  own_word : vertex_word with-v v ≡ isolated
+  own_word : vertex_word with_v v ≡ isolated
   own_word = vertex_vertex t g.size v isolated v low ∙ upd_at (vertex_word t) v isolated
 
-  other_word : (u : ℕ) → u ≢ v → vertex_word with-v u ≡ vertex_word t u
+  other_word : (u : ℕ) → u ≢ v → vertex_word with_v u ≡ vertex_word t u
   other_word u n = vertex_vertex t g.size v isolated u low ∙ upd_off (vertex_word t) v isolated u n
 
-  pub vertex_added : Added (rotation t) v (rotation with-v)
+  pub vertex_added : Added (rotation t) v (rotation with_v)
   unfolding turns_of
   vertex_added = record {
     fresh = false_unless (there? t v) (λ y. (there_word t v y).1 absent);
-    now = alone_yes with-v v low own_word;
+    now = alone_yes with_v v low own_word;
     live = live_kept;
     next = record { next = next_kept };
     turns = λ d h. ap (λ w. w % 2) (edge_kept (edge_of d) (omega arith));
-    alone = λ u n. same_truth (alone? with-v u) (alone? t u)
-        (λ y. let a = alone_word with-v u y in alone_yes t u a.0 (sym (other_word u n) ∙ a.1))
-        (λ y. let a = alone_word t u y in alone_yes with-v u a.0 (other_word u n ∙ a.1));
+    alone = λ u n. same_truth (alone? with_v u) (alone? t u)
+        (λ y. let a = alone_word with_v u y in alone_yes t u a.0 (sym (other_word u n) ∙ a.1))
+        (λ y. let a = alone_word t u y in alone_yes with_v u a.0 (other_word u n ∙ a.1));
   }
 
 -- an edge that is there has its first dart live

@@ -18,7 +18,7 @@ use Rattle.table.specs.Rotation.{live?, next_dart}
 use Rattle.table.specs.Writes.{set_edge}
 use Rattle.table.specs.laws.Writes.{upd, upd_same, next_edge, prev_edge, leaves_edge, vertex_edge, leaves_vertex, edge_edge, length_edge, length_length}
 use Rattle.table.specs.laws.Writes.{next_length, prev_length, leaves_length, edge_length, vertex_length}
-use Rattle.edits.proofs.laws.Held.{Held, next_in, next_in_lem, next_out, held_kept}
+use Rattle.edits.proofs.laws.Held.{Held, next_in, next_in_lem, next_out_lem, held_kept}
 use Rattle.edits.specs.Edge.{splice, lesser, seek, successor, taken, unlink, link, first_corner, set_own, inserted, deleted}
 use Rattle.edits.proofs.laws.Splice.{Reads, reads_splice, reads_cut, reads_vertex}
 use Rattle.edits.proofs.laws.Unlink.{Sought, found, none, sought, Shrunk, out_shrunk}
@@ -83,13 +83,13 @@ module _ (t : List ℕ) (L : ℕ → Bool) (H : Held t L) (x : ℕ) where
   ]
 
   -- the next and the previous words, once x is out
-  abbrev nextOut : ℕ → ℕ
-  nextOut = upd (upd (next_word t) (prev_word t x) (next_word t x)) x nothing
+  abbrev next_out : ℕ → ℕ
+  next_out = upd (upd (next_word t) (prev_word t x) (next_word t x)) x nothing
 
-  abbrev prevOut : ℕ → ℕ
-  prevOut = upd (upd (prev_word t) (next_word t x) (prev_word t x)) x nothing
+  abbrev prev_out : ℕ → ℕ
+  prev_out = upd (upd (prev_word t) (next_word t x) (prev_word t x)) x nothing
 
-  taken_reads : L x ≡ true → Reads (taken t x) nextOut prevOut (upd (leaves t) x nothing) (edge_word t) (vertex_word t)
+  taken_reads : L x ≡ true → Reads (taken t x) next_out prev_out (upd (leaves t) x nothing) (edge_word t) (vertex_word t)
   taken_reads on = reads_cut t H.size x (next_word t x) (prev_word t x) (H.low x on) (H.low _ (H.next_live x on)) (H.low _ (H.prev_live x on))
 
   -- the words after a dart is taken out
@@ -155,7 +155,7 @@ module _ (t : List ℕ) (e w n : ℕ) (h : e < edges) where
     pub own_next : (d : ℕ) → next_in (set_own t e w n) L d ≡ next_in t L d
     own_next d = elim (truth (L d)) [
       | holds l ↦ next_in_lem (set_own t e w n) L d l ∙ own_dart d (H.low d l) ∙ sym (next_in_lem t L d l)
-      | fails f ↦ next_out (set_own t e w n) L d f ∙ sym (next_out t L d f)
+      | fails f ↦ next_out_lem (set_own t e w n) L d f ∙ sym (next_out_lem t L d f)
     ]
 
 -- the last of the writes

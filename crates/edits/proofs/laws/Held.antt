@@ -2,7 +2,7 @@
 --     Held                         the rules of a good table, with L for its live darts
 --     good_held, held_good         a good table keeps them for its own live darts; they make it good
 --     SmallestIn                   d is the smallest dart of L that leaves v
---     next_in, next_in_lem, next_out  the next dart where L are the live ones
+--     next_in, next_in_lem, next_out_lem  the next dart where L are the live ones
 --     held_kept                    the rules speak of the words of darts and vertices alone
 --     held_same                    two tables with the same next darts, vertices, edge words and lengths are one
 --     Long                         a length that a live edge may have
@@ -98,9 +98,9 @@ pub next_in_lem : (t : List ℕ) (L : ℕ → Bool) (d : ℕ) → L d ≡ true �
 unfolding next_in
 next_in_lem t L d e = rw e
 
-pub next_out : (t : List ℕ) (L : ℕ → Bool) (d : ℕ) → L d ≡ false → next_in t L d ≡ d
+pub next_out_lem : (t : List ℕ) (L : ℕ → Bool) (d : ℕ) → L d ≡ false → next_in t L d ≡ d
 unfolding next_in
-next_out t L d e = rw e
+next_out_lem t L d e = rw e
 
 -- the rules speak of the words of darts and vertices alone
 module _ (t u : List ℕ) (L : ℕ → Bool) (H : Held t L) (size : length u ≡ words) (next : (d : ℕ) → d < darts → next_word u d ≡ next_word t d)

@@ -16,7 +16,7 @@ use Rattle.table.specs.Layout.{vertices, darts, nothing, isolated, next_word, pr
 use Rattle.table.specs.laws.Writes.{upd, upd_at, upd_off}
 use Rattle.surgery.specs.Without.{bypass}
 use Rattle.surgery.proofs.laws.Bypass.{bypass_self, bypass_into, bypass_off}
-use Rattle.edits.proofs.laws.Held.{Held, SmallestIn, next_in, next_in_lem, next_out}
+use Rattle.edits.proofs.laws.Held.{Held, SmallestIn, next_in, next_in_lem, next_out_lem}
 use Rattle.edits.proofs.laws.Splice.{Reads}
 use Rattle.edits.proofs.laws.Grown.{plus, plus_new, plus_old, Plus, new, old, plus_case, Grown}
 use Rattle.edits.proofs.laws.Seat.{Seat, among, alone, Foremost}
@@ -254,11 +254,11 @@ module _ (t u : List ℕ) (L : ℕ → Bool) (H : Held t L) (x d p v w : ℕ) (f
 
   linked_next : (j : ℕ) → next_in t L j ≡ bypass (next_in u (plus L x)) x j
   linked_next j = elim (ℕ_discrete j x) [
-    | yes q ↦ rw q (next_out t L x free ∙ sym (bypass_self (next_in u (plus L x)) x))
+    | yes q ↦ rw q (next_out_lem t L x free ∙ sym (bypass_self (next_in u (plus L x)) x))
     | no n ↦ elim (truth (L j)) [
       | fails f ↦
-          let e = next_out u (plus L x) j (plus_old L x j n ∙ f) in
-          next_out t L j f ∙ sym (bypass_off (next_in u (plus L x)) x j n (rw e n) ∙ e)
+          let e = next_out_lem u (plus L x) j (plus_old L x j n ∙ f) in
+          next_out_lem t L j f ∙ sym (bypass_off (next_in u (plus L x)) x j n (rw e n) ∙ e)
       | holds l ↦ elim (ℕ_discrete j p) [
         | yes q ↦
             let o : L p ≡ true = rw q at l in

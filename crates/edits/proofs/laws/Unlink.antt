@@ -26,7 +26,7 @@ use Rattle.table.specs.Writes.{set_vertex}
 use Rattle.table.specs.laws.Writes.{upd, upd_at, upd_off}
 use Rattle.surgery.specs.Without.{bypass}
 use Rattle.surgery.proofs.laws.Bypass.{bypass_self, bypass_into, bypass_off}
-use Rattle.edits.proofs.laws.Held.{Held, SmallestIn, next_in, next_in_lem, next_out}
+use Rattle.edits.proofs.laws.Held.{Held, SmallestIn, next_in, next_in_lem, next_out_lem}
 use Rattle.edits.proofs.laws.Splice.{Reads}
 use Rattle.edits.specs.Edge.{seek, successor, taken, unlink}
 
@@ -354,11 +354,11 @@ module _ (t u : List ℕ) (L : ℕ → Bool) (H : Held t L) (x n p v w : ℕ) (o
 
   out_next : (j : ℕ) → next_in u (without L x) j ≡ bypass (next_in t L) x j
   out_next j = elim (ℕ_discrete j x) [
-    | yes q ↦ rw q (next_out u (without L x) x (without_at L x) ∙ sym (bypass_self (next_in t L) x))
+    | yes q ↦ rw q (next_out_lem u (without L x) x (without_at L x) ∙ sym (bypass_self (next_in t L) x))
     | no a ↦ elim (truth (L j)) [
       | fails f ↦
-          let e = next_out t L j f in
-          next_out u (without L x) j (without_other L x j a ∙ f) ∙ sym (bypass_off (next_in t L) x j a (rw e a) ∙ e)
+          let e = next_out_lem t L j f in
+          next_out_lem u (without L x) j (without_other L x j a ∙ f) ∙ sym (bypass_off (next_in t L) x j a (rw e a) ∙ e)
       | holds l ↦
           let left : Left j = record { live = l; other = a } in
           let s = next_in_lem u (without L x) j (of_left j left) in

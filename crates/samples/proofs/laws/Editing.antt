@@ -3,7 +3,7 @@
 --     rule_on, reply_on                its rule, and the answer with it
 --     run_on, answers_on               a run, and its answers
 --     run_on_lem, answers_on_lem       they are those of the table itself
---     verdictBy                        the verdict on a good table, from a function that reads its words
+--     verdict_by                        the verdict on a good table, from a function that reads its words
 use Rattle.std.specs.Prelude.{ℕ, ◌+◌, ◌≡◌, refl, not, Bool, ◌&&◌, List, [], ◌∷◌, eqb, ltb, get_or, ℤ, ◌+ℤ◌}
 use Rattle.std.proofs.Common.{◌∙◌}
 use Rattle.std.proofs.Math.Path.{ap, ap₂}
@@ -41,26 +41,26 @@ use Rattle.table.specs.declared.answer.Refusal.{Refusal}
 
 -- the verdict on a good table whose word at i is g i
 module _ (g : ℕ → ℕ) where
-  abbrev vertexBy : ℕ → Bool → Refusal → Verdict
-  vertexBy v test r = unless (ltb v vertices) (Declines NoSuchName) (unless test (Declines r) Passes)
+  abbrev vertex_by : ℕ → Bool → Refusal → Verdict
+  vertex_by v test r = unless (ltb v vertices) (Declines NoSuchName) (unless test (Declines r) Passes)
 
-  abbrev edgeBy : ℕ → Verdict
-  edgeBy e = unless (ltb e edges) (Declines NoSuchName) (unless (not (eqb (g (edge_at + e)) 0)) (Declines Absent) Passes)
+  abbrev edge_by : ℕ → Verdict
+  edge_by e = unless (ltb e edges) (Declines NoSuchName) (unless (not (eqb (g (edge_at + e)) 0)) (Declines Absent) Passes)
 
-  abbrev verdictBy : Edit → Verdict
-  verdictBy (AddVertex v) = and_then (vertexBy v (not (not (eqb (g (vertex_at + v)) nothing))) Taken) Passes
-  verdictBy (RemoveVertex v) = and_then (vertexBy v (not (eqb (g (vertex_at + v)) nothing)) Absent) (isolation (g (vertex_at + v)))
-  verdictBy (InsertEdge e c₁ c₂ k n) =
+  abbrev verdict_by : Edit → Verdict
+  verdict_by (AddVertex v) = and_then (vertex_by v (not (not (eqb (g (vertex_at + v)) nothing))) Taken) Passes
+  verdict_by (RemoveVertex v) = and_then (vertex_by v (not (eqb (g (vertex_at + v)) nothing)) Absent) (isolation (g (vertex_at + v)))
+  verdict_by (InsertEdge e c₁ c₂ k n) =
       and_then
       (unless (ltb e edges && (well_formed c₁ && well_formed c₂)) (Declines NoSuchName)
       (unless (not (not (eqb (g (edge_at + e)) 0))) (Declines Taken)
       (unless (present (rotation_by g) c₁ && present (rotation_by g) c₂) (Declines Absent)
       Passes)))
       (and_then (few_turns k) (fair_length n))
-  verdictBy (DeleteEdge e) = and_then (edgeBy e) Passes
-  verdictBy (TurnEdge e a) = and_then (edgeBy e) (few_turns (turns_in (g (edge_at + e)) +ℤ a))
+  verdict_by (DeleteEdge e) = and_then (edge_by e) Passes
+  verdict_by (TurnEdge e a) = and_then (edge_by e) (few_turns (turns_in (g (edge_at + e)) +ℤ a))
 
-verdict_by : (t : List ℕ) (E : Edit) → Good t → verdict t E ≡ verdictBy (λ i. get_or t i 0) E
+verdict_by : (t : List ℕ) (E : Edit) → Good t → verdict t E ≡ verdict_by (λ i. get_or t i 0) E
 unfolding new_vertex old_vertex new_edge old_edge
 verdict_by t (AddVertex v) g = rw (← good_yes t g)
 verdict_by t (RemoveVertex v) g = rw (← good_yes t g)
@@ -77,7 +77,7 @@ answered_by Passes n = Done n
 answered_by (Declines r) n = Declined r
 
 unfoldable pub verdict_on : Writes → Edit → Verdict
-verdict_on ws E = verdictBy (read ws) E
+verdict_on ws E = verdict_by (read ws) E
 
 unfoldable pub edited_on : Writes → Edit → Writes
 edited_on ws E = writes_by (verdict_on ws E) (written_on ws E) ws
@@ -107,7 +107,7 @@ rule_on_lem ws (TurnEdge e a) = ap (λ s. some (turn_rule (oddness a) (turning s
 module _ (ws : Writes) (E : Edit) (g : Good (table_of ws)) where
   verdict_on_lem : verdict (table_of ws) E ≡ verdict_on ws E
   unfolding verdict_on
-  verdict_on_lem = verdict_by (table_of ws) E g ∙ ap (λ h. verdictBy h E) (put_read ws)
+  verdict_on_lem = verdict_by (table_of ws) E g ∙ ap (λ h. verdict_by h E) (put_read ws)
 
   edited_on_lem : edited (table_of ws) E ≡ table_of (edited_on ws E)
   unfolding edited_on

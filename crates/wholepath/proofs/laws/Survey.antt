@@ -5,7 +5,7 @@
 --     Surveying                                        the loop over the walk
 --     surveying_none, surveying_more, surveying_all    it begins, goes on, ends
 --     surveying_lent, surveying_most                   the present step's words are there; there are few pieces
-use Rattle.std.specs.Prelude.{ℕ, zero, ◌+◌, ◌*◌, ◌≤◌, ◌≡◌, refl, Bool, true, false, List, ◌∷◌, ◌++◌, ◌≢◌, ℤ, length}
+use Rattle.std.specs.Prelude.{[], ℕ, zero, ◌+◌, ◌*◌, ◌≤◌, ◌≡◌, refl, Bool, true, false, List, ◌∷◌, ◌++◌, ◌≢◌, ℤ, length}
 use native.Mathlib.Omega.{arith}
 use Rattle.std.proofs.Common.{add-one, ◌∙◌}
 use Rattle.std.proofs.Math.Path.{ap}

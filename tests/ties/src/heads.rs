@@ -6,10 +6,9 @@
 //! ```
 //!
 //! Two blanks or more stand between names and meaning, and before a further meaning, or before further names, with or without a meaning of their own, on
-//! the same line. A meaning that goes on in the next line is further in. A name is declared in the file; `front-..` stands for all that begin so, `-end`
-//! for one that ends so, and `a .. b` for those from a to b.
+//! the same line. A meaning that goes on in the next line is further in. A name is declared in the file, or in its other half where one file of laws stands in
+//! both specs/laws/ and proofs/laws/; `front-..` stands for all that begin so, `-end` for one that ends so, and `a .. b` for those from a to b.
 
-use crate::antt::declared;
 use crate::tree::Tree;
 use std::collections::BTreeSet;
 
@@ -26,13 +25,14 @@ pub fn faults(tree: &Tree) -> Vec<String> {
     for name in tree.crates() {
         let files = tree.files_of_both_rooms(&name).into_iter();
         for file in files.filter(|file| !matches!(file.as_str(), "Lib" | "laws")) {
-            faults.extend(tree.paths_of_spec(&name, &file).iter().flat_map(|path| in_file(tree, path)));
+            let declared = tree.spec(&name, &file).unwrap_or_default().all();
+            faults.extend(tree.paths_of_spec(&name, &file).iter().flat_map(|path| in_file(tree, path, &declared)));
         }
     }
     faults
 }
 
-fn in_file(tree: &Tree, path: &str) -> Vec<String> {
+fn in_file(tree: &Tree, path: &str, declared: &BTreeSet<String>) -> Vec<String> {
     let text = tree.read(path).unwrap_or_default();
     let head: Vec<&str> = text.lines().take_while(|line| line.starts_with("--")).collect();
     let says = head.first().is_some_and(|line| line.starts_with(COMMENT) && !line.starts_with(LIST));
@@ -42,9 +42,8 @@ fn in_file(tree: &Tree, path: &str) -> Vec<String> {
     if lines > LONG && !(says && list.len() >= FEW) {
         faults.push(format!("{path}: {lines} lines, and no head that says what it is about and lists its names"));
     }
-    let declared = declared(&text).all();
     for (line, item) in list {
-        faults.extend(in_item(item, &declared).map(|fault| format!("{path}:{line}: {fault}")));
+        faults.extend(in_item(item, declared).map(|fault| format!("{path}:{line}: {fault}")));
     }
     faults
 }

@@ -76,6 +76,18 @@ fn a_name_that_is_not_declared() {
 }
 
 #[test]
+fn a_file_of_laws_in_two_halves() {
+    let half = "-- About it.\n--     far     a law;     deep     what it speaks of\npub far : ℕ\n";
+    let halves = |name: &str, path: &str| TRIAL.whole(name).add(&format!("crates/tracing/proofs/laws/{path}"), half);
+    TRIAL.found(&halves("halves", "Deep.antt"), &[]);
+    TRIAL.found(&halves("halves-gone", "Deep.antt").remove(DEEP), &["proofs/laws/Deep.antt:2: it declares no `deep`"]);
+    TRIAL.found(&halves("halves-other", "Far.antt"), &["proofs/laws/Far.antt:2: it declares no `deep`"]);
+    // A file of the first room has no other half.
+    let lemmas = TRIAL.whole("no-half").add("crates/tracing/proofs/Walk.antt", "pub gone : ℕ\n");
+    TRIAL.found(&lemmas.change(WALK, "size, lone\n", "size, gone\n"), &["Walk.antt:4: it declares no `gone`"]);
+}
+
+#[test]
 fn a_line_that_cannot_be_read() {
     let one_blank = "`walk, onward the steps;` is no list of names";
     TRIAL.after("one-blank", WALK, "walk, onward     the", "walk, onward the", &[one_blank]);

@@ -3,6 +3,7 @@
 // read gives, and nothing of what becomes of those that are written: so the contracts speak of some bytes, as many as came, and of
 // the number of those that are handed over.
 #![tactic(auto)]
+
 ghost use Rattle.std.specs.Prelude.{◌+◌, ◌≤◌, ◌<◌, ◌^◌, ◌≡◌, true, length, take};
 ghost use Rattle.table.specs.Good.{Good};
 ghost use Rattle.table.specs.Layout.{words};
@@ -94,7 +95,13 @@ fn goes_on(fine: bool, came: usize, stop: Stop) -> bool
 }
 
 // Runs the records of the bytes that were left and of those that came after them, and prints the lines of those that are declined.
-fn run_and_print<R: Runtime>(rt: &R, t: &mut [u16], buf: &mut [u8], came: usize, p: Progress) -> Progress
+fn run_and_print<R: Runtime>(
+    rt: &R,
+    t: &mut [u16],
+    buf: &mut [u8],
+    came: usize,
+    p: Progress,
+) -> Progress
     requires { (length buf.old ≡ 4096) × (p.left + came ≤ 4096) × (p.next ≤ 2 ^ 61) × (p.read ≤ 2 ^ 61) × (p.printed ≤ 2 ^ 63) }
     ensures { (result ≡ after_block t.old p came (take (p.left + came) buf.old) result.fine)
         × (t.new ≡ run t.old (reading (take (p.left + came) buf.old)).edits)
@@ -120,7 +127,13 @@ fn run_and_print<R: Runtime>(rt: &R, t: &mut [u16], buf: &mut [u8], came: usize,
 }
 
 // Reads once and runs the records of what came.
-fn read_block<R: Runtime, I: Read>(rt: &R, input: &mut I, t: &mut [u16], buf: &mut [u8], p: Progress) -> Progress
+fn read_block<R: Runtime, I: Read>(
+    rt: &R,
+    input: &mut I,
+    t: &mut [u16],
+    buf: &mut [u8],
+    p: Progress,
+) -> Progress
     requires { (length buf.old ≡ 4096) × (p.left < longest_record) × (p.next ≤ 2 ^ 61) × (p.read ≤ 2 ^ 61) × (p.printed ≤ 2 ^ 63) }
     ensures { Turn t.old buf.old p t.new buf.new result }
 {

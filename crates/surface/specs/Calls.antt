@@ -1,5 +1,5 @@
 -- What the calls for the counts answer, and what they leave in the slice, document 01, "Counts" and "When a call declines".
---     counts_of            the five words of the mesh;     partRows     six words for each part, upward
+--     counts_of            the five words of the mesh;     part_rows     six words for each part, upward
 use Rattle.std.specs.Prelude.{ℕ, List, [], ◌∷◌, length, ℤ, pos}
 use Rattle.table.specs.Rotation.{Rotation, rotation}
 use Rattle.table.specs.Output.{output_answer, output_out}

@@ -1,5 +1,5 @@
 -- The Euler number, signed, document 01, "Counts": "The Euler number is V-E+F, signed, for each connected part and for the mesh."
---     euler_of             V-E+F;     partEuler, meshEuler     of a part and of the mesh
+--     euler_of             V-E+F;     part_euler, mesh_euler     of a part and of the mesh
 --     PartLaws             at most 2, even if the part is orientable, at most 1 if not
 --     total_ℤ              the sum over a list
 use Rattle.std.specs.Prelude.{ℕ, ◌%◌, ◌≡◌, List, [], ◌∷◌, ℤ, pos, nat_abs, ◌+ℤ◌, ◌-ℤ◌, ◌≤ℤ◌}

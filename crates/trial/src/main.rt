@@ -3,6 +3,7 @@
 // these. Nothing can be said of the bytes that an argument has, and nothing of what becomes of those that are written: so the contracts speak of
 // some bytes, and of the number of those that are handed over.
 #![tactic(auto)]
+
 ghost use Rattle.std.specs.Prelude.{◌≤◌, ◌≡◌, length};
 ghost use Rattle.table.specs.Layout.{edges as edgesMost};
 ghost use Rattle.trial_jobs.specs.Trial.{trial_size, trial_bytes};

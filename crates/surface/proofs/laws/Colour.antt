@@ -1,6 +1,6 @@
 -- Along a walk of a part the type changes as the marks do: the type of a place plus the mark of its vertex is one along a walk.
 --     colour                   the type of a place plus the mark of its vertex
---     colour_reach             it is one along a walk, if the marks agree with the part's edges;     colour-flip     and another in the other sense
+--     colour_reach             it is one along a walk, if the marks agree with the part's edges;     colour_flip     and another in the other sense
 use Rattle.std.specs.Prelude.{ℕ, ◌+◌, ◌*◌, ◌/◌, ◌%◌, ◌<◌, ◌≡◌, refl, Bool}
 use Rattle.std.proofs.Common.{arith, ◌∙◌, ap}
 use Rattle.std.proofs.Math.Path.{sym}

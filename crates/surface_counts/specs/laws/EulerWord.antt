@@ -1,5 +1,5 @@
 -- The Euler number in a signed word of 32 bits: from counts of 16 bits nothing is lost.
---     difference_fits, euler_fits     the difference fits, and the sum;     euler-word     and is V-E+F
+--     difference_fits, euler_fits     the difference fits, and the sum;     euler_word     and is V-E+F
 use Rattle.std.specs.Prelude.{ℕ, ◌+◌, ◌<◌, ◌^◌, ◌≡◌, ◌+ℤ◌, ◌-ℤ◌}
 use Rattle.std.proofs.Common.{arith, ◌∙◌, SFits, to_z, of_z, to_z-of_z}
 use mir.Syntax.{w32}

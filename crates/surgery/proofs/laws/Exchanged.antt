@@ -1,6 +1,6 @@
 -- When a map h is the mirrored exchange of another map f at x and y: it takes x and y where f takes y and x, their opposites
 -- u and v where f takes v and u, and all else where f takes it. Then f is the same exchange of h.
---     Exchanged            h is f with this exchange;     exchanged-back    f is h with it
+--     Exchanged            h is f with this exchange;     exchanged_back    f is h with it
 --     exchanged_keeps      what f and m keep, h keeps, if x and y agree on it
 --     exchanged_is         so h is the exchange of crate orbits, and its face counts apply
 use Rattle.std.specs.Prelude.{◌≡◌, ◌≢◌, Bool, ℕ, ◌<◌}

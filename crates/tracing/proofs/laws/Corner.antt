@@ -5,7 +5,7 @@
 --     present_dart, present_lone, present_means    when a corner is there
 --     face_of_lone, type_of_lone                   the corner of an isolated vertex is its own face, of type 0
 --     place_on                                     the place of a corner that is there is there
---     both-ways                                    a place and its mirror are not on one orbit
+--     both_ways                                    a place and its mirror are not on one orbit
 --     corner_met                                   every corner of a live dart is met by a listed walk
 --     face_by                                      a listed walk's step at a corner tells its face and its type
 --     Home, Compared, TypeAt                       the listed walk a corner is on; two types compared; the first step at a corner

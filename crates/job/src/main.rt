@@ -23,7 +23,7 @@ use report::report::show;
 use std::io;
 use std::io::Read;
 use std::rt::Runtime;
-use streams::{put, tell};
+use streams::{get, put};
 use table::empty::empty;
 use table::layout::WORDS;
 
@@ -138,10 +138,9 @@ fn read_block<R: Runtime, I: Read>(
     ensures { Turn t.old buf.old p t.new buf.new result }
 {
     let left = p.left;
-    match input.read(&mut buf[left..]) {
-        Ok(came) => run_and_print(rt, t, buf, came, p),
-        Err(error) => {
-            tell(rt, "standard input", &error);
+    match get(rt, input, "standard input", &mut buf[left..]) {
+        Some(came) => run_and_print(rt, t, buf, came, p),
+        None => {
             let stop = p.stop;
             Progress {
                 going: false,

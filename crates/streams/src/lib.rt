@@ -1,20 +1,20 @@
 // What the programs do where a standard stream fails: a line on standard error says so, and they go on.
 #![tactic(auto)]
 
-ghost use Rattle.std.specs.Prelude.{◌≡◌, true};
+ghost use Rattle.std.specs.Prelude.{◌≡◌, ◌≤◌, true, length, IfSome};
 ghost use Rattle.std.specs.Io.KnownBytes.{Appends};
 
-use std::io::{Error, Write};
+use std::io::{Error, Read, Write};
 use std::rt::Runtime;
 
 // Says on standard error what failed, and why, without the system's number for it: `standard output: No space left on device`.
-pub fn tell<R: Runtime>(rt: &R, what: &str, error: &Error) {
+fn tell<R: Runtime>(rt: &R, name: &str, error: &Error) {
     let said = match format!(in rt.alloc(); "{error}") {
         Ok(text) => match text.as_str().split_once(" (os error ") {
-            Some((why, _)) => eprintln!(rt; "{what}: {why}"),
-            None => eprintln!(rt; "{what}: {text}"),
+            Some((why, _)) => eprintln!(rt; "{name}: {why}"),
+            None => eprintln!(rt; "{name}: {text}"),
         },
-        Err(_) => eprintln!(rt; "{what}: {error}"),
+        Err(_) => eprintln!(rt; "{name}: {error}"),
     };
     // Where standard error fails as well, nobody is left to tell.
     let _untold = said;
@@ -29,6 +29,19 @@ pub fn put<R: Runtime, W: Write>(rt: &R, to: &mut W, name: &str, bytes: &[u8]) -
         Err(error) => {
             tell(rt, name, &error);
             false
+        }
+    }
+}
+
+// Reads some bytes of a stream to the front of a slice: how many, and none at its end. Where that fails, standard error says so.
+pub fn get<R: Runtime, I: Read>(rt: &R, from: &mut I, name: &str, bytes: &mut [u8]) -> Option<usize>
+    ensures { IfSome result (λ n. n ≤ length bytes.new) }
+{
+    match from.read(bytes) {
+        Ok(n) => Some(n),
+        Err(error) => {
+            tell(rt, name, &error);
+            None
         }
     }
 }

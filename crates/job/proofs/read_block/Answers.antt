@@ -9,12 +9,12 @@ use mathlib.Core.Path.{refl}
 use Prim.Native.Nat.{ℕ, ◌-◌, ◌≤◌}
 use Rattle.job.proofs.read_block.Goals as goal
 
-pub returns-in-Ok : goal.returns-in-Ok
-returns-in-Ok g c =
-    let within : c.in-Ok.came ≤ length c.read.new.buf = search rules in
-    let there = take_put {X = ℕ} c.args.p.left (length {A = ℕ} c.args.buf.now - c.args.p.left) c.args.buf.now c.read.new.buf (omega arith) in
-    turn_came (put_mid {X = ℕ} c.args.p.left (length {A = ℕ} c.args.buf.now - c.args.p.left) c.args.buf.now c.read.new.buf)
-    c.in-Ok.came (omega arith) (omega arith) there c.run_and_print.ensures
+pub returns-in-Some : goal.returns-in-Some
+returns-in-Some g c =
+    let within : c.in-Some.came ≤ length c.get.new.bytes = search rules in
+    let there = take_put {X = ℕ} c.args.p.left (length {A = ℕ} c.args.buf.now - c.args.p.left) c.args.buf.now c.get.new.bytes (omega arith) in
+    turn_came (put_mid {X = ℕ} c.args.p.left (length {A = ℕ} c.args.buf.now - c.args.p.left) c.args.buf.now c.get.new.bytes)
+    c.in-Some.came (omega arith) (omega arith) there c.run_and_print.ensures
 
-pub returns-in-Err : goal.returns-in-Err
-returns-in-Err g c = failed refl refl (take_put {X = ℕ} c.args.p.left (length {A = ℕ} c.args.buf.now - c.args.p.left) c.args.buf.now c.read.new.buf (omega arith))
+pub returns-in-None : goal.returns-in-None
+returns-in-None g c = failed refl refl (take_put {X = ℕ} c.args.p.left (length {A = ℕ} c.args.buf.now - c.args.p.left) c.args.buf.now c.get.new.bytes (omega arith))

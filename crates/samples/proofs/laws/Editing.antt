@@ -60,13 +60,13 @@ module _ (g : ℕ → ℕ) where
   verdict_by (DeleteEdge e) = and_then (edge_by e) Passes
   verdict_by (TurnEdge e a) = and_then (edge_by e) (few_turns (turns_in (g (edge_at + e)) +ℤ a))
 
-verdict_by : (t : List ℕ) (E : Edit) → Good t → verdict t E ≡ verdict_by (λ i. get_or t i 0) E
+verdict_by_lem : (t : List ℕ) (E : Edit) → Good t → verdict t E ≡ verdict_by (λ i. get_or t i 0) E
 unfolding new_vertex old_vertex new_edge old_edge
-verdict_by t (AddVertex v) g = rw (← good_yes t g)
-verdict_by t (RemoveVertex v) g = rw (← good_yes t g)
-verdict_by t (InsertEdge e c₁ c₂ k n) g = rw (← good_yes t g, rotation_by_lem t)
-verdict_by t (DeleteEdge e) g = rw (← good_yes t g)
-verdict_by t (TurnEdge e a) g = rw (← good_yes t g)
+verdict_by_lem t (AddVertex v) g = rw (← good_yes t g)
+verdict_by_lem t (RemoveVertex v) g = rw (← good_yes t g)
+verdict_by_lem t (InsertEdge e c₁ c₂ k n) g = rw (← good_yes t g, rotation_by_lem t)
+verdict_by_lem t (DeleteEdge e) g = rw (← good_yes t g)
+verdict_by_lem t (TurnEdge e a) g = rw (← good_yes t g)
 
 abbrev writes_by : Verdict → Writes → Writes → Writes
 writes_by Passes new old = new
@@ -107,7 +107,7 @@ rule_on_lem ws (TurnEdge e a) = ap (λ s. some (turn_rule (oddness a) (turning s
 module _ (ws : Writes) (E : Edit) (g : Good (table_of ws)) where
   verdict_on_lem : verdict (table_of ws) E ≡ verdict_on ws E
   unfolding verdict_on
-  verdict_on_lem = verdict_by (table_of ws) E g ∙ ap (λ h. verdict_by h E) (put_read ws)
+  verdict_on_lem = verdict_by_lem (table_of ws) E g ∙ ap (λ h. verdict_by h E) (put_read ws)
 
   edited_on_lem : edited (table_of ws) E ≡ table_of (edited_on ws E)
   unfolding edited_on

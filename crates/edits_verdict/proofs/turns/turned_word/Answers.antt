@@ -32,9 +32,9 @@ overflow_add-result c = let s = settle c.args.w c.args.amount c.ranges.w.fits c.
 
 pub overflow_cast-result : goal.overflow_cast-result
 overflow_cast-result c = let s = settle c.args.w c.args.amount c.ranges.w.fits c.ranges.amount.sfits c.ranges.amount in
-    let r = in_range (turns_in c.args.w +ℤ c.args.amount) (rw s at c.if-turns-lt-LEAST.false) (rw s at c.if-turns-gt-MOST.false) in
-    let most = r.most in
-    rw (settle_hundred _ (turns_in c.args.w +ℤ c.args.amount) s r) (tt, record { fits = omega arith })
+    let q = in_range (turns_in c.args.w +ℤ c.args.amount) (rw s at c.if-turns-lt-LEAST.false) (rw s at c.if-turns-gt-MOST.false) in
+    let most = q.most in
+    rw (settle_hundred _ (turns_in c.args.w +ℤ c.args.amount) s q) (tt, record { fits = omega arith })
 
 pub returns : goal.returns
 returns c = let s = settle c.args.w c.args.amount c.ranges.w.fits c.ranges.amount.sfits c.ranges.amount in

@@ -33,7 +33,7 @@ impl Error {
 }
 
 /// How errors begin in which two types or values differ, a goal does not follow, or an equation does not bear on it.
-const BEGINS: [&str; 10] = [
+const BEGINS: [&str; 11] = [
     "as printed, the two ",
     "computed as far as they go, the two ",
     "expected type `",
@@ -42,6 +42,7 @@ const BEGINS: [&str; 10] = [
     "`grind`: the goal does not follow. The hypotheses hold, and ",
     "`search`: no proof of `",
     "`rw`: no occurrence of the path's left endpoint in the ",
+    "`simp`: no equation of the list has an instance in the goal `",
     "`simp`: no equation of the list can be applied in `",
     "`simp`: no equation of the list has an instance where it is tried in `",
 ];

@@ -114,7 +114,13 @@ fn error(line: &str) -> Option<Error> {
     };
     let told = told.strip_prefix(": ").or(Some(told).filter(|told| told.starts_with('[')))?;
     let (need, text) = told.strip_prefix('`').and_then(|told| told.split_once("`: ")).unwrap_or(("", told));
-    Some(Error { path: place(at)?.0, need: need.to_string(), text: text.to_string() })
+    // One with a path alone is an error too; a sentence in which the word stands is none.
+    let path = match place(at) {
+        Some((path, _)) => path,
+        None if at.contains(' ') => return None,
+        None => at.strip_prefix("./").unwrap_or(at).to_string(),
+    };
+    Some(Error { path, need: need.to_string(), text: text.to_string() })
 }
 
 /// `PATH:LINE:COLUMN` without the column; nothing where nothing stands.

@@ -1,10 +1,8 @@
 -- A number in the bytes of an argument, in decimal.
 --     numeral      bytes that are one or more digits
 --     number_in     the number that they are, if it is at most a bound
-use Rattle.std.specs.Prelude.{ℕ, Bool, true, cond, ◌&&◌, List, [], ◌∷◌, leb, length}
+use Rattle.std.specs.Prelude.{ℕ, Bool, true, cond, ◌&&◌, List, [], ◌∷◌, leb, length, Option, Some, None}
 use Rattle.text.specs.Decimal.{value}
-use Rattle.arguments.specs.declared.number.Parsed.{Parsed}
-use Rattle.arguments.specs.declared.number.Parsed.TheVariants.{Number, Nothing}
 
 -- 48 is "0", 57 is "9"
 abbrev pub is_digit : ℕ → Bool
@@ -18,5 +16,5 @@ all_digits (b ∷ s) = is_digit b && all_digits s
 abbrev pub numeral : List ℕ → Bool
 numeral s = leb 1 (length s) && all_digits s
 
-unfoldable pub number_in : List ℕ → ℕ → Parsed
-number_in s most = cond (numeral s && leb (value s) most) (Number (value s)) Nothing
+unfoldable pub number_in : List ℕ → ℕ → Option ℕ
+number_in s most = cond (numeral s && leb (value s) most) (Some (value s)) None

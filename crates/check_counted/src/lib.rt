@@ -1,4 +1,4 @@
-// The copy of the check that counts the words it reads, whole.
+// The check of a table, counting the words that it reads.
 #![tactic(auto)]
 
 pub mod whole;

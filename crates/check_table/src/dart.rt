@@ -1,112 +1,101 @@
 // The rules that a dart's own words keep.
-ghost use Rattle.std.specs.Prelude.{◌≡◌, ◌+◌, ◌*◌, ◌<◌, length};
-ghost use Rattle.table.specs.Layout.{words, darts, edge_word, edge_of};
-ghost use Rattle.table.specs.Good.{Bare};
-ghost use Rattle.table.specs.laws.Rotation.{Case};
-ghost use Rattle.table.specs.laws.Darts.{Linked, DartRule, RuledBelow, DartsTo, DartsSay};
+ghost use Rattle.std.specs.Prelude.{◌≡◌, ◌+◌, ◌*◌, ◌<◌};
+ghost use Rattle.table.specs.Layout.{darts, edge_word, edge_of};
+ghost use Rattle.table.specs.Reading.{Adds};
+ghost use Rattle.table.specs.laws.Darts.{RuledBelow, DartsTo, DartsSay};
 ghost use Rattle.table.specs.laws.Blocks.{edge_blocks};
+ghost use Rattle.check_reads.specs.Reads.{bare_tests, linked_tests, dart_tests, edge_in, edge_block, reads_below};
+ghost use Rattle.check_reads.proofs.laws.Tests.{Told};
 
 use crate::block::is_idle;
 use table::block::{BLOCK, EDGE_BLOCKS};
-use table::counted::Counted;
-use table::layout::{DARTS, EDGE, EDGE_WORD_MAX, LEAVES, NOTHING, PREV, VERTICES};
+use table::layout::{DARTS, EDGE, EDGE_WORD_MAX, LEAVES, NOTHING, PREV, VERTICES, WORDS};
+use table::read::{Counter, read};
 
 // Are the three words of a dart that is not live 65,535.
-fn is_bare(t: &[u16], d: usize) -> bool
-    requires { (length t.now ≡ words) × (d < darts) }
-    ensures { Case result (Bare t.now d) }
+fn is_bare<C: Counter>(t: &[u16; WORDS], d: usize, reads: &mut C) -> bool
+    requires { d < darts }
+    ensures { Told C.shows (bare_tests t.now d) result reads.old reads.new }
 {
-    if t[d] != NOTHING {
+    if read(t, d, reads) != NOTHING {
         return false;
     }
-    if t[PREV + d] != NOTHING {
+    if read(t, PREV + d, reads) != NOTHING {
         return false;
     }
-    if t[LEAVES + d] != NOTHING {
+    if read(t, LEAVES + d, reads) != NOTHING {
         return false;
     }
     true
 }
 
 // Does a live dart leave a vertex, and does "previous" undo "next" at it, at one vertex. If so for all darts, "next" undoes "previous" as well.
-fn is_linked(t: &[u16], d: usize) -> bool
-    requires { (length t.now ≡ words) × (d < darts) }
-    ensures { Case result (Linked t.now d) }
+fn is_linked<C: Counter>(t: &[u16; WORDS], d: usize, reads: &mut C) -> bool
+    requires { d < darts }
+    ensures { Told C.shows (linked_tests t.now d) result reads.old reads.new }
 {
-    let v = t[LEAVES + d] as usize;
+    let v = read(t, LEAVES + d, reads) as usize;
     if VERTICES <= v {
         return false;
     }
-    let n = t[d] as usize;
+    let n = read(t, d, reads) as usize;
     if DARTS <= n {
         return false;
     }
-    if t[PREV + n] as usize != d {
+    if read(t, PREV + n, reads) as usize != d {
         return false;
     }
-    if t[LEAVES + n] as usize != v {
+    if read(t, LEAVES + n, reads) as usize != v {
         return false;
     }
     true
 }
 
 // Does dart d keep its rules, by what its edge's word w says.
-fn keeps_rule(t: &[u16], d: usize, w: u16) -> bool
-    requires { (length t.now ≡ words) × (d < darts) × (w ≡ edge_word t.now (edge_of d)) }
-    ensures { Case result (DartRule t.now d) }
+fn keeps_rule<C: Counter>(t: &[u16; WORDS], d: usize, w: u16, reads: &mut C) -> bool
+    requires { (d < darts) × (w ≡ edge_word t.now (edge_of d)) }
+    ensures { Told C.shows (dart_tests t.now d) result reads.old reads.new }
 {
     if w == 0 {
-        return is_bare(t, d);
+        return is_bare(t, d, reads);
     }
     if EDGE_WORD_MAX < w {
         return false;
     }
-    is_linked(t, d)
+    is_linked(t, d, reads)
 }
 
 // The number of live darts up to the end of block b, of which n are below it, if each dart of the block keeps its rules.
-fn live_in(t: &[u16], b: usize, n: usize) -> Counted
-    requires { (length t.now ≡ words) × (b < edge_blocks) × RuledBelow t.now n (64 * b) }
-    ensures { DartsTo t.now (64 * b + 64) result }
+fn live_in<C: Counter>(t: &[u16; WORDS], b: usize, n: usize, reads: &mut C) -> Option<usize>
+    requires { (b < edge_blocks) × RuledBelow t.now n (64 * b) }
+    ensures { DartsTo t.now (64 * b + 64) result × Adds C.shows reads.old reads.new (reads_below (edge_in t.now b) 32) }
 {
-    let end = BLOCK * b + BLOCK;
+    let from = BLOCK * b;
     let mut live = n;
-    let mut e = BLOCK * b;
-    while e < end {
-        let w = t[EDGE + e];
-        if !keeps_rule(t, 2 * e, w) {
-            return Counted::Broken;
+    for e in from..from + BLOCK {
+        let w = read(t, EDGE + e, reads);
+        if !keeps_rule(t, 2 * e, w, reads) {
+            return None;
         }
-        if !keeps_rule(t, 2 * e + 1, w) {
-            return Counted::Broken;
+        if !keeps_rule(t, 2 * e + 1, w, reads) {
+            return None;
         }
         if w != 0 {
             live += 2;
         }
-        e += 1;
     }
-    Counted::Of(live)
+    Some(live)
 }
 
 // The number of live darts, if each dart keeps its rules.
-pub fn live_darts(t: &[u16]) -> Counted
-    requires { length t.now ≡ words }
-    ensures { DartsSay t.now result }
+pub fn live_darts<C: Counter>(t: &[u16; WORDS], reads: &mut C) -> Option<usize>
+    ensures { DartsSay t.now result × Adds C.shows reads.old reads.new (reads_below (edge_block t.now) 32) }
 {
     let mut n: usize = 0;
-    let mut b: usize = 0;
-    while b < EDGE_BLOCKS {
-        if !is_idle(t, b) {
-            match live_in(t, b, n) {
-                Counted::Broken => {
-                    return Counted::Broken;
-                }
-                Counted::Of(k) => {
-                    n = k;
-                }
-            }
+    for b in 0..EDGE_BLOCKS {
+        if !is_idle(t, b, reads) {
+            n = live_in(t, b, n, reads)?;
         }
-        b += 1;
     }
-    Counted::Of(n)
+    Some(n)
 }

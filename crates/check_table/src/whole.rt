@@ -1,28 +1,51 @@
-// The check of a whole table.
+// The check of a whole table, without a count of the words that it reads and with one.
 ghost use Rattle.std.specs.Prelude.{◌≡◌};
 ghost use Rattle.table.specs.Check.{good?, check_of};
+ghost use Rattle.table.specs.Reading.{Adds};
+ghost use Rattle.check_reads.specs.Reads.{check_reads};
 
 use crate::dart::live_darts;
 use crate::length::lengths_fit;
 use crate::vertex::all_led_darts;
-use table::answer::{Answer, Refusal};
-use table::counted::Counted;
+use table::answer::Refusal;
 use table::layout::WORDS;
+use table::read::{Counter, Uncounted};
 
 // Is t a good table. Keeps no array, and reads each word a few times at most.
 pub fn is_good(t: &[u16]) -> bool
     ensures { result ≡ good? t.now }
 {
-    if t.len() != WORDS {
+    is_good_with(t, &mut Uncounted)
+}
+
+// The check, as a call: 0 for a good table, and torn for every other slice.
+pub fn check(t: &[u16]) -> Result<u32, Refusal>
+    ensures { result ≡ check_of t.now }
+{
+    check_with(t, &mut Uncounted)
+}
+
+// Is t a good table, each word that is read counted.
+fn is_good_with<C: Counter>(t: &[u16], reads: &mut C) -> bool
+    ensures { (result ≡ good? t.now) × Adds C.shows reads.old reads.new (check_reads t.now) }
+{
+    match t.as_array() {
+        Some(t) => keeps_rules(t, reads),
+        None => false,
+    }
+}
+
+// Does a table of the right size keep all rules, each word that is read counted.
+fn keeps_rules<C: Counter>(t: &[u16; WORDS], reads: &mut C) -> bool
+    ensures { (result ≡ good? t.now) × Adds C.shows reads.old reads.new (check_reads t.now) }
+{
+    if !lengths_fit(t, reads) {
         return false;
     }
-    if !lengths_fit(t) {
-        return false;
-    }
-    let Counted::Of(live) = live_darts(t) else {
+    let Some(live) = live_darts(t, reads) else {
         return false;
     };
-    let Counted::Of(led) = all_led_darts(t) else {
+    let Some(led) = all_led_darts(t, reads) else {
         return false;
     };
     if led != live {
@@ -31,12 +54,12 @@ pub fn is_good(t: &[u16]) -> bool
     true
 }
 
-// The check, as a call: 0 for a good table, and torn for every other slice.
-pub fn check(t: &[u16]) -> Answer
-    ensures { result ≡ check_of t.now }
+// The check, as a call, each word that is read counted.
+pub fn check_with<C: Counter>(t: &[u16], reads: &mut C) -> Result<u32, Refusal>
+    ensures { (result ≡ check_of t.now) × Adds C.shows reads.old reads.new (check_reads t.now) }
 {
-    if is_good(t) {
-        return Answer::Done(0);
+    if is_good_with(t, reads) {
+        return Ok(0);
     }
-    Answer::Declined(Refusal::Torn)
+    Err(Refusal::Torn)
 }

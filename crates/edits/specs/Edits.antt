@@ -1,19 +1,15 @@
 -- The five edits, document 01, "Edits": the table that each leaves, and its answer. A declined edit leaves every word, and answers its number alone.
-use Rattle.std.specs.Prelude.{ℕ, cond, List, eqb}
+use Rattle.std.specs.Prelude.{ℕ, cond, List, eqb, Ok, Err}
 use Rattle.table.specs.Layout.{nothing, isolated, edge_word}
 use Rattle.table.specs.Rotation.{rotation}
 use Rattle.table.specs.Writes.{set_vertex, set_edge}
-use Rattle.table.specs.declared.answer.Answer.{Answer}
-use Rattle.table.specs.declared.answer.Answer.TheVariants.{Done, Declined}
 use Rattle.tracing.specs.Listing.{face_count}
 use Rattle.edits.specs.Turns.{turned_word}
-use Rattle.edits.specs.Verdicts.{verdict}
+use Rattle.edits.specs.Verdicts.{verdict, Verdict}
 use Rattle.edits.specs.Edge.{inserted, deleted}
 use Rattle.edits.specs.declared.edit.Edit.{Edit}
 use Rattle.edits.specs.declared.edit.Edit.TheVariants.{AddVertex, RemoveVertex, InsertEdge, DeleteEdge, TurnEdge}
-use Rattle.edits.specs.declared.edit.Verdict.{Verdict}
-use Rattle.edits.specs.declared.edit.Verdict.TheVariants.{Passes, Declines}
-use Rattle.table.specs.Answers.{if_done}
+use Rattle.table.specs.Answers.{if_done, Answer}
 
 -- the table that the edit writes where it goes through
 abbrev pub written : List ℕ → Edit → List ℕ
@@ -34,8 +30,8 @@ length_after (TurnEdge e a) i l = l
 
 -- "Each accepted edit answers the new face count."
 abbrev answer_by : Verdict → List ℕ → Answer
-answer_by Passes new = Done (face_count (rotation new))
-answer_by (Declines r) new = Declined r
+answer_by (Ok tt) new = Ok (face_count (rotation new))
+answer_by (Err r) new = Err r
 
 unfoldable pub answer : List ℕ → Edit → Answer
 answer t E = answer_by (verdict t E) (written t E)

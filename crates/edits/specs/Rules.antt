@@ -4,12 +4,10 @@
 --     reply, with_rule                  the answer with its rule
 --     reply_code, rule_number           as a host gets it; the numbers of the rules
 --     faces_read, rule_read, number_met  what the host reads in that; the number of the rule met, 0 for none
-use Rattle.std.specs.Prelude.{ℕ, zero, suc, ◌+◌, ◌-◌, ◌*◌, ◌/◌, ◌%◌, List, ℤ, pos}
-use Rattle.std.proofs.Math.Option.{Option, none, some}
+use Rattle.std.specs.Prelude.{ℕ, zero, suc, ◌+◌, ◌-◌, ◌*◌, ◌/◌, ◌%◌, List, ℤ, pos, Ok, Err, Result, Option, Some, None}
 use Rattle.table.specs.Rotation.{rotation}
-use Rattle.table.specs.Answers.{refusal_code}
-use Rattle.table.specs.declared.answer.Answer.{Answer}
-use Rattle.table.specs.declared.answer.Answer.TheVariants.{Done, Declined}
+use Rattle.table.specs.declared.answer.Refusal.{Refusal}
+use Rattle.table.specs.Answers.{refusal_code, Answer}
 use Rattle.tracing.specs.Corner.{meeting_of}
 use Rattle.tracing.specs.Sides.{sides_of}
 use Rattle.surgery.specs.Change.{Change, less, as_many, more, deletion, turning, insertion}
@@ -20,7 +18,6 @@ use Rattle.edits.specs.declared.edit.Edit.TheVariants.{AddVertex, RemoveVertex, 
 use Rattle.edits.specs.declared.rule.Rule.{Rule}
 use Rattle.edits.specs.declared.rule.Rule.TheVariants as rule
 use Rattle.edits.specs.declared.rule.Reply.{Reply}
-use Rattle.edits.specs.declared.rule.Reply.TheVariants.{Faces, ByRule, Refused}
 
 -- "A (two faces become one), B1 (one becomes two), B2 (one stays one)": "the letters follow the face change"
 abbrev pub rule_for : Change → Rule
@@ -35,11 +32,11 @@ turn_rule (suc n) c = rule_for c
 
 -- "Insert, delete and turn now answer .. the rule met": by document 01's table, read on the table before the edit. A vertex meets none.
 abbrev pub rule_of : List ℕ → Edit → Option Rule
-rule_of t (AddVertex v) = none
-rule_of t (RemoveVertex v) = none
-rule_of t (InsertEdge e c₁ c₂ k n) = some (rule_for (insertion (meeting_of (rotation t) c₁ c₂) (oddness k)))
-rule_of t (DeleteEdge e) = some (rule_for (deletion (sides_of (rotation t) e)))
-rule_of t (TurnEdge e a) = some (turn_rule (oddness a) (turning (sides_of (rotation t) e)))
+rule_of t (AddVertex v) = None
+rule_of t (RemoveVertex v) = None
+rule_of t (InsertEdge e c₁ c₂ k n) = Some (rule_for (insertion (meeting_of (rotation t) c₁ c₂) (oddness k)))
+rule_of t (DeleteEdge e) = Some (rule_for (deletion (sides_of (rotation t) e)))
+rule_of t (TurnEdge e a) = Some (turn_rule (oddness a) (turning (sides_of (rotation t) e)))
 
 -- what a rule says of the number of faces: one less, one more, as many
 abbrev pub rule_change : Rule → Change
@@ -56,12 +53,11 @@ faces_after n rule.B2 = n
 faces_after n rule.E = n
 
 -- "besides the new face count, the rule met"; a declined edit answers its number alone
-abbrev pub with_rule : Answer → Option Rule → Reply
-with_rule (Done n) none = Faces n
-with_rule (Done n) (some r) = ByRule n r
-with_rule (Declined r) m = Refused r
+abbrev pub with_rule : Answer → Option Rule → Result Reply Refusal
+with_rule (Ok n) m = Ok (record { faces = n; rule = m })
+with_rule (Err r) m = Err r
 
-unfoldable pub reply : List ℕ → Edit → Reply
+unfoldable pub reply : List ℕ → Edit → Result Reply Refusal
 reply t E = with_rule (answer t E) (rule_of t E)
 
 -- the house's numbers for the rules
@@ -71,11 +67,15 @@ rule_number rule.B1 = 2
 rule_number rule.B2 = 3
 rule_number rule.E = 4
 
+-- the number of the rule met, 0 for none
+abbrev pub number_met : Option Rule → ℕ
+number_met None = 0
+number_met (Some r) = rule_number r
+
 -- a host gets the face count in the low 16 bits and the rule's number above them, or minus the refusal's number
-abbrev pub reply_code : Reply → ℤ
-reply_code (Faces n) = pos n
-reply_code (ByRule n r) = pos (n + 65536 * rule_number r)
-reply_code (Refused r) = refusal_code r
+abbrev pub reply_code : Result Reply Refusal → ℤ
+reply_code (Ok y) = pos (y.faces + 65536 * number_met y.rule)
+reply_code (Err r) = refusal_code r
 
 -- what it reads in a number that is 0 or more: the face count; the rule's number, 0 for none
 abbrev pub faces_read : ℕ → ℕ
@@ -83,7 +83,3 @@ faces_read x = x % 65536
 
 abbrev pub rule_read : ℕ → ℕ
 rule_read x = x / 65536 % 65536
-
-abbrev pub number_met : Option Rule → ℕ
-number_met none = 0
-number_met (some r) = rule_number r

@@ -1,5 +1,4 @@
-// An edit as data, and whether it goes through.
-use table::answer::Refusal;
+// An edit as data.
 
 #[derive(Clone, Copy)]
 pub enum Edit {
@@ -17,10 +16,4 @@ pub enum Edit {
         edge: u16,
         amount: i16,
     },
-}
-
-#[derive(Clone, Copy)]
-pub enum Verdict {
-    Passes,
-    Declines(Refusal),
 }

@@ -8,9 +8,10 @@ use crate::vertex::{add_vertex, remove_vertex};
 use edits::edit::Edit;
 use edits::rule::Reply;
 use edits_rule::reply::without_rule;
+use table::answer::Refusal;
 
 // Does the edit, or declines it. Answers the new face count, and for an edge the rule met.
-pub fn apply(t: &mut [u16], edit: Edit) -> Reply
+pub fn apply(t: &mut [u16], edit: Edit) -> Result<Reply, Refusal>
     ensures { (result ≡ reply t.old edit) × (t.new ≡ edited t.old edit) }
 {
     match edit {

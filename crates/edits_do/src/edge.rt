@@ -7,7 +7,6 @@ ghost use Rattle.edits.specs.declared.edit.Edit.TheVariants.{InsertEdge, DeleteE
 ghost use Rattle.edits.proofs.laws.Ready.{InsertReady, DeleteReady};
 ghost use Rattle.table.specs.Layout.{edges};
 
-use edits::edit::Verdict;
 use edits::rule::Reply;
 use edits_rule::deletion::delete_rule;
 use edits_rule::insertion::insert_rule;
@@ -16,6 +15,7 @@ use edits_rule::turning::turn_rule;
 use edits_verdict::turns::turned_word;
 use edits_verdict::verdict::{delete_verdict, insert_verdict, turn_verdict};
 use edits_write::splice::{link, unlink};
+use table::answer::Refusal;
 use table::layout::{EDGE, LENGTH, UNTURNED};
 
 // Puts edge e, of word w and a length, between corners c1 and c2. The second dart goes first, so that with one corner for both the first stands before it.
@@ -42,18 +42,21 @@ fn first_corner(e: usize, c1: usize, c2: usize) -> usize
 }
 
 // Inserts edge e with turns k and a length: dart 2e into corner c1, 2e+1 into c2. Answers the new face count and the rule met.
-pub fn insert_edge(t: &mut [u16], e: u16, c1: u16, c2: u16, k: i16, length: u16) -> Reply
+pub fn insert_edge(
+    t: &mut [u16],
+    e: u16,
+    c1: u16,
+    c2: u16,
+    k: i16,
+    length: u16,
+) -> Result<Reply, Refusal>
     ensures { (result ≡ reply t.old (InsertEdge e c1 c2 k length)) × (t.new ≡ edited t.old (InsertEdge e c1 c2 k length)) }
 {
-    match insert_verdict(t, e, c1, c2, k, length) {
-        Verdict::Declines(r) => Reply::Refused(r),
-        Verdict::Passes => {
-            let w = turned_word(UNTURNED, k);
-            let ruling = insert_rule(t, c1, c2, w);
-            insert(t, e as usize, c1 as usize, c2 as usize, w, length);
-            by_rule(ruling)
-        }
-    }
+    insert_verdict(t, e, c1, c2, k, length)?;
+    let w = turned_word(UNTURNED, k);
+    let ruling = insert_rule(t, c1, c2, w);
+    insert(t, e as usize, c1 as usize, c2 as usize, w, length);
+    Ok(by_rule(ruling))
 }
 
 // Takes edge e out.
@@ -68,30 +71,22 @@ pub fn delete(t: &mut [u16], e: usize)
 }
 
 // Deletes edge e. Answers the new face count and the rule met.
-pub fn delete_edge(t: &mut [u16], e: u16) -> Reply
+pub fn delete_edge(t: &mut [u16], e: u16) -> Result<Reply, Refusal>
     ensures { (result ≡ reply t.old (DeleteEdge e)) × (t.new ≡ edited t.old (DeleteEdge e)) }
 {
-    match delete_verdict(t, e) {
-        Verdict::Declines(r) => Reply::Refused(r),
-        Verdict::Passes => {
-            let ruling = delete_rule(t, e as usize);
-            delete(t, e as usize);
-            by_rule(ruling)
-        }
-    }
+    delete_verdict(t, e)?;
+    let ruling = delete_rule(t, e as usize);
+    delete(t, e as usize);
+    Ok(by_rule(ruling))
 }
 
 // Turns edge e by an amount. Answers the new face count and the rule met.
-pub fn turn_edge(t: &mut [u16], e: u16, amount: i16) -> Reply
+pub fn turn_edge(t: &mut [u16], e: u16, amount: i16) -> Result<Reply, Refusal>
     ensures { (result ≡ reply t.old (TurnEdge e amount)) × (t.new ≡ edited t.old (TurnEdge e amount)) }
 {
-    match turn_verdict(t, e, amount) {
-        Verdict::Declines(r) => Reply::Refused(r),
-        Verdict::Passes => {
-            let w = turned_word(t[EDGE + e as usize], amount);
-            let ruling = turn_rule(t, e as usize, w);
-            t[EDGE + e as usize] = w;
-            by_rule(ruling)
-        }
-    }
+    turn_verdict(t, e, amount)?;
+    let w = turned_word(t[EDGE + e as usize], amount);
+    let ruling = turn_rule(t, e as usize, w);
+    t[EDGE + e as usize] = w;
+    Ok(by_rule(ruling))
 }

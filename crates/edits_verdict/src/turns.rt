@@ -11,7 +11,8 @@ const MOST: i32 = MOST_TURNS as i32;
 
 const LEAST: i32 = -MOST;
 
-// The word of an edge of word w once it is turned by an amount, or 0 if its turns would pass 99 either way.
+// The word of an edge of word w once it is turned by an amount, or 0 if its turns would pass 99 either way: 0 and not None, as the definition that the
+// contract names has it.
 pub fn turned_word(w: u16, amount: i16) -> u16
     ensures { result ≡ turned_word w amount }
 {

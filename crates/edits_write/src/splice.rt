@@ -65,12 +65,10 @@ fn successor(t: &[u16], v: usize, x: usize, w: u16) -> u16
     if w as usize != x {
         return w;
     }
-    let mut d = x;
-    while d < DARTS {
+    for d in x..DARTS {
         if t[LEAVES + d] as usize == v {
             return d as u16;
         }
-        d += 1;
     }
     ISOLATED
 }

@@ -6,8 +6,7 @@ ghost use Rattle.floatpath.specs.laws.PathCall.{Left};
 
 use crate::survey::survey_from;
 use crate::writing::write_path;
-use table::answer::{Answer, Refusal};
-use weave::named::Named;
+use table::answer::Refusal;
 use weave_letters::named::named_step;
 
 // Three words for each vertex, and three for each edge.
@@ -23,31 +22,31 @@ fn path_size(
     forms: usize,
     coords: usize,
     s: u16,
-) -> Answer
+) -> Result<u32, Refusal>
     requires { Stands t.now s }
     ensures { result ≡ path_along t.now points.now lifts.now forms coords s }
 {
     if points.len() < POINTS {
-        return Answer::Declined(Refusal::ShortSlice);
+        return Err(Refusal::ShortSlice);
     }
     if lifts.len() < LIFTS {
-        return Answer::Declined(Refusal::ShortSlice);
+        return Err(Refusal::ShortSlice);
     }
     let seen = survey_from(t, points, lifts, s);
     let pieces = seen.steps + 1;
     if forms < pieces {
-        return Answer::Declined(Refusal::ShortSlice);
+        return Err(Refusal::ShortSlice);
     }
     if coords < 3 * pieces {
-        return Answer::Declined(Refusal::ShortSlice);
+        return Err(Refusal::ShortSlice);
     }
     if seen.many {
-        return Answer::Declined(Refusal::ManyTurns);
+        return Err(Refusal::ManyTurns);
     }
     if seen.far {
-        return Answer::Declined(Refusal::Far);
+        return Err(Refusal::Far);
     }
-    Answer::Done(pieces as u32)
+    Ok(pieces as u32)
 }
 
 // Writes the path from step s, unless it is declined.
@@ -58,18 +57,13 @@ fn path_from(
     forms: &mut [u16],
     coords: &mut [f32],
     s: u16,
-) -> Answer
+) -> Result<u32, Refusal>
     requires { Stands t.now s }
     ensures { Left t.now points.now lifts.now s forms.old coords.old result forms.new coords.new }
 {
-    let a = path_size(t, points, lifts, forms.len(), coords.len(), s);
-    match a {
-        Answer::Declined(r) => Answer::Declined(r),
-        Answer::Done(n) => {
-            write_path(t, points, lifts, forms, coords, s);
-            Answer::Done(n)
-        }
-    }
+    let pieces = path_size(t, points, lifts, forms.len(), coords.len(), s)?;
+    write_path(t, points, lifts, forms, coords, s);
+    Ok(pieces)
 }
 
 // Writes the float path of the ribbon through the step of dart and type: a word for each piece, and three floats for each. Answers the number of pieces.
@@ -81,14 +75,11 @@ pub fn float_path(
     lifts: &[i32],
     forms: &mut [u16],
     coords: &mut [f32],
-) -> Answer
+) -> Result<u32, Refusal>
     ensures { (result ≡ path_answer t.now dart kind points.now lifts.now (length forms.old) (length coords.old))
         × (forms.new ≡ forms_out t.now dart kind points.now lifts.now forms.old coords.old)
         × (coords.new ≡ coords_out t.now dart kind points.now lifts.now forms.old coords.old) }
 {
-    let n = named_step(t, dart, kind);
-    match n {
-        Named::Refused(r) => Answer::Declined(r),
-        Named::There(s) => path_from(t, points, lifts, forms, coords, s),
-    }
+    let s = named_step(t, dart, kind)?;
+    path_from(t, points, lifts, forms, coords, s)
 }

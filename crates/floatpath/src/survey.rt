@@ -9,7 +9,7 @@ ghost use Rattle.floatpath.specs.laws.Survey.{survey_of, survey_with};
 ghost use Rattle.tracing.specs.Step.{steps};
 
 use crate::range::is_far_step;
-use tracing_walks::step::step;
+use tracing_walks::walk::walk;
 use weave_letters::letter::{crossings, edge_word};
 
 // The number of steps; has an edge more than one turn; is a point or a lift out of range.
@@ -57,19 +57,15 @@ pub fn survey_from(t: &[u16], points: &[i32], lifts: &[i32], s: u16) -> Survey
     requires { Lent t.now points.now lifts.now s }
     ensures { result ≡ survey_of t.now points.now lifts.now (walk (rotation t.now) s) }
 {
-    let mut at = s;
     let mut seen = Survey {
         steps: 0,
         many: false,
         far: false,
     };
-    loop {
+    for at in walk(t, s) {
         let many = has_many_turns(t, at);
         let far = is_far_step(t, points, lifts, at);
         seen = with_step(seen, many, far);
-        at = step(t, at);
-        if at == s {
-            return seen;
-        }
     }
+    seen
 }

@@ -6,7 +6,7 @@ ghost use Rattle.floatpath_pieces.specs.Path.{forms_of, floats_of, path_from};
 ghost use Rattle.floatpath.specs.laws.Laying.{PieceWritten, PathRoom, Laid};
 
 use floatpath_pieces::piece::{Piece, form_word, piece_on, point_of};
-use tracing_walks::step::step;
+use tracing_walks::walk::walk;
 
 // Piece n of a path.
 fn write_piece(forms: &mut [u16], coords: &mut [f32], n: usize, p: Piece)
@@ -32,17 +32,13 @@ fn write_pieces(
     requires { PathRoom t.now points.now lifts.now s (length forms.old) (length coords.old) }
     ensures { Laid t.now points.now lifts.now s forms.old coords.old result forms.new coords.new }
 {
-    let mut at = s;
     let mut n: usize = 0;
-    loop {
+    for at in walk(t, s) {
         let p = piece_on(t, points, lifts, at);
         write_piece(forms, coords, n, p);
         n += 1;
-        at = step(t, at);
-        if at == s {
-            return n;
-        }
     }
+    n
 }
 
 // The path from step s, at the front of the slices. The rest keeps its words.

@@ -1,16 +1,15 @@
 -- A forecast as one number, as a host gets it from ask and hands it to commit: the face count after in the low 16 bits, the rule's number in the
 -- 16 above, the face count before in the 32 above these.
-use Rattle.std.specs.Prelude.{◌+◌, ◌*◌, ◌/◌, ℤ, pos, negsuc}
+use Rattle.forecasts.specs.Forecast.{Asked}
+use Rattle.std.specs.Prelude.{◌+◌, ◌*◌, ◌/◌, ℤ, pos, negsuc, Ok, Err}
 use Rattle.table.specs.Answers.{refusal_code}
 use Rattle.edits.specs.Rules.{faces_read, rule_read}
 use Rattle.forecasts.specs.declared.forecast.Forecast.{Forecast}
-use Rattle.forecasts.specs.declared.forecast.Asked.{Asked}
-use Rattle.forecasts.specs.declared.forecast.Asked.TheVariants.{Foretold, Refused}
 
 -- the number that ask answers
 abbrev pub asked_code : Asked → ℤ
-asked_code (Foretold f) = pos (f.after + 65536 * f.rule + 4294967296 * f.before)
-asked_code (Refused r) = refusal_code r
+asked_code (Ok f) = pos (f.after + 65536 * f.rule + 4294967296 * f.before)
+asked_code (Err r) = refusal_code r
 
 -- the three answers that commit reads in the number it is handed; a number below 0 is no forecast, and no edge's rule has the number 0
 abbrev pub forecast_in : ℤ → Forecast

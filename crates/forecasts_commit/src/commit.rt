@@ -4,29 +4,29 @@ ghost use Rattle.edits.specs.declared.edit.Edit.TheVariants.{InsertEdge, DeleteE
 ghost use Rattle.forecasts.specs.Forecast.{commit_reply, committed};
 ghost use Rattle.forecasts_commit.specs.laws.Commit.{told_reply};
 
-use edits::edit::Verdict;
 use edits::rule::{Reply, Rule};
 use edits_do::edge::{delete, insert};
 use edits_verdict::turns::turned_word;
 use forecasts::forecast::Forecast;
 use forecasts_ask::ask::{ask_delete_edge, ask_insert_edge, ask_turn_edge};
 use forecasts_number::compare::commit_verdict;
+use table::answer::Refusal;
 use table::layout::{EDGE, UNTURNED};
 
 // What the plain edit answers where its forecast is this one.
 fn told(f: Forecast) -> Reply
     ensures { result ≡ told_reply f }
 {
-    if f.rule == 1 {
-        return Reply::ByRule(f.after, Rule::A);
+    let rule = match f.rule {
+        1 => Rule::A,
+        2 => Rule::B1,
+        3 => Rule::B2,
+        _ => Rule::E,
+    };
+    Reply {
+        faces: f.after,
+        rule: Some(rule),
     }
-    if f.rule == 2 {
-        return Reply::ByRule(f.after, Rule::B1);
-    }
-    if f.rule == 3 {
-        return Reply::ByRule(f.after, Rule::B2);
-    }
-    Reply::ByRule(f.after, Rule::E)
 }
 
 // Inserts edge e if the forecast holds.
@@ -38,44 +38,36 @@ pub fn commit_insert_edge(
     k: i16,
     length: u16,
     forecast: Forecast,
-) -> Reply
+) -> Result<Reply, Refusal>
     ensures { (result ≡ commit_reply t.old (InsertEdge e c1 c2 k length) forecast)
         × (t.new ≡ committed t.old (InsertEdge e c1 c2 k length) forecast) }
 {
-    match commit_verdict(forecast, ask_insert_edge(t, e, c1, c2, k, length)) {
-        Verdict::Declines(r) => Reply::Refused(r),
-        Verdict::Passes => {
-            let w = turned_word(UNTURNED, k);
-            insert(t, e as usize, c1 as usize, c2 as usize, w, length);
-            told(forecast)
-        }
-    }
+    commit_verdict(forecast, ask_insert_edge(t, e, c1, c2, k, length))?;
+    let w = turned_word(UNTURNED, k);
+    insert(t, e as usize, c1 as usize, c2 as usize, w, length);
+    Ok(told(forecast))
 }
 
 // Deletes edge e if the forecast holds.
-pub fn commit_delete_edge(t: &mut [u16], e: u16, forecast: Forecast) -> Reply
+pub fn commit_delete_edge(t: &mut [u16], e: u16, forecast: Forecast) -> Result<Reply, Refusal>
     ensures { (result ≡ commit_reply t.old (DeleteEdge e) forecast) × (t.new ≡ committed t.old (DeleteEdge e) forecast) }
 {
-    match commit_verdict(forecast, ask_delete_edge(t, e)) {
-        Verdict::Declines(r) => Reply::Refused(r),
-        Verdict::Passes => {
-            delete(t, e as usize);
-            told(forecast)
-        }
-    }
+    commit_verdict(forecast, ask_delete_edge(t, e))?;
+    delete(t, e as usize);
+    Ok(told(forecast))
 }
 
 // Turns edge e by an amount if the forecast holds.
-pub fn commit_turn_edge(t: &mut [u16], e: u16, amount: i16, forecast: Forecast) -> Reply
+pub fn commit_turn_edge(
+    t: &mut [u16],
+    e: u16,
+    amount: i16,
+    forecast: Forecast,
+) -> Result<Reply, Refusal>
     ensures { (result ≡ commit_reply t.old (TurnEdge e amount) forecast)
         × (t.new ≡ committed t.old (TurnEdge e amount) forecast) }
 {
-    match commit_verdict(forecast, ask_turn_edge(t, e, amount)) {
-        Verdict::Declines(r) => Reply::Refused(r),
-        Verdict::Passes => {
-            let w = turned_word(t[EDGE + e as usize], amount);
-            t[EDGE + e as usize] = w;
-            told(forecast)
-        }
-    }
+    commit_verdict(forecast, ask_turn_edge(t, e, amount))?;
+    t[EDGE + e as usize] = turned_word(t[EDGE + e as usize], amount);
+    Ok(told(forecast))
 }

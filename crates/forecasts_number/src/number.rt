@@ -4,22 +4,22 @@ ghost use Rattle.forecasts.specs.Number.{asked_code, forecast_in};
 ghost use Rattle.forecasts.proofs.laws.Number.{Numbered};
 
 use edits::rule::RULE_PLACE;
-use forecasts::forecast::{Asked, Forecast};
-use table::answer::refusal_code;
+use forecasts::forecast::Forecast;
+use table::answer::{Refusal, refusal_code};
 
 // The face count before stands above the rule's 16 bits.
 const BEFORE_PLACE: u64 = 4294967296;
 
 // Ask's answer as C gets it: after, the rule's number above its 16 bits, before above 32; or the refusal's code.
-pub fn asked_code(asked: Asked) -> i64
+pub fn asked_code(asked: Result<Forecast, Refusal>) -> i64
     requires { Numbered asked }
     ensures { result ≡ asked_code asked }
 {
     match asked {
-        Asked::Foretold(f) => (f.after as u64
+        Ok(f) => (f.after as u64
             + RULE_PLACE * f.rule as u64
             + BEFORE_PLACE * f.before as u64) as i64,
-        Asked::Refused(r) => refusal_code(r),
+        Err(r) => refusal_code(r),
     }
 }
 

@@ -14,7 +14,7 @@ ghost use Rattle.records.specs.Records.{longest_record};
 ghost use Rattle.records.specs.Reading.{reading};
 ghost use Rattle.records.specs.Blocks.{left};
 ghost use Rattle.records.specs.Lines.{stop_line};
-ghost use Rattle.job.specs.Job.{goes_on, after_block, Turn, Read, Ended};
+ghost use Rattle.job.specs.Job.{fine, state_after, after_block, Turn, Read, Ended};
 
 use records::block::run_block;
 use records::lines::stop_line;
@@ -27,13 +27,21 @@ use streams::{get, put};
 use table::empty::empty;
 use table::layout::WORDS;
 
+// Where the reading stands.
+#[derive(Clone, Copy, PartialEq)]
+enum State {
+    // nothing says yet that no more is to be read
+    More,
+    // no more is to be read
+    Over,
+    // a read or a write failed
+    Failed,
+}
+
 // How far the reading has come.
 #[derive(Clone, Copy)]
 struct Progress {
-    // nothing says yet that no more is to be read
-    going: bool,
-    // nothing failed
-    fine: bool,
+    state: State,
     // the bytes of a cut record that wait for more, at the front of the buffer
     left: usize,
     // the number of the record that comes next
@@ -48,14 +56,14 @@ struct Progress {
     printed: u64,
 }
 
-// What was handed to standard output.
+// What was handed to standard output. The bytes count where it failed too, so they stand beside the flag: a Result would hold them in both its variants.
 #[derive(Clone, Copy)]
 struct Printed {
     fine: bool,
     bytes: usize,
 }
 
-// What the program did.
+// What the program did. The numbers count where something failed too.
 #[derive(Clone, Copy)]
 struct Job {
     fine: bool,
@@ -74,24 +82,27 @@ const LINES: usize = 65536;
 fn print<R: Runtime>(rt: &R, bytes: &[u8]) -> Printed
     ensures { result.bytes ≡ length bytes.now }
 {
-    let fine = put(rt, &mut io::writer(rt), "standard output", bytes);
+    let fine = put(rt, &mut io::writer(rt), "standard output", bytes).is_ok();
     Printed {
         fine,
         bytes: bytes.len(),
     }
 }
 
-// Whether there is more to read after a read that gave so many bytes: not where it gave none, and not after a bad mark.
-fn goes_on(fine: bool, came: usize, stop: Stop) -> bool
-    ensures { result ≡ goes_on fine came stop }
+// Where the reading stands after a read that gave so many bytes: it is over where it gave none, and after a bad mark.
+fn state_after(fine: bool, came: usize, stop: Stop) -> State
+    ensures { result ≡ state_after fine came stop }
 {
     if !fine {
-        return false;
+        return State::Failed;
     }
     if came == 0 {
-        return false;
+        return State::Over;
     }
-    reads_on(stop)
+    if reads_on(stop) {
+        return State::More;
+    }
+    State::Over
 }
 
 // Runs the records of the bytes that were left and of those that came after them, and prints the lines of those that are declined.
@@ -103,23 +114,19 @@ fn run_and_print<R: Runtime>(
     p: Progress,
 ) -> Progress
     requires { (length buf.old ≡ 4096) × (p.left + came ≤ 4096) × (p.next ≤ 2 ^ 61) × (p.read ≤ 2 ^ 61) × (p.printed ≤ 2 ^ 63) }
-    ensures { (result ≡ after_block t.old p came (take (p.left + came) buf.old) result.fine)
+    ensures { (result ≡ after_block t.old p came (take (p.left + came) buf.old) (fine result.state))
         × (t.new ≡ run t.old (reading (take (p.left + came) buf.old)).edits)
         × (take result.left buf.new ≡ left (take (p.left + came) buf.old)) }
 {
     let mut out = [0u8; LINES];
     let n = p.left + came;
     let block = run_block(t, buf, n, p.next, &mut out);
-    let written = block.written;
-    let lines = print(rt, &out[..written]);
-    let stop = block.stop;
-    let going = goes_on(lines.fine, came, stop);
+    let lines = print(rt, &out[..block.written]);
     Progress {
-        going,
-        fine: lines.fine,
+        state: state_after(lines.fine, came, block.stop),
         left: block.left,
         next: block.next,
-        stop,
+        stop: block.stop,
         came,
         read: p.read + came as u64,
         printed: p.printed + lines.bytes as u64,
@@ -137,22 +144,12 @@ fn read_block<R: Runtime, I: Read>(
     requires { (length buf.old ≡ 4096) × (p.left < longest_record) × (p.next ≤ 2 ^ 61) × (p.read ≤ 2 ^ 61) × (p.printed ≤ 2 ^ 63) }
     ensures { Turn t.old buf.old p t.new buf.new result }
 {
-    let left = p.left;
-    match get(rt, input, "standard input", &mut buf[left..]) {
-        Some(came) => run_and_print(rt, t, buf, came, p),
-        None => {
-            let stop = p.stop;
-            Progress {
-                going: false,
-                fine: false,
-                left,
-                next: p.next,
-                stop,
-                came: p.came,
-                read: p.read,
-                printed: p.printed,
-            }
-        }
+    match get(rt, input, "standard input", &mut buf[p.left..]) {
+        Ok(came) => run_and_print(rt, t, buf, came, p),
+        Err(_) => Progress {
+            state: State::Failed,
+            ..p
+        },
     }
 }
 
@@ -168,8 +165,7 @@ fn read_job<R: Runtime>(rt: &R, t: &mut [u16]) -> Progress
     let mut buf = [0u8; BLOCK];
     // No read has given nothing yet.
     let mut p = Progress {
-        going: true,
-        fine: true,
+        state: State::More,
         left: 0,
         next: 1,
         stop: Stop::End,
@@ -177,7 +173,7 @@ fn read_job<R: Runtime>(rt: &R, t: &mut [u16]) -> Progress
         read: 0,
         printed: 0,
     };
-    while p.going && p.read < MOST {
+    while p.state == State::More && p.read < MOST {
         p = read_block(rt, &mut input, t, &mut buf, p);
     }
     p
@@ -199,10 +195,10 @@ fn print_report<R: Runtime>(rt: &R, t: &[u16]) -> Printed
 {
     let mut out = [0u8; LINES];
     let mut from: usize = 0;
+    // The report's size is known once its first window is shown, and a write may fail before its end.
     loop {
         let window = show(t, from, &mut out);
-        let shown = window.shown;
-        let part = print(rt, &out[..shown]);
+        let part = print(rt, &out[..window.shown]);
         from += part.bytes;
         if !part.fine {
             return Printed {
@@ -224,34 +220,27 @@ fn run_job<R: Runtime>(rt: &R, t: &mut [u16]) -> Job
     requires { length t.old ≡ words }
     ensures { Ended empty_table t.new result }
 {
-    empty(t);
+    // The slice has the right size, so nothing is declined.
+    let _ = empty(t);
     let p = read_job(rt, t);
-    if !p.fine {
-        return Job {
-            fine: false,
-            came: p.came,
-            read: p.read,
-            printed: p.printed,
-        };
-    }
-    let stop = p.stop;
-    let line = print_stop(rt, p.next, stop);
-    let printed = p.printed + line.bytes as u64;
-    if !line.fine {
-        return Job {
-            fine: false,
-            came: p.came,
-            read: p.read,
-            printed,
-        };
-    }
-    let lines = print_report(rt, t);
-    Job {
-        fine: lines.fine,
+    let mut job = Job {
+        fine: false,
         came: p.came,
         read: p.read,
-        printed: printed + lines.bytes as u64,
+        printed: p.printed,
+    };
+    if p.state == State::Failed {
+        return job;
     }
+    let line = print_stop(rt, p.next, p.stop);
+    job.printed += line.bytes as u64;
+    if !line.fine {
+        return job;
+    }
+    let lines = print_report(rt, t);
+    job.printed += lines.bytes as u64;
+    job.fine = lines.fine;
+    job
 }
 
 fn main(rt: HostRuntime) {

@@ -1,15 +1,12 @@
 -- The cut length of a ribbon, document 01, "Over and under", with the workshop's rule of document 02, d, and the lengths of the table, g; and what the
 -- call for it answers.
-use Rattle.std.specs.Prelude.{ℕ, ◌+◌, ◌*◌, ◌/◌, List, [], ◌∷◌}
+use Rattle.table.specs.Answers.{Answer}
+use Rattle.std.specs.Prelude.{ℕ, ◌+◌, ◌*◌, ◌/◌, List, [], ◌∷◌, Ok, Err}
 use Rattle.table.specs.Layout.{length_word, edge_of}
 use Rattle.table.specs.Rotation.{rotation}
-use Rattle.table.specs.declared.answer.Answer.{Answer}
-use Rattle.table.specs.declared.answer.Answer.TheVariants.{Done, Declined}
 use Rattle.tracing.specs.Met.{times}
 use Rattle.tracing.specs.Walk.{walk}
-use Rattle.weave.specs.declared.named.Named.{Named}
-use Rattle.weave.specs.declared.named.Named.TheVariants.{There, Refused}
-use Rattle.weave.specs.Calls.{named_step}
+use Rattle.weave.specs.Calls.{named_step, Named}
 use Rattle.weave.specs.Letters.{over, step_letters, letters}
 
 -- the length of the edge that step s is on: "Cut lengths come from the table"
@@ -38,8 +35,8 @@ unfoldable pub cut_length : List ℕ → ℕ → ℕ
 cut_length t s = strip_length t (walk (rotation t) s) + over_allowance (letters t s) + lap
 
 abbrev pub cut_length_by : List ℕ → Named → Answer
-cut_length_by t (There s) = Done (cut_length t s)
-cut_length_by t (Refused r) = Declined r
+cut_length_by t (Ok s) = Ok (cut_length t s)
+cut_length_by t (Err r) = Err r
 
 -- "Cut length of a ribbon, named by any step on it"
 abbrev pub cut_length_of : List ℕ → ℕ → ℕ → Answer

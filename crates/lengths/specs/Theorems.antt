@@ -1,13 +1,11 @@
 -- The theorems of this crate, document 02, d. Each is proved by the law of its name.
-use Rattle.std.specs.Prelude.{ℕ, ◌/◌, ◌<◌, ◌≤◌, ◌≡◌, true, List, ◌≢◌}
+use Rattle.std.specs.Prelude.{ℕ, ◌/◌, ◌<◌, ◌≤◌, ◌≡◌, true, List, ◌≢◌, Ok}
 use Rattle.table.specs.Layout.{leaves}
 use Rattle.table.specs.Good.{Good}
 use Rattle.table.specs.Rotation.{rotation, live?, alone?}
-use Rattle.table.specs.declared.answer.Answer.TheVariants.{Done}
 use Rattle.tracing.specs.Step.{steps, mirror}
 use Rattle.tracing.specs.Walk.{walk}
 use Rattle.tracing.specs.Listing.{has, lone_corner}
-use Rattle.weave.specs.declared.named.Named.TheVariants.{There}
 use Rattle.weave.specs.Calls.{named_step}
 use Rattle.lengths.specs.CutLength.{cut_length, cut_length_of}
 use Rattle.lengths.specs.laws.Sense as sense
@@ -21,11 +19,11 @@ pub cut_mirror : (t : List ℕ) (g : Good t) (s : ℕ) → s < steps → cut_len
 cut_mirror = sense.cut_mirror
 
 -- nor does the call's answer: of two names of one ribbon, and of two names of its face, one in each sense
-pub answer_named : (t : List ℕ) (d k d' k' : ℕ) {s x : ℕ} → named_step t d k ≡ There s → named_step t d' k' ≡ There x
+pub answer_named : (t : List ℕ) (d k d' k' : ℕ) {s x : ℕ} → named_step t d k ≡ Ok s → named_step t d' k' ≡ Ok x
     → has x (walk (rotation t) s) ≡ true → cut_length_of t d k ≡ cut_length_of t d' k'
 answer_named = sense.answer_named
 
-pub answer_mirror : (t : List ℕ) (d k d' k' : ℕ) {s x : ℕ} → named_step t d k ≡ There s → named_step t d' k' ≡ There x
+pub answer_mirror : (t : List ℕ) (d k d' k' : ℕ) {s x : ℕ} → named_step t d k ≡ Ok s → named_step t d' k' ≡ Ok x
     → x ≡ mirror (rotation t) s → cut_length_of t d k ≡ cut_length_of t d' k'
 answer_mirror = sense.answer_mirror
 
@@ -34,5 +32,5 @@ pub cut_most : (t : List ℕ) (g : Good t) (s : ℕ) → live? t (s / 2) ≡ tru
 cut_most = sense.cut_most
 
 -- "An isolated vertex still yields no ribbon": a dart that has a cut length does not leave one, and is not the corner of one
-pub lone_none : (t : List ℕ) (d k n : ℕ) → cut_length_of t d k ≡ Done n → (v : ℕ) → alone? t v ≡ true → (leaves t d ≢ v) × (d ≢ lone_corner v)
+pub lone_none : (t : List ℕ) (d k n : ℕ) → cut_length_of t d k ≡ Ok n → (v : ℕ) → alone? t v ≡ true → (leaves t d ≢ v) × (d ≢ lone_corner v)
 lone_none = sense.lone_none

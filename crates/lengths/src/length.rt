@@ -3,10 +3,9 @@ ghost use Rattle.std.specs.Prelude.{◌≡◌};
 ghost use Rattle.tracing_walks.specs.laws.Stands.{Stands};
 ghost use Rattle.lengths.specs.CutLength.{length_of, taken_by, cut_length, cut_length_of};
 
-use table::answer::Answer;
+use table::answer::Refusal;
 use table::layout::LENGTH;
-use tracing_walks::step::step;
-use weave::named::Named;
+use tracing_walks::walk::walk;
 use weave_letters::letter::{edge_word, overs};
 use weave_letters::named::named_step;
 
@@ -38,24 +37,13 @@ fn length_along(t: &[u16], s: u16) -> u32
     requires { Stands t.now s }
     ensures { result ≡ cut_length t.now s }
 {
-    let mut at = s;
-    let mut sum: u32 = 0;
-    loop {
-        sum += taken_by(t, at);
-        at = step(t, at);
-        if at == s {
-            return sum + LAP;
-        }
-    }
+    walk(t, s).map(|at| taken_by(t, at)).sum::<u32>() + LAP
 }
 
 // The cut length of the ribbon through the step of dart and type, in sixteenths of a millimetre.
-pub fn cut_length(t: &[u16], dart: u16, kind: u16) -> Answer
+pub fn cut_length(t: &[u16], dart: u16, kind: u16) -> Result<u32, Refusal>
     ensures { result ≡ cut_length_of t.now dart kind }
 {
-    let n = named_step(t, dart, kind);
-    match n {
-        Named::Refused(r) => Answer::Declined(r),
-        Named::There(s) => Answer::Done(length_along(t, s)),
-    }
+    let s = named_step(t, dart, kind)?;
+    Ok(length_along(t, s))
 }

@@ -1,8 +1,7 @@
 -- A reader over one whole walk: it hands out the walk's steps, says at the last of them that the walk ends, and is then where it began;
 -- a tally begun at zeros holds the ribbon's numbers.
-use Rattle.std.specs.Prelude.{ℕ, zero, suc, ◌<◌, ◌≡◌, List, [], ◌∷◌, ◌++◌, eqb, length}
+use Rattle.std.specs.Prelude.{ℕ, zero, suc, ◌<◌, ◌≡◌, List, [], ◌∷◌, ◌++◌, eqb, length, Ok}
 use Rattle.table.specs.Rotation.{rotation}
-use Rattle.table.specs.declared.answer.Answer.TheVariants.{Done}
 use Rattle.tracing.specs.Walk.{walk}
 use Rattle.tracing.specs.Listing.{bit}
 use Rattle.weave.specs.Letters.{over, under, letters}
@@ -19,7 +18,7 @@ zeros = record { steps = 0; overs = 0; unders = 0; length = 0 }
 
 -- what a reader that stands at `at`, and whose walk began at `first`, has come to after n steps
 unfoldable pub steps_from : List ℕ → Step → Step → Tally → ℕ → Stepped
-steps_from t at first y zero = record { answer = Done 0; at = at; tally = y }
+steps_from t at first y zero = record { answer = Ok 0; at = at; tally = y }
 steps_from t at first y (suc n) = let r = steps_from t at first y n in step_of t r.at first r.tally
 
 -- one that was made at `first`, with a tally begun at zeros
@@ -46,7 +45,7 @@ pub record Walked (t : List ℕ) (first : Step) : Type 0 where
   pub steps : handed t first (length (walk (rotation t) (word_at first))) ≡ walk (rotation t) (word_at first)
   -- "With each step it says whether the walk ends there": at its last step, and not before. No step is declined, so the tally is never past 32 bits
   pub ends : (n : ℕ) → n < length (walk (rotation t) (word_at first))
-      → (after_steps t first (suc n)).answer ≡ Done (bit (eqb (suc n) (length (walk (rotation t) (word_at first)))))
+      → (after_steps t first (suc n)).answer ≡ Ok (bit (eqb (suc n) (length (walk (rotation t) (word_at first)))))
   -- "the step after that begins the walk again"
   pub again : (after_steps t first (length (walk (rotation t) (word_at first)))).at ≡ first
   -- "A tally begun at zeros, and any cut length, fit 32 bits over one walk": where the walk ends it holds the ribbon's numbers

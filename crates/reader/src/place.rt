@@ -3,9 +3,8 @@ ghost use Rattle.std.specs.Prelude.{◌≡◌};
 ghost use Rattle.reader.specs.Reader.{begin_of, placed as placed_at};
 
 use check_table::whole::is_good;
-use table::answer::{Answer, Refusal};
+use table::answer::Refusal;
 use table::layout::{DARTS, EDGE};
-use weave::named::Named;
 use weave_letters::named::named_step;
 
 // "A step is a dart d with a trace type t": a reader stands at the one that it hands out next, and keeps the one that its
@@ -17,42 +16,39 @@ pub struct Step {
 }
 
 // 0 if a reader can be made at the step, and else the refusal of its making.
-pub fn begin(t: &[u16], dart: u16, kind: u16) -> Answer
+pub fn begin(t: &[u16], dart: u16, kind: u16) -> Result<u32, Refusal>
     ensures { result ≡ begin_of t.now dart kind }
 {
-    let n = named_step(t, dart, kind);
-    match n {
-        Named::Refused(r) => Answer::Declined(r),
-        Named::There(_) => Answer::Done(0),
-    }
+    named_step(t, dart, kind)?;
+    Ok(0)
 }
 
 // The step that a reader stands at, if that and its start are there.
-pub fn placed(t: &[u16], at: Step, first: Step) -> Named
+pub fn placed(t: &[u16], at: Step, first: Step) -> Result<u16, Refusal>
     ensures { result ≡ placed_at t.now at first }
 {
     if !is_good(t) {
-        return Named::Refused(Refusal::Torn);
+        return Err(Refusal::Torn);
     }
     let d = at.dart as usize;
     let f = first.dart as usize;
     if DARTS <= d {
-        return Named::Refused(Refusal::NoSuchName);
+        return Err(Refusal::NoSuchName);
     }
     if 1 < at.kind {
-        return Named::Refused(Refusal::NoSuchName);
+        return Err(Refusal::NoSuchName);
     }
     if DARTS <= f {
-        return Named::Refused(Refusal::NoSuchName);
+        return Err(Refusal::NoSuchName);
     }
     if 1 < first.kind {
-        return Named::Refused(Refusal::NoSuchName);
+        return Err(Refusal::NoSuchName);
     }
     if t[EDGE + d / 2] == 0 {
-        return Named::Refused(Refusal::Absent);
+        return Err(Refusal::Absent);
     }
     if t[EDGE + f / 2] == 0 {
-        return Named::Refused(Refusal::Absent);
+        return Err(Refusal::Absent);
     }
-    Named::There(2 * at.dart + at.kind)
+    Ok(2 * at.dart + at.kind)
 }

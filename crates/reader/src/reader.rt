@@ -7,7 +7,7 @@ ghost use Rattle.reader.specs.Reader.{step_of};
 use crate::place::Step;
 use crate::walk::{Stepped, walk_step};
 use reader_tally::tally::Tally;
-use table::answer::Answer;
+use table::answer::Refusal;
 
 // The table, the dart and the type of the step that is handed out next, and the step that the walk began at.
 #[derive(Clone, Copy)]
@@ -31,7 +31,7 @@ pub fn new<'a>(table: &'a [u16], dart: u16, kind: u16) -> Reader<'a>
 }
 
 // Hands out the step that the reader stands at, and brings it and the tally forward: 1 where the walk ends there, else 0.
-pub fn step<'s, 'a>(r: &'s mut Reader<'a>, tally: &mut Tally) -> Answer
+pub fn step<'s, 'a>(r: &'s mut Reader<'a>, tally: &mut Tally) -> Result<u32, Refusal>
     ensures { (result ≡ (held_step r.old tally.old).answer)
         × (r.new ≡ held_after r.old tally.old)
         × (tally.new ≡ (held_step r.old tally.old).tally) }

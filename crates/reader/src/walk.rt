@@ -4,16 +4,15 @@ ghost use Rattle.table.specs.Layout.{darts};
 ghost use Rattle.reader.specs.Reader.{ends_at, moved_to, stays as staysAt, step_of};
 
 use crate::place::{Step, placed};
-use reader_tally::tally::{Tallied, Tally, tally_step};
-use table::answer::{Answer, Refusal};
+use reader_tally::tally::{Tally, tally_step};
+use table::answer::Refusal;
 use tracing_walks::step::step;
-use weave::named::Named;
 
 // The step handed out is the one that the reader stood at, and the answer is 1 where the walk ends there, else 0. `at` is where
 // the reader then stands. A declined step leaves it and the tally as they were.
 #[derive(Clone, Copy)]
 pub struct Stepped {
-    pub answer: Answer,
+    pub answer: Result<u32, Refusal>,
     pub at: Step,
     pub tally: Tally,
 }
@@ -23,7 +22,7 @@ fn stays(at: Step, y: Tally, r: Refusal) -> Stepped
     ensures { result ≡ staysAt at y r }
 {
     Stepped {
-        answer: Answer::Declined(r),
+        answer: Err(r),
         at,
         tally: y,
     }
@@ -44,7 +43,7 @@ fn moved(next: u16, first: Step, z: Tally) -> Stepped
 {
     let end = ends(next, first);
     Stepped {
-        answer: Answer::Done(end as u32),
+        answer: Ok(end as u32),
         at: Step {
             dart: next / 2,
             kind: next % 2,
@@ -59,14 +58,14 @@ pub fn walk_step(t: &[u16], at: Step, first: Step, y: Tally) -> Stepped
 {
     let n = placed(t, at, first);
     match n {
-        Named::Refused(r) => stays(at, y, r),
-        Named::There(s) => {
+        Err(r) => stays(at, y, r),
+        Ok(s) => {
             let next = step(t, s);
             let last = ends(next, first);
             let m = tally_step(t, s, last, y);
             match m {
-                Tallied::Kept(r) => stays(at, y, r),
-                Tallied::Brought(z) => moved(next, first, z),
+                Err(r) => stays(at, y, r),
+                Ok(z) => moved(next, first, z),
             }
         }
     }

@@ -1,12 +1,11 @@
 -- A tally brought forward by one step, document 01, "Corners and walks", with the length of document 02, d, and when the step is declined: 6.
-use Rattle.std.specs.Prelude.{ℕ, ◌+◌, Bool, true, false, ◌&&◌, List, ltb}
+use Rattle.std.specs.Prelude.{ℕ, ◌+◌, Bool, true, false, ◌&&◌, List, ltb, Ok, Err, Result}
+use Rattle.table.specs.declared.answer.Refusal.{Refusal}
 use Rattle.table.specs.declared.answer.Refusal.TheVariants.{Overturned}
 use Rattle.tracing.specs.Met.{times}
 use Rattle.weave.specs.Letters.{over, under, step_letters}
 use Rattle.lengths.specs.CutLength.{taken_by, lap}
 use Rattle.reader_tally.specs.declared.tally.Tally.{Tally}
-use Rattle.reader_tally.specs.declared.tally.Tallied.{Tallied}
-use Rattle.reader_tally.specs.declared.tally.Tallied.TheVariants.{Brought, Kept}
 use Rattle.table.specs.Answers.{unless}
 
 -- "A tally record .. is brought forward by each step: steps, overs, unders, length."
@@ -21,9 +20,13 @@ past32 = 4294967296
 abbrev pub fits32 : Tally → Bool
 fits32 y = ltb y.steps past32 && (ltb y.overs past32 && (ltb y.unders past32 && ltb y.length past32))
 
+-- the tally with one step more, or the refusal of that step
+abbrev pub Tallied : Type 0
+Tallied = Result Tally Refusal
+
 -- "a tally that a step would carry past 32 bits is declined with 6"
 unfoldable pub forward_of : Tally → ℕ → ℕ → ℕ → Tallied
-forward_of y o u l = unless (fits32 (forward y o u l)) (Kept Overturned) (Brought (forward y o u l))
+forward_of y o u l = unless (fits32 (forward y o u l)) (Err Overturned) (Ok (forward y o u l))
 
 -- "the lap enters the tally with the walk's last step"
 abbrev pub lap_at : Bool → ℕ

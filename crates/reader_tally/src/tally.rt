@@ -17,33 +17,26 @@ pub struct Tally {
     pub length: u32,
 }
 
-// The tally with one step more, or the refusal of that step.
-#[derive(Clone, Copy)]
-pub enum Tallied {
-    Brought(Tally),
-    Kept(Refusal),
-}
-
 // The largest number of 32 bits.
 pub const MOST: u32 = 4294967295;
 
 // The tally with a step more of so many O's and U's and this length.
-fn forward(y: Tally, o: u16, u: u16, length: u32) -> Tallied
+fn forward(y: Tally, o: u16, u: u16, length: u32) -> Result<Tally, Refusal>
     ensures { result ≡ forward_of y o u length }
 {
     if MOST <= y.steps {
-        return Tallied::Kept(Refusal::Overturned);
+        return Err(Refusal::Overturned);
     }
     if MOST - y.overs < o as u32 {
-        return Tallied::Kept(Refusal::Overturned);
+        return Err(Refusal::Overturned);
     }
     if MOST - y.unders < u as u32 {
-        return Tallied::Kept(Refusal::Overturned);
+        return Err(Refusal::Overturned);
     }
     if MOST - y.length < length {
-        return Tallied::Kept(Refusal::Overturned);
+        return Err(Refusal::Overturned);
     }
-    Tallied::Brought(Tally {
+    Ok(Tally {
         steps: y.steps + 1,
         overs: y.overs + o as u32,
         unders: y.unders + u as u32,
@@ -52,7 +45,7 @@ fn forward(y: Tally, o: u16, u: u16, length: u32) -> Tallied
 }
 
 // The tally with step s more, which is the walk's last one or is not.
-pub fn tally_step(t: &[u16], s: u16, last: bool, y: Tally) -> Tallied
+pub fn tally_step(t: &[u16], s: u16, last: bool, y: Tally) -> Result<Tally, Refusal>
     requires { Stands t.now s }
     ensures { result ≡ tally_of t.now s last y }
 {

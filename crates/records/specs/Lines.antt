@@ -1,9 +1,7 @@
 -- The lines for records that are declined, document 01, "The job program".
-use Rattle.std.specs.Prelude.{ℕ, suc, List, [], ◌∷◌, ◌++◌}
+use Rattle.std.specs.Prelude.{ℕ, suc, List, [], ◌∷◌, ◌++◌, Ok, Err}
 use Rattle.text.specs.Decimal.{decimal}
-use Rattle.table.specs.Answers.{number_of}
-use Rattle.table.specs.declared.answer.Answer.{Answer}
-use Rattle.table.specs.declared.answer.Answer.TheVariants.{Done, Declined}
+use Rattle.table.specs.Answers.{number_of, Answer}
 use Rattle.table.specs.declared.answer.Refusal.TheVariants as refusal
 use Rattle.edits.specs.Edits.{answer, edited}
 use Rattle.edits.specs.declared.edit.Edit.{Edit}
@@ -15,8 +13,8 @@ abbrev pub no_line : ℕ → ℕ → List ℕ
 no_line n r = (110 ∷ 111 ∷ 32 ∷ []) ++ (decimal n ++ ((32 ∷ []) ++ (decimal r ++ (10 ∷ []))))
 
 abbrev pub line_by : ℕ → Answer → List ℕ
-line_by n (Done f) = []
-line_by n (Declined r) = no_line n (number_of r)
+line_by n (Ok f) = []
+line_by n (Err r) = no_line n (number_of r)
 
 -- "An edit declined prints "no", record, number": the edit of record n, over table t
 unfoldable pub edit_line : List ℕ → ℕ → Edit → List ℕ

@@ -1,11 +1,9 @@
 -- All records of some bytes, document 01, "The job program": the edits, the bytes that they took, and why the reading ended.
-use Rattle.std.specs.Prelude.{ℕ, zero, suc, ◌+◌, Bool, true, false, List, [], ◌∷◌, length, drop}
+use Rattle.std.specs.Prelude.{ℕ, zero, suc, ◌+◌, Bool, true, false, List, [], ◌∷◌, length, drop, Ok, Err}
 use Rattle.edits.specs.declared.edit.Edit.{Edit}
-use Rattle.records.specs.declared.records.Found.{Found}
-use Rattle.records.specs.declared.records.Found.TheVariants.{Record, Stopped}
 use Rattle.records.specs.declared.records.Stop.{Stop}
 use Rattle.records.specs.declared.records.Stop.TheVariants.{End, BadMark, CutRecord}
-use Rattle.records.specs.Records.{first_record}
+use Rattle.records.specs.Records.{Found, first_record}
 
 -- `stop` is why it ended: with its bytes, or by a refusal, "10 and 11 .. end the reading"
 pub record Reading : Type 0 where
@@ -22,8 +20,8 @@ abbrev pub after : Edit → ℕ → Reading → Reading
 after E k r = record { edits = E ∷ r.edits; taken = k + r.taken; stop = r.stop }
 
 abbrev pub read_by : Found → (ℕ → Reading) → Reading
-read_by (Stopped x) rest = ended x
-read_by (Record E k) rest = after E k (rest k)
+read_by (Err x) rest = ended x
+read_by (Ok r) rest = after r.edit r.size (rest r.size)
 
 -- at most n records
 unfoldable pub read_up_to : ℕ → List ℕ → Reading

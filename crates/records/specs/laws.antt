@@ -1,6 +1,5 @@
 pub mod Reading
 pub mod Lines
 pub mod Blocks
-pub mod Decoding
 pub mod Running
 pub mod Moving

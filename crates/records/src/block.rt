@@ -1,5 +1,5 @@
 // A block of a job's bytes: its whole records are run, and what is left waits at the front for the bytes that come.
-ghost use Rattle.std.specs.Prelude.{◌-◌, ◌≤◌, ◌≡◌, length, take, drop};
+ghost use Rattle.std.specs.Prelude.{◌≤◌, ◌≡◌, length, take};
 ghost use Rattle.std.proofs.lemmas.List.Edits.{sets};
 ghost use Rattle.runs.specs.Run.{run};
 ghost use Rattle.records.specs.Reading.{reading};
@@ -23,19 +23,6 @@ pub struct Block {
     pub stop: Stop,
 }
 
-// Moves the bytes from index `from` up to `to` to the front.
-fn move_front(buf: &mut [u8], from: usize, to: usize)
-    requires { (from ≤ to) × (to ≤ length buf.old) }
-    ensures { buf.new ≡ sets buf.old 0 (take (to - from) (drop from buf.old)) }
-{
-    let n = to - from;
-    let mut i: usize = 0;
-    while i < n {
-        buf[i] = buf[from + i];
-        i += 1;
-    }
-}
-
 // Runs the whole records of the first n bytes, the first of which is record `number`, writes the lines of those that are declined to the front of
 // `out`, and moves the bytes that are left to the front.
 pub fn run_block(t: &mut [u16], buf: &mut [u8], n: usize, number: u64, out: &mut [u8]) -> Block
@@ -45,22 +32,20 @@ pub fn run_block(t: &mut [u16], buf: &mut [u8], n: usize, number: u64, out: &mut
         × (buf.new ≡ sets buf.old 0 (left (take n buf.old)))
         × (out.new ≡ sets out.old 0 (lines t.old number (reading (take n buf.old)).edits)) }
 {
-    let ran_of = run_records(t, &buf[..n], number, out);
-    let taken = ran_of.taken;
-    let stop = ran_of.stop;
-    if !reads_on(stop) {
+    let ran = run_records(t, &buf[..n], number, out);
+    if !reads_on(ran.stop) {
         return Block {
             left: 0,
-            next: ran_of.next,
-            written: ran_of.written,
-            stop,
+            next: ran.next,
+            written: ran.written,
+            stop: ran.stop,
         };
     }
-    move_front(buf, taken, n);
+    buf.copy_within(ran.taken..n, 0);
     Block {
-        left: n - taken,
-        next: ran_of.next,
-        written: ran_of.written,
-        stop,
+        left: n - ran.taken,
+        next: ran.next,
+        written: ran.written,
+        stop: ran.stop,
     }
 }

@@ -1,6 +1,6 @@
 // Job records, document 01, "The job program": an edit as a two-byte mark and 16-bit words, high byte first.
 ghost use Rattle.std.specs.Prelude.{◌≡◌, ◌+◌, ◌≤◌, ◌<◌, length};
-ghost use Rattle.records.specs.Records.{word, signed_word, mark_of, size_of, insertion_of, edit_of, known_record, first_record};
+ghost use Rattle.records.specs.Records.{word, mark_of, size_of, insertion_of, edit_of, known_record, first_record};
 ghost use Rattle.records.specs.Reading.{reads_on};
 
 use edits::edit::Edit;
@@ -32,12 +32,6 @@ pub enum Mark {
     TW,
 }
 
-#[derive(Clone, Copy)]
-pub enum Marked {
-    Known(Mark),
-    Unknown,
-}
-
 // Why no whole record follows.
 #[derive(Clone, Copy)]
 pub enum Stop {
@@ -49,12 +43,11 @@ pub enum Stop {
     CutRecord,
 }
 
-// What stands first among some bytes.
+// A whole record: its edit, and its number of bytes.
 #[derive(Clone, Copy)]
-pub enum Found {
-    // a whole record of so many bytes
-    Record { edit: Edit, size: usize },
-    Stopped(Stop),
+pub struct Record {
+    pub edit: Edit,
+    pub size: usize,
 }
 
 // The 16-bit word at byte i, high byte first.
@@ -62,44 +55,22 @@ fn word(s: &[u8], i: usize) -> u16
     requires { i + 1 < length s.now }
     ensures { result ≡ word s.now i }
 {
-    let high = s[i] as u16;
-    let low = s[i + 1] as u16;
-    high * 256 + low
+    u16::from_be_bytes([s[i], s[i + 1]])
 }
 
-// A word in two's complement.
-fn signed(w: u16) -> i16
-    ensures { result ≡ signed_word w }
-{
-    if w < 32768 {
-        return w as i16;
-    }
-    -1 - (65535 - w) as i16
-}
-
-// The mark that a word is.
-pub fn mark_of(w: u16) -> Marked
+// The mark that a word is. An Option and not TryFrom: an error would say nothing, and each caller has its own word for it.
+pub fn mark_of(w: u16) -> Option<Mark>
     ensures { result ≡ mark_of w }
 {
-    if w == MARK_AV {
-        return Marked::Known(Mark::AV);
+    match w {
+        MARK_AV => Some(Mark::AV),
+        MARK_RV => Some(Mark::RV),
+        MARK_IE => Some(Mark::IE),
+        MARK_IL => Some(Mark::IL),
+        MARK_DE => Some(Mark::DE),
+        MARK_TW => Some(Mark::TW),
+        _ => None,
     }
-    if w == MARK_RV {
-        return Marked::Known(Mark::RV);
-    }
-    if w == MARK_IE {
-        return Marked::Known(Mark::IE);
-    }
-    if w == MARK_IL {
-        return Marked::Known(Mark::IL);
-    }
-    if w == MARK_DE {
-        return Marked::Known(Mark::DE);
-    }
-    if w == MARK_TW {
-        return Marked::Known(Mark::TW);
-    }
-    Marked::Unknown
 }
 
 // The number of bytes of a record, its mark included: with a name alone, of a turn, of an insertion without its length and with it.
@@ -134,7 +105,7 @@ fn insertion(s: &[u8], n: u16) -> Edit
         edge: word(s, 2),
         first: word(s, 4),
         second: word(s, 6),
-        turns: signed(word(s, 8)),
+        turns: word(s, 8).cast_signed(),
         length: n,
     }
 }
@@ -152,38 +123,38 @@ fn edit_of(s: &[u8], m: Mark) -> Edit
         Mark::DE => Edit::DeleteEdge(word(s, 2)),
         Mark::TW => Edit::TurnEdge {
             edge: word(s, 2),
-            amount: signed(word(s, 4)),
+            amount: word(s, 4).cast_signed(),
         },
     }
 }
 
 // The record with that mark, or that it is cut.
-fn known_record(s: &[u8], m: Mark) -> Found
+#[tactic(auto, unfolding(crate::specs::Records::known_record))]
+fn known_record(s: &[u8], m: Mark) -> Result<Record, Stop>
     ensures { result ≡ known_record m s.now }
 {
     let size = size_of(m);
     if size <= s.len() {
         let edit = edit_of(s, m);
-        return Found::Record { edit, size };
+        return Ok(Record { edit, size });
     }
-    Found::Stopped(Stop::CutRecord)
+    Err(Stop::CutRecord)
 }
 
 // The first record of some bytes. A lone byte is a cut record, whatever it is.
-pub fn first_record(s: &[u8]) -> Found
+#[tactic(auto, unfolding(crate::specs::Records::first_record))]
+pub fn first_record(s: &[u8]) -> Result<Record, Stop>
     ensures { result ≡ first_record s.now }
 {
     let n = s.len();
     if n == 0 {
-        return Found::Stopped(Stop::End);
+        return Err(Stop::End);
     }
     if n == 1 {
-        return Found::Stopped(Stop::CutRecord);
+        return Err(Stop::CutRecord);
     }
-    match mark_of(word(s, 0)) {
-        Marked::Known(m) => known_record(s, m),
-        Marked::Unknown => Found::Stopped(Stop::BadMark),
-    }
+    let mark = mark_of(word(s, 0)).ok_or(Stop::BadMark)?;
+    known_record(s, mark)
 }
 
 // Whether bytes that come are read. After a bad mark none are; a cut record may be whole with them.

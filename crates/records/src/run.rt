@@ -10,9 +10,8 @@ ghost use Rattle.records.specs.laws.Running.{Ready};
 ghost use Rattle.text.specs.Paste.{Pasted};
 
 use crate::lines::no_line;
-use crate::records::{Found, Stop, first_record};
+use crate::records::{Stop, first_record};
 use edits::edit::Edit;
-use edits::rule::Reply;
 use edits_do::apply::apply;
 use table::answer::number_of;
 
@@ -35,9 +34,8 @@ fn run_record(t: &mut [u16], edit: Edit, n: u64, out: &mut [u8], at: usize) -> u
     ensures { (t.new ≡ edited t.old edit) × Pasted 0 at out.old (edit_line t.old n edit) result out.new }
 {
     match apply(t, edit) {
-        Reply::Faces(_) => at,
-        Reply::ByRule(_, _) => at,
-        Reply::Refused(r) => no_line(out, at, n, number_of(r)),
+        Ok(_) => at,
+        Err(r) => no_line(out, at, n, number_of(r)),
     }
 }
 
@@ -51,14 +49,15 @@ pub fn run_records(t: &mut [u16], bytes: &[u8], number: u64, out: &mut [u8]) -> 
     let mut at: usize = 0;
     let mut next = number;
     let mut end: usize = 0;
+    // A record says how long it is, so the next one's place is found on the way.
     loop {
         match first_record(&bytes[at..]) {
-            Found::Record { edit, size } => {
-                end = run_record(t, edit, next, out, end);
-                at += size;
+            Ok(record) => {
+                end = run_record(t, record.edit, next, out, end);
+                at += record.size;
                 next += 1;
             }
-            Found::Stopped(stop) => {
+            Err(stop) => {
                 return Ran {
                     taken: at,
                     next,

@@ -1,4 +1,3 @@
 pub mod Encoding
 pub mod Bytes
 pub mod Writing
-pub mod Marked

@@ -1,4 +1,4 @@
-pub mod Mesh
+pub mod Weave
 pub mod Parts
 pub mod Whole
 pub mod Window

@@ -6,30 +6,21 @@ ghost use Rattle.report_lines.specs.Lines.{mesh_text, mesh_line, weave_line};
 ghost use Rattle.report_lines.specs.laws.Wrote.{Wrote};
 
 use report_lines::field::{field, signed_field};
-use surface_calls::mesh::measure_mesh;
+use surface_calls::mesh::{Mesh, measure_mesh};
 use text::window::{byte, bytes};
 use weave_plain::plain::is_plain;
 
 // The line of a mesh of these counts.
-fn write_mesh(
-    out: &mut [u8],
-    from: usize,
-    at: usize,
-    v: u16,
-    e: u16,
-    f: u16,
-    p: u16,
-    x: i32,
-) -> usize
+fn write_mesh(out: &mut [u8], from: usize, at: usize, m: Mesh) -> usize
     requires { at < 2 ^ 46 }
-    ensures { Wrote 101 from at out.old (mesh_text v e f p x) result out.new }
+    ensures { Wrote 101 from at out.old (mesh_text m.vertices m.edges m.walks m.parts m.euler) result out.new }
 {
     let word = bytes(out, from, at, b"mesh");
-    let first = field(out, from, word, v as u64);
-    let second = field(out, from, first, e as u64);
-    let third = field(out, from, second, f as u64);
-    let fourth = field(out, from, third, p as u64);
-    let fifth = signed_field(out, from, fourth, x);
+    let first = field(out, from, word, m.vertices as u64);
+    let second = field(out, from, first, m.edges as u64);
+    let third = field(out, from, second, m.walks as u64);
+    let fourth = field(out, from, third, m.parts as u64);
+    let fifth = signed_field(out, from, fourth, m.euler);
     byte(out, from, fifth, b'\n')
 }
 
@@ -38,10 +29,7 @@ pub fn mesh_line(t: &[u16], out: &mut [u8], from: usize, at: usize) -> usize
     requires { Good t.now × (at < 2 ^ 46) }
     ensures { Wrote 101 from at out.old (mesh_line (rotation t.now)) result out.new }
 {
-    let m = measure_mesh(t);
-    write_mesh(
-        out, from, at, m.vertices, m.edges, m.walks, m.parts, m.euler,
-    )
+    write_mesh(out, from, at, measure_mesh(t))
 }
 
 // The line of the weave.

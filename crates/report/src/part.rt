@@ -1,5 +1,5 @@
 // The lines of the parts, upward, read off their rows.
-ghost use Rattle.std.specs.Prelude.{◌+◌, ◌<◌, ◌≤◌, ◌^◌, length};
+ghost use Rattle.std.specs.Prelude.{◌<◌, ◌≤◌, ◌^◌, length};
 ghost use Rattle.table.specs.Good.{Good};
 ghost use Rattle.table.specs.Rotation.{rotation};
 ghost use Rattle.tracing.specs.Listing.{gather};
@@ -24,15 +24,15 @@ fn side(flag: i32) -> u8
     b'o'
 }
 
-// The line of the part whose row begins at word i.
-fn part_line(rows: &[i32], i: usize, out: &mut [u8], from: usize, at: usize) -> usize
-    requires { (i + 6 ≤ length rows.now) × (at < 2 ^ 46) }
-    ensures { LineOf rows.now i from at out.old result out.new }
+// The line of the part that has this row.
+fn part_line(row: &[i32], out: &mut [u8], from: usize, at: usize) -> usize
+    requires { (6 ≤ length row.now) × (at < 2 ^ 46) }
+    ensures { LineOf row.now from at out.old result out.new }
 {
-    let letter = side(rows[i + 5]);
+    let letter = side(row[5]);
     let word = bytes(out, from, at, b"part");
-    let first = signed_field(out, from, word, rows[i]);
-    let second = signed_field(out, from, first, rows[i + 4]);
+    let first = signed_field(out, from, word, row[0]);
+    let second = signed_field(out, from, first, row[4]);
     let gap = byte(out, from, second, b' ');
     let third = byte(out, from, gap, letter);
     byte(out, from, third, b'\n')
@@ -49,10 +49,8 @@ pub fn part_lines(t: &[u16], out: &mut [u8], from: usize, at: usize) -> usize
     let mut rows = [0i32; 6 * VERTICES];
     let n = labelled_rows(t, &up, &turn, &mut rows);
     let mut end = at;
-    let mut i: usize = 0;
-    while i < n {
-        end = part_line(&rows, i, out, from, end);
-        i += 6;
+    for row in rows[..n].chunks_exact(6) {
+        end = part_line(row, out, from, end);
     }
     end
 }

@@ -35,14 +35,7 @@ pub struct Window {
 fn shown_of(size: usize, from: usize, room: usize) -> usize
     ensures { result ≡ min room (size - from) }
 {
-    if size <= from {
-        return 0;
-    }
-    let rest = size - from;
-    if rest < room {
-        return rest;
-    }
-    room
+    size.saturating_sub(from).min(room)
 }
 
 // Writes what comes after the first `from` bytes of the report on a good table to the front of `out`, as much as it has room for.

@@ -12,7 +12,7 @@ ghost use Rattle.report_lines.specs.laws.Steps.{Crossed};
 use crate::field::field;
 use text::number::number;
 use text::window::byte;
-use tracing_walks::step::step;
+use tracing_walks::walk::walk;
 use weave_letters::letter::{crossings, edge_word, letter};
 
 // The letters of a step of type `kind` on an edge of word w.
@@ -21,10 +21,8 @@ fn write_letters(out: &mut [u8], from: usize, at: usize, w: u16, kind: u16) -> u
     ensures { Wrote 99 from at out.old (letters_on w kind) result out.new }
 {
     let n = crossings(w);
-    let mut j: u16 = 0;
-    while j < n {
+    for j in 0..n {
         byte(out, from, at + j as usize, letter(w, kind, j));
-        j += 1;
     }
     at + n as usize
 }
@@ -47,13 +45,9 @@ pub fn write_steps(t: &[u16], out: &mut [u8], from: usize, at: usize, s: u16) ->
     requires { Stands t.now s × (at < 2 ^ 44) }
     ensures { Wrote steps_most from at out.old (gather (step_text t.now) (walk (rotation t.now) s)) result out.new }
 {
-    let mut here = s;
     let mut end = at;
-    loop {
+    for here in walk(t, s) {
         end = write_step(t, out, from, end, here);
-        here = step(t, here);
-        if here == s {
-            return end;
-        }
     }
+    end
 }

@@ -45,12 +45,10 @@ fn walk_line(
     requires { DartAt t.now met.old d i at }
     ensures { LinePlaced t.now met.old d i from at out.old result met.new out.new }
 {
-    let found = look(t, met, d);
-    let words = found.words;
-    if words == 0 {
+    let Some(steps) = look(t, met, d) else {
         return Place { at: at, index: i };
-    }
-    let end = write_walk(t, out, from, at, i, d as u16, words - 1);
+    };
+    let end = write_walk(t, out, from, at, i, d as u16, steps);
     Place {
         at: end,
         index: i + 1,
@@ -65,12 +63,10 @@ pub fn walk_lines(t: &[u16], out: &mut [u8], from: usize, at: usize) -> Place
     let mut met = [0u8; DARTS];
     let mut end = at;
     let mut i: u32 = 0;
-    let mut d: usize = 0;
-    while d < DARTS {
+    for d in 0..DARTS {
         let placed = walk_line(t, &mut met, out, from, end, i, d);
         end = placed.at;
         i = placed.index;
-        d += 1;
     }
     Place { at: end, index: i }
 }
@@ -109,12 +105,10 @@ pub fn lone_lines(t: &[u16], out: &mut [u8], from: usize, at: usize, first: u32)
 {
     let mut end = at;
     let mut i = first;
-    let mut v: usize = 0;
-    while v < VERTICES {
+    for v in 0..VERTICES {
         let placed = lone_line(t, out, from, end, i, v);
         end = placed.at;
         i = placed.index;
-        v += 1;
     }
     end
 }

@@ -5,7 +5,8 @@
 --     face_number                        the number of listed walks
 --     tells, told, vertex_tells          what an answer says of the faces: of one edit; of the whole run; of an edit on a vertex
 --     length_given, length_by, length_in  the length last given to edge e: in a run; by an edit; by an accepted one
-use Rattle.std.specs.Prelude.{ℕ, cond, List, [], ◌∷◌, eqb, ℤ, pos, negsuc, ◌+ℤ◌}
+use Rattle.table.specs.declared.answer.Refusal.{Refusal}
+use Rattle.std.specs.Prelude.{ℕ, cond, List, [], ◌∷◌, eqb, ℤ, pos, negsuc, ◌+ℤ◌, Ok, Err, Result, Option, Some, None}
 use Rattle.table.specs.Rotation.{rotation}
 use Rattle.tracing.specs.Listing.{face_count}
 use Rattle.surgery.specs.Change.{Change, less, as_many, more}
@@ -14,11 +15,9 @@ use Rattle.edits.specs.Changes.{change}
 use Rattle.edits.specs.Rules.{rule_change, reply}
 use Rattle.edits.specs.declared.edit.Edit.{Edit}
 use Rattle.edits.specs.declared.edit.Edit.TheVariants.{AddVertex, RemoveVertex, InsertEdge, DeleteEdge, TurnEdge}
+use Rattle.edits.specs.declared.rule.Rule.{Rule}
 use Rattle.edits.specs.declared.rule.Reply.{Reply}
-use Rattle.edits.specs.declared.rule.Reply.TheVariants.{Faces, ByRule, Refused}
-use Rattle.edits.specs.declared.edit.Verdict.{Verdict}
-use Rattle.edits.specs.declared.edit.Verdict.TheVariants.{Passes, Declines}
-use Rattle.edits.specs.Verdicts.{verdict}
+use Rattle.edits.specs.Verdicts.{verdict, Verdict}
 
 -- "each edit gets it as the last one left it": the table after the run
 unfoldable pub run : List ℕ → List Edit → List ℕ
@@ -34,8 +33,8 @@ number more = pos 1
 -- "An accepted addition of a vertex counts +1, a removal -1, any other accepted edit the change given under "Edits", read on the
 -- table just before that edit; a declined one counts 0."
 abbrev pub calls_by : Verdict → Change → ℤ
-calls_by Passes c = number c
-calls_by (Declines r) c = pos 0
+calls_by (Ok tt) c = number c
+calls_by (Err r) c = pos 0
 
 unfoldable pub calls : List ℕ → Edit → ℤ
 calls t E = calls_by (verdict t E) (change t E)
@@ -57,10 +56,13 @@ vertex_tells (InsertEdge e c₁ c₂ k n) = pos 0
 vertex_tells (DeleteEdge e) = pos 0
 vertex_tells (TurnEdge e a) = pos 0
 
-abbrev pub tells : Edit → Reply → ℤ
-tells E (Faces n) = vertex_tells E
-tells E (ByRule n r) = number (rule_change r)
-tells E (Refused r) = pos 0
+abbrev pub rule_tells : Edit → Option Rule → ℤ
+rule_tells E None = vertex_tells E
+rule_tells E (Some r) = number (rule_change r)
+
+abbrev pub tells : Edit → Result Reply Refusal → ℤ
+tells E (Ok y) = rule_tells E y.rule
+tells E (Err r) = pos 0
 
 -- what the answers of the whole run say
 unfoldable pub told : List ℕ → List Edit → ℤ
@@ -76,8 +78,8 @@ length_in (DeleteEdge e') e l = l
 length_in (TurnEdge e' a) e l = l
 
 abbrev pub length_by : Verdict → Edit → ℕ → ℕ → ℕ
-length_by Passes E e l = length_in E e l
-length_by (Declines r) E e l = l
+length_by (Ok tt) E e l = length_in E e l
+length_by (Err r) E e l = l
 
 -- the length that the last accepted insertion of edge e gave it, l where the run has none
 unfoldable pub length_given : List ℕ → List Edit → ℕ → ℕ → ℕ

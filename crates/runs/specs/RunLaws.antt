@@ -12,14 +12,12 @@
 --     alternation                                    a ribbon alternates exactly if its turned edges all turn the same way
 --     listing_call, counts_call, parts_call          the calls for the listing and the counts answer these
 --     letters_call, alternates_call, plain_call      and those for the letters
-use Rattle.std.specs.Prelude.{ℕ, ◌<◌, ◌+◌, ◌*◌, ◌/◌, ◌≤◌, ◌≡◌, true, List, [], ◌∷◌, ◌++◌, ◌↔◌, ◌≢◌, length, ℤ, pos, ◌+ℤ◌}
-use Rattle.std.proofs.Math.Option.{some}
+use Rattle.std.specs.Prelude.{ℕ, ◌<◌, ◌+◌, ◌*◌, ◌/◌, ◌≤◌, ◌≡◌, true, List, [], ◌∷◌, ◌++◌, ◌↔◌, ◌≢◌, length, ℤ, pos, ◌+ℤ◌, Ok, Option, None, Some}
 use Rattle.table.specs.Layout.{edges, edge_word, length_word}
 use Rattle.table.specs.Good.{Good}
 use Rattle.table.specs.Check.{check_of}
 use Rattle.table.specs.Rotation.{Rotation, rotation}
 use Rattle.table.specs.Output.{Accepted}
-use Rattle.table.specs.declared.answer.Answer.TheVariants.{Done}
 use Rattle.tracing.specs.Met.{times, count_in, corners_of, listed_corners, listed_steps, on_edge}
 use Rattle.tracing.specs.Listing.{has, faces, face_count, listing, bit}
 use Rattle.tracing.specs.Call.{list_answer, list_out}
@@ -51,7 +49,7 @@ module _ (t : List ℕ) (Es : List Edit) where
   pub record RunLaws : Type 0 where
     -- "the table stays good": every rule of a good table holds, and so the check answers
     pub good : Good after
-    pub checked : check_of after ≡ Done 0
+    pub checked : check_of after ≡ Ok 0
     -- "listed walks meet every corner once and every live edge twice"; what is no corner of the table is met by none
     pub corners_once : (c : ℕ) → Present R c → times c (listed_corners R) ≡ 1
     pub no_others : (c : ℕ) → ¬ Present R c → times c (listed_corners R) ≡ 0
@@ -79,13 +77,13 @@ module _ (t : List ℕ) (Es : List Edit) where
     -- "the face count is exactly that at the start plus what the rules call for"
     pub count : face_number after ≡ face_number t +ℤ called t Es
     -- "and every accepted edit answered it": wherever in the run the edit stands
-    pub answered : (front : List Edit) (E : Edit) (back : List Edit) → Es ≡ front ++ E ∷ back → (n : ℕ) → answer (run t front) E ≡ Done n
+    pub answered : (front : List Edit) (E : Edit) (back : List Edit) → Es ≡ front ++ E ∷ back → (n : ℕ) → answer (run t front) E ≡ Ok n
         → pos n ≡ face_number t +ℤ called t (front ++ (E ∷ []))
     -- document 02, request a: with the count the edit answered the rule that its places on the table just before call for, and the rule
     -- says how the count came of the one before
-    pub ruled : (front : List Edit) (E : Edit) (back : List Edit) → Es ≡ front ++ E ∷ back → (n : ℕ) → answer (run t front) E ≡ Done n
-        → (reply (run t front) E ≡ with_rule (Done n) (rule_of (run t front) E))
-        × ((r : Rule) → rule_of (run t front) E ≡ some r → Changes (rule_change r) (face_count (rotation (run t front))) n)
+    pub ruled : (front : List Edit) (E : Edit) (back : List Edit) → Es ≡ front ++ E ∷ back → (n : ℕ) → answer (run t front) E ≡ Ok n
+        → (reply (run t front) E ≡ with_rule (Ok n) (rule_of (run t front) E))
+        × ((r : Rule) → rule_of (run t front) E ≡ Some r → Changes (rule_change r) (face_count (rotation (run t front))) n)
     -- so the face count is that at the start plus what the answered rules say
     pub told_count : face_number after ≡ face_number t +ℤ told t Es
     -- document 02, request g: a live edge has the length that its last accepted insertion gave it, or that of the start where the run has none
@@ -97,5 +95,5 @@ module _ (t : List ℕ) (Es : List Edit) where
     pub counts_call : (out : List ℤ) → Accepted (counts_answer after (length out)) (counts_of R) out (counts_out after out)
     pub parts_call : (out : List ℤ) → Accepted (parts_answer after (length out)) (part_rows R) out (parts_out after out)
     pub letters_call : (d k : ℕ) (out : List ℕ) → Accepted (letters_of after d k (length out)) (letters after (2 * d + k)) out (letters_out after d k out)
-    pub alternates_call : (d k n : ℕ) → alternates_of after d k ≡ Done n → n ≡ bit (alternates after (2 * d + k))
-    pub plain_call : (n : ℕ) → plain_of after ≡ Done n → n ≡ bit (plain after)
+    pub alternates_call : (d k n : ℕ) → alternates_of after d k ≡ Ok n → n ≡ bit (alternates after (2 * d + k))
+    pub plain_call : (n : ℕ) → plain_of after ≡ Ok n → n ≡ bit (plain after)

@@ -4,13 +4,13 @@
 --     ran                            the table after the run
 --     due, due_in                    what the rules call for, of a deed; in the whole run
 --     counts_as, counts_by, counted  the plain edits that a deed counts as; and the run
-use Rattle.std.specs.Prelude.{ℕ, List, [], ◌∷◌, ◌++◌, ℤ, pos, ◌+ℤ◌}
+use Rattle.table.specs.declared.answer.Refusal.{Refusal}
+use Rattle.edits.specs.Verdicts.{Verdict}
+use Rattle.std.specs.Prelude.{ℕ, List, [], ◌∷◌, ◌++◌, ℤ, pos, ◌+ℤ◌, Ok, Err, Result}
 use Rattle.edits.specs.Edits.{edited}
 use Rattle.edits.specs.Changes.{change}
 use Rattle.edits.specs.Rules.{reply}
 use Rattle.edits.specs.declared.edit.Edit.{Edit}
-use Rattle.edits.specs.declared.edit.Verdict.{Verdict}
-use Rattle.edits.specs.declared.edit.Verdict.TheVariants.{Passes, Declines}
 use Rattle.edits.specs.declared.rule.Reply.{Reply}
 use Rattle.forecasts.specs.declared.forecast.Forecast.{Forecast}
 use Rattle.forecasts.specs.Forecast.{commit_verdict, commit_reply, committed}
@@ -25,7 +25,7 @@ abbrev pub done : List ℕ → Deed → List ℕ
 done t (edit E) = edited t E
 done t (commit E f) = committed t E f
 
-abbrev pub deed_reply : List ℕ → Deed → Reply
+abbrev pub deed_reply : List ℕ → Deed → Result Reply Refusal
 deed_reply t (edit E) = reply t E
 deed_reply t (commit E f) = commit_reply t E f
 
@@ -49,8 +49,8 @@ due_in t (D ∷ Ds) = due t D +ℤ due_in (done t D) Ds
 
 -- the run of plain edits that it counts as: without the commits that are turned away
 abbrev pub counts_by : Verdict → Edit → List Edit
-counts_by Passes E = E ∷ []
-counts_by (Declines r) E = []
+counts_by (Ok tt) E = E ∷ []
+counts_by (Err r) E = []
 
 abbrev pub counts_as : List ℕ → Deed → List Edit
 counts_as t (edit E) = E ∷ []

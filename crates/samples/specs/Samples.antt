@@ -8,7 +8,7 @@
 --     one_edge, one_loop, two_loops, turned_loop  the edits of the samples, for their turns
 --     any_length                                the length of every edge here
 --     All                                       P holds of each of a list
-use Rattle.std.specs.Prelude.{ℕ, ◌*◌, ◌≡◌, Bool, true, false, List, [], ◌∷◌, map, length, ℤ, pos, neg_ℤ}
+use Rattle.std.specs.Prelude.{ℕ, ◌*◌, ◌≡◌, Bool, true, false, List, [], ◌∷◌, map, length, ℤ, pos, neg_ℤ, Ok, Some}
 use Rattle.table.specs.Layout.{darts, edge_word}
 use Rattle.table.specs.Rotation.{Rotation, rotation}
 use Rattle.table.specs.Empty.{empty_table}
@@ -19,7 +19,6 @@ use Rattle.edits.specs.Edits.{edited}
 use Rattle.edits.specs.Rules.{reply, reply_code}
 use Rattle.edits.specs.declared.rule.Rule.{Rule}
 use Rattle.edits.specs.declared.rule.Rule.TheVariants as rule
-use Rattle.edits.specs.declared.rule.Reply.TheVariants.{ByRule}
 use Rattle.edits.specs.declared.edit.Edit.{Edit}
 use Rattle.edits.specs.declared.edit.Edit.TheVariants.{AddVertex, InsertEdge, TurnEdge}
 use Rattle.surface.specs.Labels.{orientable}
@@ -63,7 +62,7 @@ answers t (E ∷ Es) = reply_code (reply t E) ∷ answers (edited t E) Es
 
 -- F faces by a rule
 abbrev pub by : ℕ → Rule → ℤ
-by n r = reply_code (ByRule n r)
+by n r = reply_code (Ok (record { faces = n; rule = Some r }))
 
 -- the edits from the empty mesh, what each of them answers, and what holds after them
 pub record Sample : Type 0 where

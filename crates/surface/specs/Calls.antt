@@ -1,9 +1,9 @@
 -- What the calls for the counts answer, and what they leave in the slice, document 01, "Counts" and "When a call declines".
 --     counts_of            the five words of the mesh;     part_rows     six words for each part, upward
+use Rattle.table.specs.Answers.{Answer}
 use Rattle.std.specs.Prelude.{ℕ, List, [], ◌∷◌, length, ℤ, pos}
 use Rattle.table.specs.Rotation.{Rotation, rotation}
 use Rattle.table.specs.Output.{output_answer, output_out}
-use Rattle.table.specs.declared.answer.Answer.{Answer}
 use Rattle.tracing.specs.Listing.{face_count}
 use Rattle.surface.specs.Counts.{vertex_count}
 use Rattle.surface.specs.Parts.{parts}

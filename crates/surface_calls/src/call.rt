@@ -7,7 +7,7 @@ use crate::mesh::{measure_mesh, roots};
 use crate::rows::labelled_rows;
 use check_table::whole::is_good;
 use surface_parts::forest::label_parts;
-use table::answer::{Answer, Refusal};
+use table::answer::Refusal;
 use table::layout::VERTICES;
 
 // The five counts, as words.
@@ -23,35 +23,35 @@ fn write_five(out: &mut [i32], v: u16, e: u16, f: u16, p: u16, x: i32)
 }
 
 // Writes V, E, F, the number of parts and the Euler number to the front of `out`, and answers their number, five.
-pub fn counts(t: &[u16], out: &mut [i32]) -> Answer
+pub fn counts(t: &[u16], out: &mut [i32]) -> Result<u32, Refusal>
     ensures { (result ≡ counts_answer t.now (length out.old)) × (out.new ≡ counts_out t.now out.old) }
 {
     if !is_good(t) {
-        return Answer::Declined(Refusal::Torn);
+        return Err(Refusal::Torn);
     }
     if out.len() < 5 {
-        return Answer::Declined(Refusal::ShortSlice);
+        return Err(Refusal::ShortSlice);
     }
     let m = measure_mesh(t);
     let euler = m.euler;
     write_five(out, m.vertices, m.edges, m.walks, m.parts, euler);
-    Answer::Done(5)
+    Ok(5)
 }
 
 // Writes six words for each part to the front of `out`, upward, and answers their number.
-pub fn parts(t: &[u16], out: &mut [i32]) -> Answer
+pub fn parts(t: &[u16], out: &mut [i32]) -> Result<u32, Refusal>
     ensures { (result ≡ parts_answer t.now (length out.old)) × (out.new ≡ parts_out t.now out.old) }
 {
     if !is_good(t) {
-        return Answer::Declined(Refusal::Torn);
+        return Err(Refusal::Torn);
     }
     let mut up = [0u16; VERTICES];
     let mut turn = [0u8; VERTICES];
     label_parts(t, &mut up, &mut turn);
     let n = 6 * roots(t, &up) as usize;
     if out.len() < n {
-        return Answer::Declined(Refusal::ShortSlice);
+        return Err(Refusal::ShortSlice);
     }
     labelled_rows(t, &up, &turn, out);
-    Answer::Done(n as u32)
+    Ok(n as u32)
 }

@@ -64,11 +64,9 @@ fn live_vertices(t: &[u16]) -> u16
     ensures { AddedUp (there? t.now) vertices result }
 {
     let mut n: u16 = 0;
-    let mut v: usize = 0;
-    while v < VERTICES {
+    for v in 0..VERTICES {
         let k = one_vertex(t, v);
         n += k;
-        v += 1;
     }
     n
 }
@@ -79,11 +77,9 @@ fn live_edges(t: &[u16]) -> u16
     ensures { AddedUp (λ e. live? t.now (2 * e)) edges result }
 {
     let mut n: u16 = 0;
-    let mut e: usize = 0;
-    while e < EDGES {
+    for e in 0..EDGES {
         let k = one_edge(t, e);
         n += k;
-        e += 1;
     }
     n
 }
@@ -94,11 +90,9 @@ pub fn roots(t: &[u16], up: &[u16; VERTICES]) -> u16
     ensures { AddedUp (root? (rotation t.now)) vertices result }
 {
     let mut n: u16 = 0;
-    let mut v: usize = 0;
-    while v < VERTICES {
+    for v in 0..VERTICES {
         let k = one_root(t, up, v);
         n += k;
-        v += 1;
     }
     n
 }

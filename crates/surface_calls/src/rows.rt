@@ -1,5 +1,5 @@
 // The parts written out: six signed words for each, upward.
-ghost use Rattle.std.specs.Prelude.{◌≡◌, ◌+◌, ◌<◌, ◌≤◌, eqb, length};
+ghost use Rattle.std.specs.Prelude.{◌≡◌, ◌+◌, ◌≤◌, eqb, length};
 ghost use Rattle.std.proofs.lemmas.List.Edits.{sets};
 ghost use Rattle.table.specs.Layout.{vertices};
 ghost use Rattle.table.specs.Good.{Good};
@@ -74,10 +74,8 @@ fn write_rows(
     ensures { Written (rotation t.now) vertices result out.old out.new }
 {
     let mut at: usize = 0;
-    let mut r: usize = 0;
-    while r < VERTICES {
+    for r in 0..VERTICES {
         at = write_root(t, up, vs, es, fs, odd, out, at, r);
-        r += 1;
     }
     at
 }

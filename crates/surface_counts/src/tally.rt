@@ -40,10 +40,8 @@ fn count_vertices(
     requires { Vertexing t.now up.now 0 vs.old fs.old }
     ensures { Vertexing t.now up.now vertices vs.new fs.new }
 {
-    let mut v: usize = 0;
-    while v < VERTICES {
+    for v in 0..VERTICES {
         count_vertex(t, up, vs, fs, v);
-        v += 1;
     }
 }
 
@@ -83,10 +81,8 @@ fn count_edges(
     requires { Edging t.now up.now turn.now 0 es.old odd.old }
     ensures { Edging t.now up.now turn.now edges es.new odd.new }
 {
-    let mut e: usize = 0;
-    while e < EDGES {
+    for e in 0..EDGES {
         count_edge(t, up, turn, es, odd, e);
-        e += 1;
     }
 }
 
@@ -101,10 +97,9 @@ fn count_walk(
     requires { Dartwise t.now up.now d met.old fs.old × (d < darts) }
     ensures { Dartwise t.now up.now (d + 1) met.new fs.new }
 {
-    let found = look(t, met, d);
-    if found.walks == 0 {
+    let Some(_) = look(t, met, d) else {
         return;
-    }
+    };
     let k = up[t[LEAVES + d] as usize] as usize;
     fs[k] = fs[k] + 1;
 }
@@ -114,10 +109,8 @@ fn count_walks(t: &[u16], up: &[u16; VERTICES], fs: &mut [u16; VERTICES])
     ensures { WalkTally t.now darts fs.new }
 {
     let mut met = [0u8; DARTS];
-    let mut d: usize = 0;
-    while d < DARTS {
+    for d in 0..DARTS {
         count_walk(t, up, &mut met, fs, d);
-        d += 1;
     }
 }
 

@@ -26,7 +26,7 @@ fn lift(up: &mut [u16; VERTICES], turn: &mut [u8; VERTICES], v: usize)
     turn[v] = k;
 }
 
-// The root of v. The pointers on the way are shortened.
+// The root of v. The pointers on the way are shortened. A loop from pointer to pointer, and no range.
 fn find(up: &mut [u16; VERTICES], turn: &mut [u8; VERTICES], v: usize) -> Root
     requires { Shape up.old turn.old × (v < vertices) }
     ensures { RootFound up.old turn.old v result.label result.mark up.new turn.new }
@@ -77,10 +77,8 @@ fn begin(up: &mut [u16; VERTICES])
     requires { length up.old ≡ vertices }
     ensures { Fresh vertices up.new }
 {
-    let mut v: usize = 0;
-    while v < VERTICES {
+    for v in 0..VERTICES {
         up[v] = v as u16;
-        v += 1;
     }
 }
 
@@ -89,10 +87,8 @@ fn flatten(up: &mut [u16; VERTICES], turn: &mut [u8; VERTICES])
     requires { Shape up.old turn.old }
     ensures { Flattening up.old turn.old vertices up.new turn.new }
 {
-    let mut v: usize = 0;
-    while v < VERTICES {
+    for v in 0..VERTICES {
         lift(up, turn, v);
-        v += 1;
     }
 }
 
@@ -102,10 +98,8 @@ pub fn label_parts(t: &[u16], up: &mut [u16; VERTICES], turn: &mut [u8; VERTICES
     ensures { Labelled t.now up.new turn.new }
 {
     begin(up);
-    let mut e: usize = 0;
-    while e < EDGES {
+    for e in 0..EDGES {
         take_edge(t, up, turn, e);
-        e += 1;
     }
     flatten(up, turn);
 }

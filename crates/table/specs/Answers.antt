@@ -1,9 +1,7 @@
 -- Document 01's numbers for what a call answers; a refusal unless a test holds, and what a declined call leaves.
-use Rattle.std.specs.Prelude.{ℕ, ℤ, pos, neg_ℤ, Bool, cond}
+use Rattle.std.specs.Prelude.{ℕ, ℤ, pos, neg_ℤ, Bool, cond, Ok, Err, Result}
 use Rattle.table.specs.declared.answer.Refusal.{Refusal}
 use Rattle.table.specs.declared.answer.Refusal.TheVariants.{Torn, NoSuchName, Taken, Absent, Joined, Overturned, ShortSlice, ManyTurns, Far, BadMark, CutRecord, StaleForecast, ManyEdges}
-use Rattle.table.specs.declared.answer.Answer.{Answer}
-use Rattle.table.specs.declared.answer.Answer.TheVariants.{Done, Declined}
 
 -- the table of "When a call declines"
 abbrev pub number_of : Refusal → ℕ
@@ -23,19 +21,23 @@ number_of StaleForecast = 12
 -- request f
 number_of ManyEdges = 13
 
+-- what a call answers: a number, or the refusal alone
+abbrev pub Answer : Type 0
+Answer = Result ℕ Refusal
+
 -- a refusal, unless its test holds. Tests stand in the order in which they are made: "Where several hold: 1, 2, 3, .."
 abbrev pub unless : {A : Type 0} → Bool → A → A → A
 unless holds refusal rest = cond holds rest refusal
 
 -- "A declined call returns its number alone; all lent slices and records keep their contents."
 abbrev pub if_done : {A : Type 0} → Answer → A → A → A
-if_done (Done n) new old = new
-if_done (Declined r) new old = old
+if_done (Ok n) new old = new
+if_done (Err r) new old = old
 
 -- a host gets the answer, 0 or more, or minus the refusal's number
 abbrev pub refusal_code : Refusal → ℤ
 refusal_code r = neg_ℤ (pos (number_of r))
 
 abbrev pub code_of : Answer → ℤ
-code_of (Done n) = pos n
-code_of (Declined r) = refusal_code r
+code_of (Ok n) = pos n
+code_of (Err r) = refusal_code r

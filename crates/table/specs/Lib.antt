@@ -3,6 +3,7 @@ pub mod Layout
 pub mod Good
 pub mod Rotation
 pub mod Check
+pub mod Reading
 pub mod Empty
 pub mod Output
 pub mod Writes

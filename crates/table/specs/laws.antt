@@ -15,3 +15,4 @@ pub mod Signed
 pub mod Writes
 pub mod Front
 pub mod Flat
+pub mod Reading

@@ -1,4 +1,4 @@
-// What a call answers: a number, or the refusal alone.
+// A refusal, and what C gets of an answer: a number, or the refusal alone.
 ghost use Rattle.std.specs.Prelude.{◌≡◌};
 ghost use Rattle.table.specs.Answers.{number_of, refusal_code, code_of};
 
@@ -18,12 +18,6 @@ pub enum Refusal {
     CutRecord,
     StaleForecast,
     ManyEdges,
-}
-
-#[derive(Clone, Copy)]
-pub enum Answer {
-    Done(u32),
-    Declined(Refusal),
 }
 
 // A refusal's number in the documents.
@@ -55,11 +49,11 @@ pub fn refusal_code(r: Refusal) -> i64
 }
 
 // The answer as C gets it: the number, or the refusal's code.
-pub fn code(a: Answer) -> i64
+pub fn code(a: Result<u32, Refusal>) -> i64
     ensures { result ≡ code_of a }
 {
     match a {
-        Answer::Done(n) => n as i64,
-        Answer::Declined(r) => refusal_code(r),
+        Ok(n) => n as i64,
+        Err(r) => refusal_code(r),
     }
 }

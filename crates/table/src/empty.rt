@@ -3,7 +3,7 @@ ghost use Rattle.std.specs.Prelude.{◌≤◌, ◌≡◌, length};
 ghost use Rattle.table.specs.laws.Empty.{Filled};
 ghost use Rattle.table.specs.Empty.{empty_of, emptied};
 
-use crate::answer::{Answer, Refusal};
+use crate::answer::Refusal;
 use crate::layout::{EDGE, LENGTH, NOTHING, VERTEX, WORDS};
 
 // Stores w from index `from` on, up to `to`.
@@ -11,23 +11,21 @@ fn fill(t: &mut [u16], from: usize, to: usize, w: u16)
     requires { (from ≤ to) × (to ≤ length t.old) }
     ensures { Filled t.old from to w t.new }
 {
-    let mut i = from;
-    while i < to {
+    for i in from..to {
         t[i] = w;
-        i += 1;
     }
 }
 
 // Fills the slice with the empty mesh. Of what it held only the size is tested.
-pub fn empty(t: &mut [u16]) -> Answer
+pub fn empty(t: &mut [u16]) -> Result<u32, Refusal>
     ensures { (result ≡ empty_of t.old) × (t.new ≡ emptied t.old) }
 {
     if t.len() != WORDS {
-        return Answer::Declined(Refusal::Torn);
+        return Err(Refusal::Torn);
     }
     fill(t, 0, EDGE, NOTHING);
     fill(t, EDGE, VERTEX, 0);
     fill(t, VERTEX, LENGTH, NOTHING);
     fill(t, LENGTH, WORDS, 0);
-    Answer::Done(0)
+    Ok(0)
 }

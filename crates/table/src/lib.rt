@@ -3,6 +3,6 @@
 
 pub mod answer;
 pub mod block;
-pub mod counted;
 pub mod empty;
 pub mod layout;
+pub mod read;

@@ -1,12 +1,13 @@
 // Numbers as decimal text.
-ghost use Rattle.std.specs.Prelude.{◌<◌, ◌≤◌, ◌^◌, ◌≡◌, nat_abs, length};
+ghost use Rattle.std.specs.Prelude.{◌<◌, ◌≤◌, ◌^◌, ◌≡◌, length};
 ghost use Rattle.text.specs.Decimal.{decimal, integer as integerText};
 ghost use Rattle.text.specs.laws.Writing.{Spelled};
 ghost use Rattle.text.specs.Paste.{Pasted};
 
 use crate::window::{byte, bytes};
 
-// The digits of n at the end of `digits`. The index of the first.
+// The digits of n at the end of `digits`. The index of the first. By hand and not by a crate as `itoa`: the wrong program digit_of_another_remainder is
+// refused at this remainder.
 fn spell(digits: &mut [u8; 20], n: u64) -> usize
     requires { length digits.old ≡ 20 }
     ensures { Spelled n result digits.new }
@@ -15,7 +16,7 @@ fn spell(digits: &mut [u8; 20], n: u64) -> usize
     let mut rest = n;
     while 10 <= rest {
         digits[i] = 48 + (rest % 10) as u8;
-        rest = rest / 10;
+        rest /= 10;
         i -= 1;
     }
     digits[i] = 48 + rest as u8;
@@ -32,22 +33,12 @@ pub fn number(out: &mut [u8], from: usize, at: usize, n: u64) -> usize
     bytes(out, from, at, &digits[i..])
 }
 
-// The size of z without its sign.
-fn magnitude(z: i32) -> u64
-    ensures { result ≡ nat_abs z }
-{
-    if z < 0 {
-        return (0 - z as i64) as u64;
-    }
-    z as u64
-}
-
 // Writes z in decimal from place `at` on, with a minus sign if it is negative. The place after it.
 pub fn integer(out: &mut [u8], from: usize, at: usize, z: i32) -> usize
     requires { at < 2 ^ 48 }
     ensures { Pasted from at out.old (integerText z) result out.new }
 {
-    let n = magnitude(z);
+    let n = u64::from(z.unsigned_abs());
     if z < 0 {
         let next = byte(out, from, at, b'-');
         return number(out, from, next, n);

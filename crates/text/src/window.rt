@@ -3,6 +3,7 @@ ghost use Rattle.std.specs.Prelude.{◌+◌, ◌<◌, ◌^◌, ◌≡◌, ◌∷
 ghost use Rattle.text.specs.Paste.{put, Pasted};
 
 // Stores b at place `at` if the window shows it.
+#[tactic(auto, unfolding(crate::specs::Paste::put))]
 fn store(out: &mut [u8], from: usize, at: usize, b: u8)
     ensures { out.new ≡ put from at out.old b }
 {
@@ -30,10 +31,8 @@ pub fn bytes(out: &mut [u8], from: usize, at: usize, s: &[u8]) -> usize
     requires { at + length s.now < 2 ^ 64 }
     ensures { Pasted from at out.old s.now result out.new }
 {
-    let mut i: usize = 0;
-    while i < s.len() {
-        store(out, from, at + i, s[i]);
-        i += 1;
+    for (i, b) in s.iter().enumerate() {
+        store(out, from, at + i, *b);
     }
-    at + i
+    at + s.len()
 }

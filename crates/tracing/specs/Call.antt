@@ -1,8 +1,8 @@
 -- What the call for the listing answers and what it leaves in the slice, document 01, "When a call declines".
+use Rattle.table.specs.Answers.{Answer}
 use Rattle.std.specs.Prelude.{ℕ, List}
 use Rattle.table.specs.Rotation.{rotation}
 use Rattle.table.specs.Output.{output_answer, output_out}
-use Rattle.table.specs.declared.answer.Answer.{Answer}
 use Rattle.tracing.specs.Listing.{listing}
 
 abbrev pub list_answer : List ℕ → ℕ → Answer

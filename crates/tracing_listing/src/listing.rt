@@ -12,22 +12,15 @@ ghost use Rattle.table.specs.Layout.{darts, vertices};
 
 use table::layout::{DARTS, ISOLATED, LONE, VERTEX, VERTICES};
 use tracing_walks::count::look;
-use tracing_walks::step::step;
+use tracing_walks::walk::walk;
 
 // The steps of the walk from s, from index `start` on.
 fn write_walk(t: &[u16], out: &mut [u16], start: usize, s: u16)
     requires { Stands t.now s × (start + length (walk (rotation t.now) s) ≤ length out.old) }
     ensures { out.new ≡ sets out.old start (walk (rotation t.now) s) }
 {
-    let mut at = s;
-    let mut n: usize = 0;
-    loop {
+    for (n, at) in walk(t, s).enumerate() {
         out[start + n] = at;
-        n += 1;
-        at = step(t, at);
-        if at == s {
-            return;
-        }
     }
 }
 
@@ -36,14 +29,12 @@ fn write_from(t: &[u16], met: &mut [u8; DARTS], out: &mut [u16], at: usize, d: u
     requires { RoomAt t.now met.old out.old at d }
     ensures { Entered t.now met.old out.old at d result met.new out.new }
 {
-    let found = look(t, met, d);
-    let words = found.words;
-    if words == 0 {
+    let Some(steps) = look(t, met, d) else {
         return at;
-    }
-    out[at] = (words - 1) as u16;
+    };
+    out[at] = steps as u16;
     write_walk(t, out, at + 1, 2 * (d as u16));
-    at + words
+    at + 1 + steps
 }
 
 // The empty walk at vertex v, if it is isolated, from index `at` on. The index after it.
@@ -66,10 +57,8 @@ fn write_walks(t: &[u16], out: &mut [u16]) -> usize
 {
     let mut met = [0u8; DARTS];
     let mut at: usize = 0;
-    let mut d: usize = 0;
-    while d < DARTS {
+    for d in 0..DARTS {
         at = write_from(t, &mut met, out, at, d);
-        d += 1;
     }
     at
 }
@@ -80,10 +69,8 @@ fn write_lones(t: &[u16], out: &mut [u16], start: usize)
     ensures { out.new ≡ sets out.old start (lones_text (rotation t.now) vertices) }
 {
     let mut at = start;
-    let mut v: usize = 0;
-    while v < VERTICES {
+    for v in 0..VERTICES {
         at = write_lone(t, out, at, v);
-        v += 1;
     }
 }
 

@@ -13,21 +13,17 @@ ghost use Rattle.tracing_tags.specs.laws.Tags.{untagged, tagged, Tagged, TaggedF
 use table::block::{DART_BLOCK, EDGE_BLOCKS, is_dead};
 use table::layout::{DARTS, EDGE, NOTHING};
 use tracing_walks::count::isolated;
-use tracing_walks::step::{corner, step};
+use tracing_walks::step::corner;
+use tracing_walks::walk::walk;
 
 // Tags the corners of the walk from step s.
 fn tag_walk(t: &[u16], tags: &mut [u16; DARTS], s: u16)
     requires { Stands t.now s × (length tags.old ≡ darts) }
     ensures { tags.new ≡ tagged (rotation t.now) tags.old s (walk (rotation t.now) s) }
 {
-    let mut at = s;
-    loop {
+    for at in walk(t, s) {
         let c = corner(t, at);
         tags[c] = s + at % 2;
-        at = step(t, at);
-        if at == s {
-            return;
-        }
     }
 }
 
@@ -51,12 +47,9 @@ fn tag_in(t: &[u16], tags: &mut [u16; DARTS], b: usize, before: u32) -> u32
     requires { (b < edge_blocks) × TagCounting t.now (64 * b) before tags.old }
     ensures { TagCounting t.now (64 * b + 64) result tags.new }
 {
-    let end = DART_BLOCK * b + DART_BLOCK;
     let mut walks = before;
-    let mut d = DART_BLOCK * b;
-    while d < end {
+    for d in DART_BLOCK * b..DART_BLOCK * b + DART_BLOCK {
         walks += tag_from(t, tags, d);
-        d += 1;
     }
     walks
 }
@@ -67,12 +60,10 @@ pub fn tag_faces(t: &[u16], tags: &mut [u16; DARTS]) -> u32
     ensures { (result ≡ face_count (rotation t.now)) × Tags t.now tags.new }
 {
     let mut walks: u32 = 0;
-    let mut b: usize = 0;
-    while b < EDGE_BLOCKS {
+    for b in 0..EDGE_BLOCKS {
         if !is_dead(t, b) {
             walks = tag_in(t, tags, b, walks);
         }
-        b += 1;
     }
     walks + isolated(t)
 }

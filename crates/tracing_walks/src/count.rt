@@ -8,7 +8,8 @@ ghost use Rattle.tracing.specs.Listing.{face_count};
 ghost use Rattle.tracing_walks.specs.laws.Stands.{Stands};
 ghost use Rattle.tracing_walks.specs.laws.Size.{Marked, Looked, LookReady, Lone, WalkCounting, Measured};
 
-use crate::step::{corner, step};
+use crate::step::corner;
+use crate::walk::walk;
 use table::block::{DART_BLOCK, EDGE_BLOCKS, is_dead};
 use table::layout::{DARTS, EDGE, ISOLATED, VERTEX, VERTICES};
 
@@ -19,40 +20,32 @@ pub struct Size {
     pub words: usize,
 }
 
-// Marks the corners of the walk from step s, and counts its steps.
+// Marks the corners of the walk from step s, and counts its steps. Marks are bytes: what is said of them is said of whatever bytes a caller lends.
 pub fn mark_walk(t: &[u16], met: &mut [u8; DARTS], s: u16) -> usize
     requires { Stands t.now s × (length met.old ≡ darts) }
     ensures { Marked t.now s met.old result met.new }
 {
-    let mut at = s;
     let mut n: usize = 0;
-    loop {
+    for at in walk(t, s) {
         let c = corner(t, at);
         met[c] = 1;
         n += 1;
-        at = step(t, at);
-        if at == s {
-            return n;
-        }
     }
+    n
 }
 
-// The walk that starts at dart d, if one does: its corner has not been met. Marks its corners.
-pub fn look(t: &[u16], met: &mut [u8; DARTS], d: usize) -> Size
+// The number of steps of the walk that starts at dart d, if one does: its corner has not been met. Marks its corners.
+pub fn look(t: &[u16], met: &mut [u8; DARTS], d: usize) -> Option<usize>
     requires { LookReady t.now met.old d }
     ensures { Looked t.now d met.old result met.new }
 {
     if t[EDGE + d / 2] == 0 {
-        return Size { walks: 0, words: 0 };
+        return None;
     }
     if met[d] != 0 {
-        return Size { walks: 0, words: 0 };
+        return None;
     }
-    let n = mark_walk(t, met, 2 * (d as u16));
-    Size {
-        walks: 1,
-        words: n + 1,
-    }
+    Some(mark_walk(t, met, 2 * (d as u16)))
 }
 
 // The number of isolated vertices.
@@ -61,12 +54,10 @@ pub fn isolated(t: &[u16]) -> u32
     ensures { Lone t.now vertices result }
 {
     let mut n: u32 = 0;
-    let mut v: usize = 0;
-    while v < VERTICES {
+    for v in 0..VERTICES {
         if t[VERTEX + v] == ISOLATED {
             n += 1;
         }
-        v += 1;
     }
     n
 }
@@ -76,15 +67,13 @@ fn measure_in(t: &[u16], met: &mut [u8; DARTS], b: usize, before: Size) -> Size
     requires { (b < edge_blocks) × WalkCounting t.now (64 * b) before.walks before.words met.old }
     ensures { WalkCounting t.now (64 * b + 64) result.walks result.words met.new }
 {
-    let end = DART_BLOCK * b + DART_BLOCK;
     let mut walks = before.walks;
     let mut words = before.words;
-    let mut d = DART_BLOCK * b;
-    while d < end {
-        let found = look(t, met, d);
-        walks += found.walks;
-        words += found.words;
-        d += 1;
+    for d in DART_BLOCK * b..DART_BLOCK * b + DART_BLOCK {
+        if let Some(steps) = look(t, met, d) {
+            walks += 1;
+            words += steps + 1;
+        }
     }
     Size {
         walks: walks,
@@ -99,12 +88,10 @@ pub fn measure(t: &[u16]) -> Size
 {
     let mut met = [0u8; DARTS];
     let mut size = Size { walks: 0, words: 0 };
-    let mut b: usize = 0;
-    while b < EDGE_BLOCKS {
+    for b in 0..EDGE_BLOCKS {
         if !is_dead(t, b) {
             size = measure_in(t, &mut met, b, size);
         }
-        b += 1;
     }
     let alone = isolated(t);
     Size {

@@ -4,3 +4,4 @@
 pub mod corner;
 pub mod count;
 pub mod step;
+pub mod walk;

@@ -1,21 +1,20 @@
 -- What the trial program writes for its arguments, document 02, request f. What the arguments are is not known to a proof,
 -- so the statements are about some bytes.
---     outcome, with_start, with_edges                           what the arguments ask for
+--     Outcome, outcome, with_start, with_edges                  what the arguments ask for
 --     output_of, message                                        what goes to standard output; to standard error
 --     start_most, arguments                                     the largest starting number; how many arguments there are
 --     usage, not_number, not_a_number, start_word, edges_word   the text of the messages
 --     Laid                                                      a text stands at the front of a slice
 --     Few                                                       no more edges than a table has
-use Rattle.std.specs.Prelude.{ℕ, ◌≤◌, ◌≡◌, cond, List, [], ◌∷◌, ◌++◌, eqb, length}
+use Rattle.std.specs.Prelude.{ℕ, ◌≤◌, ◌≡◌, cond, List, [], ◌∷◌, ◌++◌, eqb, length, Option, Some, None, Result, Ok, Err}
 use Rattle.text.specs.Decimal.{decimal}
 use Rattle.table.specs.Layout.{edges}
 use Rattle.table.specs.Output.{front}
 use Rattle.arguments.specs.Arguments.{number_in}
-use Rattle.arguments.specs.declared.number.Parsed.{Parsed}
-use Rattle.arguments.specs.declared.number.Parsed.TheVariants.{Number, Nothing}
 use Rattle.trial_jobs.specs.Trial.{trial_bytes}
-use Rattle.trial.specs.declared.Outcome.{Outcome}
-use Rattle.trial.specs.declared.Outcome.TheVariants.{Usage, BadStart, BadEdges, Job}
+use Rattle.trial.specs.declared.Order.{Order}
+use Rattle.trial.specs.declared.Misuse.{Misuse}
+use Rattle.trial.specs.declared.Misuse.TheVariants.{Usage, BadStart, BadEdges}
 
 -- "the 32-bit starting number"; the other bound is the table's: "13, N above 1,024"
 abbrev pub start_most : ℕ
@@ -25,25 +24,27 @@ start_most = 4294967295
 abbrev pub arguments : ℕ
 arguments = 3
 
--- START, "the first of the two", is read first, so that one line says what is wrong
-abbrev pub with_edges : ℕ → Parsed → Outcome
-with_edges start (Number n) = Job start n
-with_edges start Nothing = BadEdges
+-- a job from these two numbers, or what is wrong
+abbrev pub Outcome : Type 0
+Outcome = Result Order Misuse
 
-abbrev pub with_start : Parsed → Parsed → Outcome
-with_start (Number start) second = with_edges start second
-with_start Nothing second = BadStart
+-- START, "the first of the two", is read first, so that one line says what is wrong
+abbrev pub with_edges : ℕ → Option ℕ → Outcome
+with_edges start (Some n) = Ok (record { start = start; edges = n })
+with_edges start None = Err BadEdges
+
+abbrev pub with_start : Option ℕ → Option ℕ → Outcome
+with_start (Some start) second = with_edges start second
+with_start None second = Err BadStart
 
 -- given so many arguments, the two after its name being these
 unfoldable pub outcome : ℕ → List ℕ → List ℕ → Outcome
-outcome count first second = cond (eqb count arguments) (with_start (number_in first start_most) (number_in second edges)) Usage
+outcome count first second = cond (eqb count arguments) (with_start (number_in first start_most) (number_in second edges)) (Err Usage)
 
 -- the job's bytes, and nothing where an argument is bad
 abbrev pub output_of : Outcome → List ℕ
-output_of Usage = []
-output_of BadStart = []
-output_of BadEdges = []
-output_of (Job start n) = trial_bytes start n
+output_of (Ok o) = trial_bytes o.start o.edges
+output_of (Err m) = []
 
 -- " is not a number from 0 to "
 abbrev pub not_a_number : List ℕ
@@ -67,10 +68,10 @@ usage = (117 ∷ 115 ∷ 97 ∷ 103 ∷ 101 ∷ 58 ∷ 32 ∷ 116 ∷ 114 ∷ 10
 
 -- a line that says what is wrong, and nothing where there is a job
 unfoldable pub message : Outcome → List ℕ
-message Usage = usage
-message BadStart = not_number start_word start_most
-message BadEdges = not_number edges_word edges
-message (Job start n) = []
+message (Ok o) = []
+message (Err Usage) = usage
+message (Err BadStart) = not_number start_word start_most
+message (Err BadEdges) = not_number edges_word edges
 
 -- a text stands at the front of a slice, as many bytes as are said; the rest is as it was
 pub record Laid (text out : List ℕ) (size : ℕ) (out' : List ℕ) : Type 0 where
@@ -79,7 +80,5 @@ pub record Laid (text out : List ℕ) (size : ℕ) (out' : List ℕ) : Type 0 wh
 
 -- no more edges than a table has
 abbrev pub Few : Outcome → Type 0
-Few Usage = Unit
-Few BadStart = Unit
-Few BadEdges = Unit
-Few (Job start n) = n ≤ edges
+Few (Ok o) = o.edges ≤ edges
+Few (Err m) = Unit

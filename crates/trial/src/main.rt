@@ -7,46 +7,44 @@
 ghost use Rattle.std.specs.Prelude.{◌≤◌, ◌≡◌, length};
 ghost use Rattle.table.specs.Layout.{edges as edgesMost};
 ghost use Rattle.trial_jobs.specs.Trial.{trial_size, trial_bytes};
-ghost use Rattle.trial.specs.Program.{outcome, output_of, message, Laid, Few};
+ghost use Rattle.trial.specs.Program.{outcome, output_of, message, Laid};
 
-use arguments::number::{Parsed, number_in};
+use arguments::number::number_in;
 use std::env::FillError;
 use std::io;
 use std::rt::Runtime;
 use streams::put;
-use table::answer::Answer;
 use table::layout::EDGES;
 use text::window::bytes;
 use trial_make::call::trial_job;
 
-// What the arguments ask for.
+// The trial job that the arguments ask for.
 #[derive(Clone, Copy)]
-enum Outcome {
+struct Order {
+    start: u32,
+    edges: u32,
+}
+
+// What is wrong with the arguments.
+#[derive(Clone, Copy)]
+enum Misuse {
     // there are not two
     Usage,
     // START is not a number from 0 to START_MOST
     BadStart,
     // EDGES is not a number from 0 to EDGES_MOST
     BadEdges,
-    Job { start: u32, edges: u32 },
 }
 
-// The bytes that are made for standard output, and for standard error.
+// How many bytes there are for standard output, and for standard error.
 #[derive(Clone, Copy)]
-struct Made {
-    output: usize,
-    message: usize,
-}
-
-// The bytes that were handed to standard output, and to standard error.
-#[derive(Clone, Copy)]
-struct Printed {
+struct Sizes {
     output: usize,
     message: usize,
 }
 
 // A 32-bit number, and as many edges as a table has.
-const START_MOST: u32 = 4294967295;
+const START_MOST: u32 = u32::MAX;
 
 const EDGES_MOST: u32 = EDGES as u32;
 
@@ -54,81 +52,70 @@ const EDGES_MOST: u32 = EDGES as u32;
 const ARGUMENTS: usize = 3;
 
 // Reads the arguments: how many there are, the program's own name among them, and the bytes of the two after it.
-fn read_arguments(count: usize, first: &[u8], second: &[u8]) -> Outcome
+#[tactic(auto, unfolding(crate::specs::Program::outcome))]
+fn read_arguments(count: usize, first: &[u8], second: &[u8]) -> Result<Order, Misuse>
     ensures { result ≡ outcome count first.now second.now }
 {
     if count != ARGUMENTS {
-        return Outcome::Usage;
+        return Err(Misuse::Usage);
     }
-    let Parsed::Number(start) = number_in(first, START_MOST) else {
-        return Outcome::BadStart;
-    };
-    let Parsed::Number(edges) = number_in(second, EDGES_MOST) else {
-        return Outcome::BadEdges;
-    };
-    Outcome::Job { start, edges }
+    let start = number_in(first, START_MOST).ok_or(Misuse::BadStart)?;
+    let edges = number_in(second, EDGES_MOST).ok_or(Misuse::BadEdges)?;
+    Ok(Order { start, edges })
 }
 
 // Writes the trial job to the front of `out`. The number of its bytes.
-fn write_job(start: u32, edges: u32, out: &mut [u8]) -> usize
-    requires { (edges ≤ edgesMost) × (trial_size edgesMost ≤ length out.old) }
-    ensures { Laid (trial_bytes start edges) out.old result out.new }
+fn write_job(order: Order, out: &mut [u8]) -> usize
+    requires { (order.edges ≤ edgesMost) × (trial_size edgesMost ≤ length out.old) }
+    ensures { Laid (trial_bytes order.start order.edges) out.old result out.new }
 {
-    match trial_job(start, edges, out) {
-        Answer::Done(size) => size as usize,
+    match trial_job(order.start, order.edges, out) {
+        Ok(size) => size as usize,
         // never: the edges are so few, and there is room
-        Answer::Declined(_) => 0,
+        Err(_) => 0,
     }
 }
 
-// Writes what goes to standard output to the front of `out`. The number of bytes.
-fn write_output(asked: Outcome, out: &mut [u8]) -> usize
-    requires { Few asked × (trial_size edgesMost ≤ length out.old) }
-    ensures { Laid (output_of asked) out.old result out.new }
-{
-    match asked {
-        Outcome::Usage => 0,
-        Outcome::BadStart => 0,
-        Outcome::BadEdges => 0,
-        Outcome::Job { start, edges } => write_job(start, edges, out),
-    }
-}
-
-// Writes what goes to standard error to the front of `line`. The number of bytes.
-fn write_message(asked: Outcome, line: &mut [u8]) -> usize
+// Writes the line that says what is wrong to the front of `line`. The number of its bytes.
+fn write_message(misuse: Misuse, line: &mut [u8]) -> usize
     requires { 64 ≤ length line.old }
-    ensures { Laid (message asked) line.old result line.new }
+    ensures { Laid (message (Err misuse)) line.old result line.new }
 {
-    match asked {
-        Outcome::Usage => bytes(line, 0, 0, b"usage: trial START EDGES\n"),
-        Outcome::BadStart => bytes(
+    match misuse {
+        Misuse::Usage => bytes(line, 0, 0, b"usage: trial START EDGES\n"),
+        Misuse::BadStart => bytes(
             line,
             0,
             0,
             b"trial: START is not a number from 0 to 4294967295\n",
         ),
-        Outcome::BadEdges => bytes(line, 0, 0, b"trial: EDGES is not a number from 0 to 1024\n"),
-        Outcome::Job { .. } => 0,
+        Misuse::BadEdges => bytes(line, 0, 0, b"trial: EDGES is not a number from 0 to 1024\n"),
     }
 }
 
 // Makes what the arguments ask for: the job at the front of `out`, or a line at the front of `line`.
-fn make(count: usize, first: &[u8], second: &[u8], out: &mut [u8], line: &mut [u8]) -> Made
+fn make(count: usize, first: &[u8], second: &[u8], out: &mut [u8], line: &mut [u8]) -> Sizes
     requires { (trial_size edgesMost ≤ length out.old) × (64 ≤ length line.old) }
     ensures { Laid (output_of (outcome count first.now second.now)) out.old result.output out.new
         × Laid (message (outcome count first.now second.now)) line.old result.message line.new }
 {
-    let asked = read_arguments(count, first, second);
-    let output = write_output(asked, out);
-    let message = write_message(asked, line);
-    Made { output, message }
+    match read_arguments(count, first, second) {
+        Ok(order) => Sizes {
+            output: write_job(order, out),
+            message: 0,
+        },
+        Err(misuse) => Sizes {
+            output: 0,
+            message: write_message(misuse, line),
+        },
+    }
 }
 
 // Hands some bytes to standard output, and answers how many. Where that fails, standard error says so.
 fn print<R: Runtime>(rt: &R, output: &[u8]) -> usize
     ensures { result ≡ length output.now }
 {
-    put(rt, &mut io::writer(rt), "standard output", output);
+    let _told = put(rt, &mut io::writer(rt), "standard output", output);
     output.len()
 }
 
@@ -143,19 +130,19 @@ fn complain<R: Runtime>(rt: &R, message: &[u8]) -> usize
 }
 
 // Hands the line to standard error and the job to standard output. One of them is empty, and then nothing is written there.
-fn hand_over<R: Runtime>(rt: &R, message: &[u8], output: &[u8]) -> Printed
+fn hand_over<R: Runtime>(rt: &R, message: &[u8], output: &[u8]) -> Sizes
     ensures { (result.output ≡ length output.now) × (result.message ≡ length message.now) }
 {
     let told = complain(rt, message);
     let printed = print(rt, output);
-    Printed {
+    Sizes {
         output: printed,
         message: told,
     }
 }
 
 // Runs the program on its arguments.
-fn run<R: Runtime>(rt: &R, count: usize, first: &[u8], second: &[u8]) -> Printed
+fn run<R: Runtime>(rt: &R, count: usize, first: &[u8], second: &[u8]) -> Sizes
     ensures { (result.output ≡ length (output_of (outcome count first.now second.now)))
         × (result.message ≡ length (message (outcome count first.now second.now))) }
 {

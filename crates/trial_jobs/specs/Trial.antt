@@ -4,13 +4,11 @@
 --     corner_at, insertion_on                  the corner that an end goes to; the insertion of edge e
 --     trial_job, additions, trial_bytes        the edits; those of the vertices; the job as it is written
 --     trial_answer, trial_size, trial_out      what the call answers; the bytes of the job; what it leaves in the slice
-use Rattle.std.specs.Prelude.{ℕ, zero, suc, ◌+◌, ◌*◌, ◌/◌, ◌%◌, ◌^◌, cond, List, [], ◌∷◌, ◌++◌, eqb, leb, ℤ, pos, ◌-ℤ◌, length}
+use Rattle.std.specs.Prelude.{ℕ, zero, suc, ◌+◌, ◌*◌, ◌/◌, ◌%◌, ◌^◌, cond, List, [], ◌∷◌, ◌++◌, eqb, leb, ℤ, pos, ◌-ℤ◌, length, Ok, Err}
 use Rattle.table.specs.Layout.{edges, isolated, vertex_word, lone_at}
-use Rattle.table.specs.Answers.{unless, if_done}
+use Rattle.table.specs.Answers.{unless, if_done, Answer}
 use Rattle.table.specs.Empty.{empty_table}
 use Rattle.table.specs.Output.{front}
-use Rattle.table.specs.declared.answer.Answer.{Answer}
-use Rattle.table.specs.declared.answer.Answer.TheVariants.{Done, Declined}
 use Rattle.table.specs.declared.answer.Refusal.TheVariants.{ShortSlice, ManyEdges}
 use Rattle.edits.specs.declared.edit.Edit.{Edit}
 use Rattle.edits.specs.declared.edit.Edit.TheVariants.{AddVertex, InsertEdge}
@@ -70,7 +68,7 @@ trial_size n = 32 + 10 * n
 
 -- "Turned away: 13, N above 1,024; otherwise 7 for an output shorter than 32 + 10N bytes, and never anything else."
 abbrev pub trial_answer : ℕ → ℕ → Answer
-trial_answer n room = unless (leb n edges) (Declined ManyEdges) (unless (leb (trial_size n) room) (Declined ShortSlice) (Done (trial_size n)))
+trial_answer n room = unless (leb n edges) (Err ManyEdges) (unless (leb (trial_size n) room) (Err ShortSlice) (Ok (trial_size n)))
 
 -- the job at the front, and the rest as it was
 abbrev pub trial_out : ℕ → ℕ → List ℕ → List ℕ

@@ -1,11 +1,10 @@
 -- What holds of every trial job: a field for each clause. It holds for every starting number and every number of edges up to 1,024 (`Theorems`).
-use Rattle.std.specs.Prelude.{ℕ, ◌*◌, ◌<◌, ◌≡◌, true, List, [], ◌∷◌, ◌++◌, ◌↔◌, length}
+use Rattle.std.specs.Prelude.{ℕ, ◌*◌, ◌<◌, ◌≡◌, true, List, [], ◌∷◌, ◌++◌, ◌↔◌, length, Ok}
 use Rattle.table.specs.Empty.{empty_table}
 use Rattle.table.specs.Rotation.{Rotation, rotation}
 use Rattle.tracing.specs.Met.{edge_count}
 use Rattle.edits.specs.Verdicts.{verdict}
 use Rattle.edits.specs.declared.edit.Edit.{Edit}
-use Rattle.edits.specs.declared.edit.Verdict.TheVariants.{Passes}
 use Rattle.surface.specs.Counts.{vertex_count}
 use Rattle.runs.specs.Run.{run}
 use Rattle.runs.specs.RunLaws.{RunLaws}
@@ -24,7 +23,7 @@ module _ (start n : ℕ) where
     pub size : length (trial_bytes start n) ≡ trial_size n
     pub read : reading (trial_bytes start n) ≡ record { edits = trial_job start n; taken = trial_size n; stop = End }
     -- "Every record made so is accepted when run from the empty mesh": wherever it stands in the job
-    pub accepted : (front : List Edit) (E : Edit) (back : List Edit) → trial_job start n ≡ front ++ E ∷ back → verdict (run empty_table front) E ≡ Passes
+    pub accepted : (front : List Edit) (E : Edit) (back : List Edit) → trial_job start n ≡ front ++ E ∷ back → verdict (run empty_table front) E ≡ Ok tt
     -- so the job program prints no "no" line for it
     pub silent : printed empty_table 1 (trial_bytes start n) ≡ []
     -- after it the mesh has vertices 0 to 7 and edges 0 to N-1, and no others

@@ -1,4 +1,3 @@
 pub mod Draws
 pub mod Edge
 pub mod Making
-pub mod Call

@@ -8,12 +8,13 @@ ghost use Rattle.trial_make.specs.laws.Edge.{give_dart, edge_drawn, corners_afte
 
 use crate::draws::{after_draw, draw};
 use records::records::MARK_IE;
-use records_write::record::write_ends;
+use records_write::record::{Words, write_ends};
 use table::layout::LONE;
 
 // The corners of the eight vertices are eight words: darts rise, so the first dart that a vertex gets stays its smallest.
 
 // Vertex v gets a dart, which names its corner if it is the first.
+#[tactic(auto, unfolding(crate::specs::laws::Edge::give_dart))]
 fn give_dart(corners: &mut [u16; 8], v: usize, dart: u16)
     requires { (v < 8) × (length corners.old ≡ 8) }
     ensures { corners.new ≡ give_dart corners.old v dart }
@@ -39,7 +40,14 @@ pub fn write_edge(out: &mut [u8], corners: &mut [u16; 8], s: u32, e: u16) -> u32
     let turns = draw(3, thrice) as i16 - 1;
     let first = corners[a];
     let second = corners[b];
-    write_ends(out, 32 + 10 * e as usize, MARK_IE, e, first, second, turns);
+    let words = Words {
+        name: e,
+        first,
+        second,
+        turns,
+        strip: 0,
+    };
+    write_ends(out, 32 + 10 * e as usize, MARK_IE, words);
     give_dart(corners, a, 2 * e);
     give_dart(corners, b, 2 * e + 1);
     thrice

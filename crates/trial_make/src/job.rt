@@ -15,11 +15,9 @@ fn write_vertices(out: &mut [u8], corners: &mut [u16; 8])
     requires { (32 ≤ length out.old) × (length corners.old ≡ 8) }
     ensures { Vertices out.old 8 out.new corners.new }
 {
-    let mut v: u16 = 0;
-    while v < 8 {
+    for v in 0..8 {
         write_words(out, 4 * v as usize, MARK_AV, v);
         corners[v as usize] = LONE + v;
-        v += 1;
     }
 }
 
@@ -31,9 +29,7 @@ pub fn write_job(out: &mut [u8], start: u32, n: u16)
     let mut corners = [0u16; 8];
     write_vertices(out, &mut corners);
     let mut s = start;
-    let mut e: u16 = 0;
-    while e < n {
+    for e in 0..n {
         s = write_edge(out, &mut corners, s, e);
-        e += 1;
     }
 }

@@ -7,7 +7,7 @@ ghost use Rattle.weave_letters.specs.laws.Crossing.{EdgeWord};
 
 use table::layout::{EDGE, UNTURNED};
 
-// The letters, as they are written.
+// The letters, as they are written: bytes and no enum, since C reads them.
 pub const OVER: u8 = 79;
 
 pub const UNDER: u8 = 85;

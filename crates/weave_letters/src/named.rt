@@ -5,24 +5,23 @@ ghost use Rattle.weave.specs.Calls.{named_step};
 use check_table::whole::is_good;
 use table::answer::Refusal;
 use table::layout::{DARTS, EDGE};
-use weave::named::Named;
 
-// The step of dart and type, as a step word.
-pub fn named_step(t: &[u16], dart: u16, kind: u16) -> Named
+// The step of dart and type, as a step word. The type is a number, since C names it by any.
+pub fn named_step(t: &[u16], dart: u16, kind: u16) -> Result<u16, Refusal>
     ensures { result ≡ named_step t.now dart kind }
 {
     if !is_good(t) {
-        return Named::Refused(Refusal::Torn);
+        return Err(Refusal::Torn);
     }
     let d = dart as usize;
     if DARTS <= d {
-        return Named::Refused(Refusal::NoSuchName);
+        return Err(Refusal::NoSuchName);
     }
     if 1 < kind {
-        return Named::Refused(Refusal::NoSuchName);
+        return Err(Refusal::NoSuchName);
     }
     if t[EDGE + d / 2] == 0 {
-        return Named::Refused(Refusal::Absent);
+        return Err(Refusal::Absent);
     }
-    Named::There(2 * dart + kind)
+    Ok(2 * dart + kind)
 }

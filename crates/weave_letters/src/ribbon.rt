@@ -7,23 +7,16 @@ ghost use Rattle.weave_letters.specs.laws.Crossing.{LetterRoom, Lettered};
 ghost use Rattle.weave_letters.specs.laws.Passing.{LetterCount};
 
 use crate::letter::{crossings, edge_word, letter};
-use tracing_walks::step::step;
+use tracing_walks::walk::walk;
 
 // The number of letters of the ribbon through step s.
 pub fn letter_count(t: &[u16], s: u16) -> usize
     requires { Stands t.now s }
     ensures { LetterCount t.now s result }
 {
-    let mut at = s;
-    let mut n: usize = 0;
-    loop {
-        let w = edge_word(t, at);
-        n += crossings(w) as usize;
-        at = step(t, at);
-        if at == s {
-            return n;
-        }
-    }
+    walk(t, s)
+        .map(|at| crossings(edge_word(t, at)) as usize)
+        .sum()
 }
 
 // The letters of a step of type `kind` on an edge of word w, from index `start` on. The index after them.
@@ -32,10 +25,8 @@ fn write_step(out: &mut [u8], start: usize, w: u16, kind: u16) -> usize
     ensures { Lettered w kind start out.old result out.new }
 {
     let n = crossings(w);
-    let mut j: u16 = 0;
-    while j < n {
+    for j in 0..n {
         out[start + j as usize] = letter(w, kind, j);
-        j += 1;
     }
     start + n as usize
 }
@@ -45,14 +36,9 @@ pub fn write_letters(t: &[u16], out: &mut [u8], s: u16)
     requires { Stands t.now s × (length (letters t.now s) ≤ length out.old) }
     ensures { out.new ≡ sets out.old 0 (letters t.now s) }
 {
-    let mut at = s;
     let mut end: usize = 0;
-    loop {
+    for at in walk(t, s) {
         let w = edge_word(t, at);
         end = write_step(out, end, w, at % 2);
-        at = step(t, at);
-        if at == s {
-            return;
-        }
     }
 }

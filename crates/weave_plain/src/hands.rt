@@ -7,7 +7,7 @@ ghost use Rattle.weave.specs.Letters.{alternates};
 ghost use Rattle.weave_plain.specs.laws.Hands.{hands_with, hands_among};
 
 use table::layout::UNTURNED;
-use tracing_walks::step::step;
+use tracing_walks::walk::walk;
 use weave_letters::letter::edge_word;
 
 // Is there an edge of positive turns, and is there one of negative turns.
@@ -41,19 +41,15 @@ fn hands_along(t: &[u16], s: u16) -> Hands
     requires { Stands t.now s }
     ensures { result ≡ hands_among t.now (walk (rotation t.now) s) }
 {
-    let mut at = s;
     let mut seen = Hands {
         positive: false,
         negative: false,
     };
-    loop {
+    for at in walk(t, s) {
         let w = edge_word(t, at);
         seen = with_edge(seen, w);
-        at = step(t, at);
-        if at == s {
-            return seen;
-        }
     }
+    seen
 }
 
 // Does the ribbon through step s alternate.

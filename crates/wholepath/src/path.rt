@@ -7,8 +7,7 @@ ghost use Rattle.wholepath.specs.laws.WholePath.{Left};
 
 use crate::survey::survey_from;
 use floatpath::path::{LIFTS, POINTS};
-use table::answer::{Answer, Refusal};
-use weave::named::Named;
+use table::answer::Refusal;
 use weave_letters::named::named_step;
 use wholepath_writing::writing::write_path;
 
@@ -21,32 +20,32 @@ fn path_size(
     coords: usize,
     remainders: usize,
     s: u16,
-) -> Answer
+) -> Result<u32, Refusal>
     requires { Stands t.now s }
     ensures { result ≡ whole_along t.now points.now lifts.now forms coords remainders s }
 {
     if points.len() < POINTS {
-        return Answer::Declined(Refusal::ShortSlice);
+        return Err(Refusal::ShortSlice);
     }
     if lifts.len() < LIFTS {
-        return Answer::Declined(Refusal::ShortSlice);
+        return Err(Refusal::ShortSlice);
     }
     let seen = survey_from(t, points, lifts, s);
     let pieces = seen.pieces + 1;
     let words = 3 * pieces;
     if forms < pieces {
-        return Answer::Declined(Refusal::ShortSlice);
+        return Err(Refusal::ShortSlice);
     }
     if coords < words {
-        return Answer::Declined(Refusal::ShortSlice);
+        return Err(Refusal::ShortSlice);
     }
     if remainders < words {
-        return Answer::Declined(Refusal::ShortSlice);
+        return Err(Refusal::ShortSlice);
     }
     if seen.far {
-        return Answer::Declined(Refusal::Far);
+        return Err(Refusal::Far);
     }
-    Answer::Done(pieces as u32)
+    Ok(pieces as u32)
 }
 
 // Writes the path from step s, unless it is declined.
@@ -58,12 +57,12 @@ fn path_from(
     coords: &mut [i32],
     remainders: &mut [u16],
     s: u16,
-) -> Answer
+) -> Result<u32, Refusal>
     requires { Stands t.now s }
     ensures { Left t.now points.now lifts.now s
         (out forms.old coords.old remainders.old) result (out forms.new coords.new remainders.new) }
 {
-    let a = path_size(
+    let pieces = path_size(
         t,
         points,
         lifts,
@@ -71,14 +70,9 @@ fn path_from(
         coords.len(),
         remainders.len(),
         s,
-    );
-    match a {
-        Answer::Declined(r) => Answer::Declined(r),
-        Answer::Done(n) => {
-            write_path(t, points, lifts, forms, coords, remainders, s);
-            Answer::Done(n)
-        }
-    }
+    )?;
+    write_path(t, points, lifts, forms, coords, remainders, s);
+    Ok(pieces)
 }
 
 // Writes the whole path of the ribbon through the step of dart and type: for each piece a word, three coordinates and their three remainders. Answers the number of pieces.
@@ -91,7 +85,7 @@ pub fn whole_path(
     forms: &mut [u16],
     coords: &mut [i32],
     remainders: &mut [u16],
-) -> Answer
+) -> Result<u32, Refusal>
     ensures { (result ≡ whole_answer t.now dart kind points.now lifts.now
         (length forms.old) (length coords.old) (length remainders.old))
         × (forms.new ≡ whole_forms_out t.now dart kind points.now lifts.now forms.old coords.old remainders.old)
@@ -99,9 +93,6 @@ pub fn whole_path(
         × (remainders.new ≡ whole_remainders_out t.now dart kind points.now lifts.now
         forms.old coords.old remainders.old) }
 {
-    let n = named_step(t, dart, kind);
-    match n {
-        Named::Refused(r) => Answer::Declined(r),
-        Named::There(s) => path_from(t, points, lifts, forms, coords, remainders, s),
-    }
+    let s = named_step(t, dart, kind)?;
+    path_from(t, points, lifts, forms, coords, remainders, s)
 }

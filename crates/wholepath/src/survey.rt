@@ -6,7 +6,7 @@ ghost use Rattle.floatpath_pieces.specs.laws.Places.{Lent};
 ghost use Rattle.wholepath.specs.laws.Survey.{survey_of, survey_with, most_before};
 
 use floatpath::range::is_far_step;
-use tracing_walks::step::step;
+use tracing_walks::walk::walk;
 use weave_letters::letter::edge_word;
 use wholepath_pieces::piece::spots;
 
@@ -34,18 +34,14 @@ pub fn survey_from(t: &[u16], points: &[i32], lifts: &[i32], s: u16) -> Survey
     requires { Lent t.now points.now lifts.now s }
     ensures { result ≡ survey_of t.now points.now lifts.now (walk (rotation t.now) s) }
 {
-    let mut at = s;
     let mut seen = Survey {
         pieces: 0,
         far: false,
     };
-    loop {
+    for at in walk(t, s) {
         let n = spots(edge_word(t, at));
         let far = is_far_step(t, points, lifts, at);
         seen = with_step(seen, n, far);
-        at = step(t, at);
-        if at == s {
-            return seen;
-        }
     }
+    seen
 }

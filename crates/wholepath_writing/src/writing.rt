@@ -7,7 +7,7 @@ ghost use Rattle.wholepath_writing.specs.laws.Written.{out, Room, Written};
 ghost use Rattle.wholepath_writing.specs.laws.Laying.{StepRoom, Stepped, PathRoom, Laid};
 
 use floatpath_pieces::place::places_of;
-use tracing_walks::step::step;
+use tracing_walks::walk::walk;
 use weave_letters::letter::edge_word;
 use wholepath_pieces::piece::{Piece, form_word, piece_on, spot_of, spots};
 
@@ -50,11 +50,9 @@ fn write_step(
     let first = at.first;
     let second = at.second;
     let lift = at.lift;
-    let mut i: u16 = 0;
-    while i < n {
+    for i in 0..n {
         let p = piece_on(w, s, i, points, lifts, first, second, lift);
         write_piece(forms, coords, remainders, start + i as usize, p);
-        i += 1;
     }
     start + n as usize
 }
@@ -73,15 +71,11 @@ fn write_pieces(
     ensures { Laid t.now points.now lifts.now s
         (out forms.old coords.old remainders.old) result (out forms.new coords.new remainders.new) }
 {
-    let mut at = s;
     let mut n: usize = 0;
-    loop {
+    for at in walk(t, s) {
         n = write_step(t, points, lifts, forms, coords, remainders, at, n);
-        at = step(t, at);
-        if at == s {
-            return n;
-        }
     }
+    n
 }
 
 // The path from step s, at the front of the slices. The rest keeps its words.

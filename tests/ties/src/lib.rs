@@ -1,9 +1,9 @@
-//! What ties the documents, the C header and the wrong programs to the code. `claims` checks the citations of docs/CLAIMS.md and docs/claims/, and the
-//! form of their `entries`; `readme` the README's tables of calls and crates; `prose` the width of the documents; `heads` that the specs begin with what
-//! they hold; `once` that a definition's name stands in one crate; `order` that all definitions are in the order of reading; `rooms` that what is
-//! believed names no law; `total` that exported functions and public operations ask nothing of their caller; `tried` that a wrong program of every public
-//! function is there; `copied` that the copy of the check that counts its reads has the check's shape; `refused` that each wrong program was refused at
-//! its own need, by its `sections`; `matching` compares include/planner.h with the exported signatures.
+//! What ties the documents, the C header and the wrong programs to the code. `claims` checks the citations of docs/CLAIMS.md and docs/claims/, and
+//! the form of their `entries`; `readme` the README's tables of calls and crates; `prose` the width of the documents; `heads` that the specs begin
+//! with what they hold; `once` that a definition's name stands in one crate; `order` that all definitions are in the order of reading; `rooms` that
+//! what is believed names no law; `total` that exported functions and public operations ask nothing of their caller; `tried` that a wrong program of
+//! every public function is there; `counted` that the check counts each word that it reads; `refused` that each wrong program was refused at its own
+//! need, by its `sections`; `matching` compares include/planner.h with the exported signatures.
 //! The others read the files: `antt` the specs, `rattle` the sources, `wrong` the must-fail edits, `prover` what was said of them, `header` the C header,
 //! `markdown` the documents, `citations` what a document cites; `tree` finds the files.
 //! The tests in tests/ run these on small made-up trees (`small`) with one fault each.
@@ -11,7 +11,7 @@
 pub mod antt;
 pub mod citations;
 pub mod claims;
-pub mod copied;
+pub mod counted;
 pub mod entries;
 pub mod header;
 pub mod heads;

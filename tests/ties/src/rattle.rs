@@ -6,6 +6,8 @@ use std::ops::RangeInclusive;
 
 pub struct Function {
     pub name: String,
+    /// What the prover calls the impl that it stands in: nothing where it stands in none.
+    pub within: String,
     /// Exported to C under its own name.
     pub exported: bool,
     pub arguments: Vec<(String, String)>,
@@ -37,20 +39,29 @@ pub fn functions(text: &str) -> Vec<Function> {
 /// The functions, and all that stands outside their bodies.
 pub fn apart(text: &str) -> (Vec<Function>, String) {
     let lines = code(text);
-    let (mut found, mut outside) = (Vec::new(), String::new());
+    let (mut found, mut outside, mut within) = (Vec::new(), String::new(), String::new());
     let mut i = 0;
     while i < lines.len() {
         let line = lines[i];
-        if let Some(at) = function_at(line) {
+        if line == "}" || line.starts_with("impl") {
+            within = impl_name(line);
+        }
+        if let Some(at) = function_at(line).filter(|_| has_body(&lines[i..])) {
             let declared = declaration(&lines[i..]);
             let begin = i + declared.lines().count();
-            let body = body(&lines[begin..]);
+            let body = body(&lines[begin..], &line[..line.len() - line.trim_start().len()]);
             let exported = line.contains("extern \"C\"") && has_attribute(&lines[..i], "#[unsafe(no_mangle)]");
             outside.push_str(&declared);
             let declaring = i + 1;
             i = begin + body.lines().count();
             let lines = declaring..=i + 1;
-            found.push(Function { body, lines, ..read_function(&without_comments(&declared), &line[at..], exported) });
+            let within = within.clone();
+            found.push(Function {
+                within,
+                body,
+                lines,
+                ..read_function(&without_comments(&declared), &line[at..], exported)
+            });
         } else {
             outside.push_str(line);
             outside.push('\n');
@@ -58,6 +69,30 @@ pub fn apart(text: &str) -> (Vec<Function>, String) {
         }
     }
     (found, outside)
+}
+
+/// What the prover calls the impl that a line begins: the words of its type, then those of its trait, without the impl's own parameters.
+fn impl_name(line: &str) -> String {
+    let Some(rest) = line.strip_prefix("impl") else { return String::new() };
+    let (own, rest) = match rest.strip_prefix('<') {
+        Some(rest) => rest.split_once("> ").unwrap_or((rest, "")),
+        None => ("", rest),
+    };
+    let head = rest.split(" where ").next().unwrap_or("").trim_end_matches('{').trim();
+    let (of, kind) = head.split_once(" for ").unwrap_or(("", head));
+    let own: Vec<&str> = own.split(',').map(|own| own.split(':').next().unwrap_or("").trim()).collect();
+    let words = |text: &str| -> String {
+        let text = text.replace('&', "&ref ");
+        let words = text.split(|c: char| !c.is_alphanumeric() && c != '_' && c != '\'').filter(|word| !word.is_empty());
+        words.filter(|word| !word.starts_with('\'') && !own.contains(word)).map(capital).collect()
+    };
+    words(kind) + &words(of)
+}
+
+/// The word with a capital letter.
+fn capital(word: &str) -> String {
+    let (first, rest) = word.split_at(1);
+    first.to_uppercase() + rest
 }
 
 /// Does one of the attributes that end these lines, a line each, stand for what is declared below them.
@@ -73,6 +108,12 @@ fn function_at(line: &str) -> Option<usize> {
     declares.then(|| line.find("fn ").unwrap() + 3)
 }
 
+/// Has the function that these lines begin with a body of lines of its own: a trait's may have none, and one that does nothing has `{}`.
+fn has_body(lines: &[&str]) -> bool {
+    let ends = |line: &&&str| [";", "{}", " {"].iter().any(|end| line.ends_with(end)) || line.trim() == "{";
+    lines.iter().find(ends).is_some_and(|line| line.ends_with('{'))
+}
+
 /// The lines up to the one whose brace opens the body.
 fn declaration(lines: &[&str]) -> String {
     let mut text = String::new();
@@ -86,9 +127,9 @@ fn declaration(lines: &[&str]) -> String {
     text
 }
 
-/// The lines up to the brace at a line's start, which closes the body.
-fn body(lines: &[&str]) -> String {
-    lines.iter().take_while(|line| **line != "}").flat_map(|line| [line, "\n"]).collect()
+/// The lines up to the brace that closes the body, which is indented as far as the function.
+fn body(lines: &[&str], indent: &str) -> String {
+    lines.iter().take_while(|line| line.strip_prefix(indent) != Some("}")).flat_map(|line| [line, "\n"]).collect()
 }
 
 fn read_function(text: &str, from_name: &str, exported: bool) -> Function {
@@ -97,10 +138,27 @@ fn read_function(text: &str, from_name: &str, exported: bool) -> Function {
     let (arguments, after) = rest.split_once('(').and_then(|(_, rest)| rest.split_once(')')).unwrap_or(("", ""));
     let answer = after.trim_start().strip_prefix("->").unwrap_or("").split_whitespace().next().unwrap_or("");
     let (answer, text) = (answer.to_string(), text.to_string());
-    Function { name, exported, arguments: pairs(arguments), answer, text, body: String::new(), lines: 0..=0 }
+    Function {
+        name,
+        within: String::new(),
+        exported,
+        arguments: pairs(arguments),
+        answer,
+        text,
+        body: String::new(),
+        lines: 0..=0,
+    }
 }
 
 impl Function {
+    /// As the prover names it in its module.
+    pub fn path(&self) -> String {
+        if self.within.is_empty() {
+            return self.name.clone();
+        }
+        format!("{}::{}", self.within, self.name)
+    }
+
     pub fn has_contract(&self) -> bool {
         self.text.lines().any(|line| begins_clause(line, "ensures"))
     }
@@ -124,9 +182,10 @@ impl Function {
         self.text.trim_start().starts_with("pub")
     }
 
-    /// Does it ask something of who calls it: each clause of a contract begins a line.
+    /// Does it ask something of who calls it: each clause of a contract begins a line, and a slice that is lent as an array has to be of its length.
     pub fn asks(&self) -> bool {
-        self.text.lines().any(|line| begins_clause(line, "requires"))
+        let as_array = self.arguments.iter().any(|(_, of)| of.starts_with('&') && of.contains("; "));
+        as_array || self.text.lines().any(|line| begins_clause(line, "requires"))
     }
 
     /// Can be called from outside, and asks nothing of who does.

@@ -20,9 +20,10 @@ pub struct Owner {
 impl Owner {
     fn new(of: &str, source: &str, function: &str) -> Owner {
         let module = source.trim_start_matches("src/").trim_end_matches(".rt");
+        let folder = function.replace("::", "/");
         match module {
-            "lib" | "main" => Owner { path: format!("{of}::{function}"), proofs: format!("proofs/{function}/") },
-            _ => Owner { path: format!("{of}::{module}::{function}"), proofs: format!("proofs/{module}/{function}/") },
+            "lib" | "main" => Owner { path: format!("{of}::{function}"), proofs: format!("proofs/{folder}/") },
+            _ => Owner { path: format!("{of}::{module}::{function}"), proofs: format!("proofs/{module}/{folder}/") },
         }
     }
 
@@ -128,7 +129,7 @@ pub fn functions_of(tree: &Tree, of: &str) -> Vec<Owner> {
     let in_file = |file: String| {
         let source = format!("src/{file}.rt");
         let functions = tree.functions(&format!("crates/{of}/{source}")).unwrap_or_default();
-        functions.into_iter().map(move |function| Owner::new(of, &source, &function.name))
+        functions.into_iter().map(move |function| Owner::new(of, &source, &function.path()))
     };
     tree.source_files(of).into_iter().flat_map(in_file).collect()
 }
@@ -136,7 +137,7 @@ pub fn functions_of(tree: &Tree, of: &str) -> Vec<Owner> {
 /// The function, as the prover names it, in which a line of a source stands.
 pub fn function_at(of: &str, source: &str, text: &str, line: usize) -> Option<String> {
     let function = rattle::functions(text).into_iter().find(|function| function.lines.contains(&line))?;
-    Some(Owner::new(of, source, &function.name).path)
+    Some(Owner::new(of, source, &function.path()).path)
 }
 
 /// Is it a file of statements, and not the proof of a function: laws and theorems may stand in proofs/.
@@ -154,7 +155,7 @@ fn changed_bodies(before: &str, after: &str) -> Option<Vec<String>> {
         return None;
     }
     let differ = functions.iter().zip(&others).filter(|(one, other)| one.body != other.body);
-    Some(differ.map(|(one, _)| one.name.clone()).collect())
+    Some(differ.map(|(one, _)| one.path()).collect())
 }
 
 /// The files of the crate as an edit leaves them: those that it changes.

@@ -16,7 +16,7 @@ const FILES: [(&str, &str); 2] = [
     ),
     (
         LISTING,
-        "pub fn list(t: &[u16], out: &mut [u16]) -> Answer\n    ensures { result ≡ list_answer t.now }\n{\n    Answer::Done(0)\n}\n",
+        "pub fn list(t: &[u16], out: &mut [u16]) -> Result<u32, Refusal>\n    ensures { result ≡ list_answer t.now }\n{\n    Ok(0)\n}\n",
     ),
 ];
 
@@ -44,18 +44,18 @@ fn an_exported_function_that_asks() {
 
 #[test]
 fn an_operation_that_asks() {
-    let asks = "-> Answer\n    requires { Good t.now }\n";
+    let asks = "-> Result<u32, Refusal>\n    requires { Good t.now }\n";
     TRIAL.after(
         "operation",
         LISTING,
-        "-> Answer\n",
+        "-> Result<u32, Refusal>\n",
         asks,
         &["crates/tracing_listing/src/call.rt: list has a `requires`"],
     );
-    let named = "-> Answer\n    requires good { Good t.now }\n    requires short { length out.old < 9 }\n";
-    TRIAL.after("named", LISTING, "-> Answer\n", named, &["list has a `requires`"]);
-    let lines = "-> Answer\n    requires {\n        Good t.now\n    }\n";
-    TRIAL.after("lines", LISTING, "-> Answer\n", lines, &["list has a `requires`"]);
+    let named = "-> Result<u32, Refusal>\n    requires good { Good t.now }\n    requires short { length out.old < 9 }\n";
+    TRIAL.after("named", LISTING, "-> Result<u32, Refusal>\n", named, &["list has a `requires`"]);
+    let lines = "-> Result<u32, Refusal>\n    requires {\n        Good t.now\n    }\n";
+    TRIAL.after("lines", LISTING, "-> Result<u32, Refusal>\n", lines, &["list has a `requires`"]);
     TRIAL.after(
         "private",
         LISTING,

@@ -9,17 +9,18 @@
 --     block_passes, block_fails           the block's verdict from the count's answer
 use Rattle.std.specs.Prelude.{ℕ, ◌+◌, ◌-◌, ◌*◌, ◌/◌, ◌%◌, ◌≤◌, ◌<◌, ◌≡◌, Bool, true, false, List, ◌∷◌, leb, ◌≢◌}
 use native.Mathlib.Omega.{arith}
-use Rattle.std.proofs.Common.{sym, eq-eqb, ne_eqb, le-leb}
+use Rattle.std.proofs.Common.{add-zero, sym, eq-eqb, ne_eqb, le-leb}
 use Rattle.std.proofs.lemmas.Bool.{lt-leb}
 use Rattle.std.proofs.Math.Decide.{ℕ_discrete, dec_lt}
 use Rattle.table.specs.Layout.{darts, nothing, edge_word, edge_of, edge_word_most}
 use Rattle.table.specs.Good.{Bare}
 use Rattle.table.specs.laws.Rotation.{Case, case_map, case_yes, case_says, case_denies, eq_case, le_case, lt_case}
-use Rattle.table.specs.laws.Counting.{counts_of_lem, counts_broken}
-use Rattle.table.specs.declared.counted.Counted.{Counted}
-use Rattle.table.specs.declared.counted.Counted.TheVariants.{Broken, Of}
+use Rattle.table.specs.laws.Counting.{counts_some, counts_broken}
+use Rattle.std.specs.Prelude.{Option, Some, None}
 use Rattle.table.specs.laws.Darts.{Linked, DartRule, Ruled, RuledBelow, DartsTo, rule_dead, rule_live}
 use Rattle.table.specs.laws.Blocks.{DeadBlock, Blank, IdleBlock, idle_blank, blank_idle, dead_dart}
+use Rattle.table.specs.Reading.{Adds}
+use Rattle.table.specs.laws.Reading.{adds_none, adds_more}
 use Rattle.check_reads.specs.Reads.{test_of, bare_tests, linked_tests, dart_tests, edge_tests, edge_in, dead_block, blank, idle_tests, edge_block, pass_all, all_below, reads_below}
 use Rattle.check_reads.proofs.laws.Tests.{Told, told_fails, told_goes, true_case, both_case, all_case}
 
@@ -52,15 +53,15 @@ module _ (t : List ℕ) where
   tests_live d e = rw (ne_eqb _ 0 e, dart_tests)
 
   -- the tests of a dart have been made
-  module _ (d : ℕ) {n m : ℕ} {r : Bool} where
-    pub told_dead : edge_word t (edge_of d) ≡ 0 → Told (bare_tests t d) r n m → Told (dart_tests t d) r n m
+  module _ {C : Type 0} {S : C → ℕ → Type 0} (d : ℕ) {n m : C} {r : Bool} where
+    pub told_dead : edge_word t (edge_of d) ≡ 0 → Told S (bare_tests t d) r n m → Told S (dart_tests t d) r n m
     told_dead e k = rw (tests_dead d e) k
 
-    pub told_live : edge_word t (edge_of d) ≢ 0 → edge_word t (edge_of d) ≤ edge_word_most → Told (linked_tests t d) r n m → Told (dart_tests t d) r n m
-    told_live e h k = rw (tests_live d e) (told_goes (omega arith) (le-leb _ _ h) k)
+    pub told_live : edge_word t (edge_of d) ≢ 0 → edge_word t (edge_of d) ≤ edge_word_most → Told S (linked_tests t d) r n m → Told S (dart_tests t d) r n m
+    told_live e h k = rw (tests_live d e) (told_goes adds_none (le-leb _ _ h) k)
 
-  pub told_many : (d : ℕ) {n : ℕ} → edge_word t (edge_of d) ≢ 0 → edge_word_most < edge_word t (edge_of d) → Told (dart_tests t d) false n n
-  told_many d e h = rw (tests_live d e) (told_fails (omega arith) (lt-leb _ _ h))
+  pub told_many : {C : Type 0} {S : C → ℕ → Type 0} (d : ℕ) {n : C} → edge_word t (edge_of d) ≢ 0 → edge_word_most < edge_word t (edge_of d) → Told S (dart_tests t d) false n n
+  told_many d e h = rw (tests_live d e) (told_fails adds_none (lt-leb _ _ h))
 
   pub dart_case : (d : ℕ) → Case (pass_all (dart_tests t d)) (DartRule t d)
   unfolding pass_all
@@ -105,7 +106,7 @@ module _ (t : List ℕ) where
   ]
 
   module _ (b : ℕ) where
-    pub block_idle : {n m : ℕ} → Told (idle_tests t b) true n m → ((edge_block t b).passes ≡ true) × (m ≡ n + (edge_block t b).reads)
+    pub block_idle : {C : Type 0} {S : C → ℕ → Type 0} {n m : C} → Told S (idle_tests t b) true n m → ((edge_block t b).passes ≡ true) × Adds S n m (edge_block t b).reads
     unfolding edge_block
     block_idle k =
         let idle = case_yes (idle_case b) (sym k.verdict) in
@@ -113,16 +114,16 @@ module _ (t : List ℕ) where
         let q : 64 * b + (d - 64 * b) ≡ d = omega arith in
         let off = dead_dart t b idle.dead (d - 64 * b) (omega arith) in
         rw q at (rule_dead t _ off (idle.bare (d - 64 * b) (omega arith))) in
-        (case_says (block_case b) (by_edges b rule), rw (sym k.verdict) (let c = k.count in omega arith))
+        (case_says (block_case b) (by_edges b rule), rw (sym k.verdict, add-zero) k.count)
 
-    pub block_read : {n k m : ℕ} → Told (idle_tests t b) false n k → m ≡ k + reads_below (edge_in t b) 32 → m ≡ n + (edge_block t b).reads
+    pub block_read : {C : Type 0} {S : C → ℕ → Type 0} {n k m : C} → Told S (idle_tests t b) false n k → Adds S k m (reads_below (edge_in t b) 32) → Adds S n m (edge_block t b).reads
     unfolding edge_block
-    block_read k e = rw (sym k.verdict) (let c = k.count in omega arith)
+    block_read k e = rw (sym k.verdict) (adds_more k.count e)
 
-    pub block_passes : {r : Counted} {n : ℕ} → DartsTo t (64 * b + 64) r → r ≡ Of n → (edge_block t b).passes ≡ true
-    block_passes {n = n} c e = case_says (block_case b) (by_edges b (λ d h l. (counts_of_lem n c e).1 d l))
+    pub block_passes : {r : Option ℕ} {n : ℕ} → DartsTo t (64 * b + 64) r → r ≡ Some n → (edge_block t b).passes ≡ true
+    block_passes {n = n} c e = case_says (block_case b) (by_edges b (λ d h l. (counts_some n c e).1 d l))
 
-    pub block_fails : {r : Counted} {n : ℕ} → RuledBelow t n (64 * b) → DartsTo t (64 * b + 64) r → r ≡ Broken → (edge_block t b).passes ≡ false
+    pub block_fails : {r : Option ℕ} {n : ℕ} → RuledBelow t n (64 * b) → DartsTo t (64 * b + 64) r → r ≡ None → (edge_block t b).passes ≡ false
     block_fails p c e = case_denies (block_case b) (λ a. counts_broken c e (λ d l. elim (dec_lt d (64 * b)) [
       | yes h ↦ p.rules d h
       | no h ↦ by_darts b a d (omega arith) l

@@ -15,7 +15,7 @@ use Rattle.table.specs.Layout.{words, darts, edges, vertices, edge_word, edge_of
 use Rattle.table.specs.Good.{Good}
 use Rattle.table.specs.Rotation.{live?}
 use Rattle.table.specs.laws.Rotation.{yes_live, case_says, case_denies}
-use Rattle.table.specs.laws.Counting.{counts_of_lem}
+use Rattle.table.specs.laws.Counting.{counts_some}
 use Rattle.table.specs.laws.Darts.{Ruled, good_ruled}
 use Rattle.table.specs.laws.Cycle.{next_inj}
 use Rattle.table.specs.laws.Vertices.{VertexRule, Summed, led_at, led_below, led_cycle, summed_none, summed_more, summed_all, good_counted}
@@ -112,7 +112,7 @@ module _ (t : List ℕ) (g : Good t) (all_live : (e : ℕ) → e < edges → edg
   led_all : count (led_below t vertices) darts ≡ darts
   led_all =
       let sum : Summed t (count (led_below t vertices) darts) vertices = record { low = omega arith; rules = rule; counted = refl } in
-      (counts_of_lem _ (summed_all t _ vertices ruled sum (omega arith)) refl).0
+      (counts_some _ (summed_all t _ vertices ruled sum (omega arith)) refl).0
       ∙ (good_counted t g.size ruled g).1
       ∙ count_all (live? t) darts (λ d h. yes_live t d (record { low = h; on = on d h }))
 

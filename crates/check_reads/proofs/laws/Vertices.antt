@@ -9,7 +9,7 @@
 use Prim.Native.Nat.{ℕ, zero, suc, ◌+◌, ◌-◌, ◌*◌, ◌≤◌, ◌<◌}
 use native.Mathlib.Omega.{arith}
 use Rattle.std.proofs.Math.Decide.{ℕ_discrete, dec_lt}
-use Rattle.std.proofs.Common.{zero-add, sym, ◌∙◌, ap}
+use Rattle.std.proofs.Common.{sym, ◌∙◌, ap}
 use Rattle.std.specs.Prelude.{◌≡◌, Bool, true, false, List, [], ◌∷◌, ◌≢◌, ltb}
 use Rattle.std.proofs.Math.Path.{refl}
 use borrow.Author.Tests.{eq-eqb, ne_eqb, lt-ltb, le-ltb}
@@ -18,16 +18,17 @@ use Rattle.orbits.proofs.laws.Iterate.{period_le}
 use Rattle.table.specs.Layout.{darts, vertices, nothing, isolated, next_word, leaves, vertex_word, Live}
 use Rattle.table.specs.Rotation.{next_dart}
 use Rattle.table.specs.laws.Rotation.{Case, holds, fails, case_map, case_says, case_denies, le_case}
-use Rattle.table.specs.laws.Counting.{counts_of_lem, counts_broken}
+use Rattle.table.specs.laws.Counting.{counts_some, counts_broken}
 use Rattle.table.specs.laws.Darts.{Ruled}
 use Rattle.table.specs.laws.Cycle.{Round, round_short, iter_word, next_inj}
 use Rattle.table.specs.laws.Vertices.{Leads, VertexRule, VertexSays, VerticesTo, Summed, leaving_live}
 use Rattle.table.specs.laws.Decided.{least_all}
 use Rattle.table.specs.laws.Blocks.{vertex_blocks, LooseBlock}
-use Rattle.table.specs.declared.counted.Counted.{Counted}
-use Rattle.table.specs.declared.counted.Counted.TheVariants.{Broken, Of}
+use Rattle.std.specs.Prelude.{Option, Some, None}
+use Rattle.table.specs.Reading.{Adds}
+use Rattle.table.specs.laws.Reading.{adds_more}
 use Rattle.check_reads.specs.Reads.{test_of, cycle_test, leads_none, lead_tests, vertex_tests, vertex_in, vertex_block, reads_of, pass_all, all_below, reads_below}
-use Rattle.check_reads.proofs.laws.Tests.{below_exact, Told, told_all, told_goes, told_end, told_differs, told_same, told_past, told_low, Going, going_stops, true_case, both_case, all_case}
+use Rattle.check_reads.proofs.laws.Tests.{below_exact, Told, told_all, told_goes, told_end, told_differs, told_same, told_past, told_low, below_stops, true_case, both_case, all_case}
 
 module _ (t : List ℕ) (r : Ruled t darts) (w : ℕ) (l : Live t w) where
   abbrev past : ℕ → Bool
@@ -46,12 +47,10 @@ module _ (t : List ℕ) (r : Ruled t darts) (w : ℕ) (l : Live t w) where
       let some = o.some in
       let ahead = case_says (all_case {P = λ k. past k ≡ true} (n - 1) (λ k g. holds (round_past n d o k g) (round_past n d o k g))) (round_past n d o) in
       let sum = below_exact (λ k. test_of 1 (past k)) 1 (n - 1) (round_past n d o) (λ k h. refl) in
-      let g : Going (λ k. test_of 1 (past k)) (n - 1) 0 (n - 1) = record { passed = ahead; count = omega (arith, sum) } in
       let q : suc (n - 1) ≡ n = omega arith in
       let e = sym (iter_word t r n w l) ∙ o.at in
       let few = round_few n d o h in
-      let end : n ≡ n - 1 + 1 = omega arith in
-      sym (rw zero-add at (going_stops g (le-ltb w (iter (next_word t) (suc (n - 1)) w) (rw (q, e) h)) darts (omega arith) end))
+      omega (arith, sum, below_stops (λ k. test_of 1 (past k)) ahead (le-ltb w (iter (next_word t) (suc (n - 1)) w) (rw (q, e) h)) darts (omega arith))
     where
       round_few : (n d : ℕ) → Round t w n d → d ≤ w → n ≤ darts
       round_few n d o h = elim (ℕ_discrete d w) [
@@ -79,26 +78,26 @@ module _ (t : List ℕ) (v : ℕ) where
   word_leads n i = rw (ne_eqb _ nothing n, ne_eqb _ isolated i)
 
   -- what has been read of the vertex when its word w was, and when it was seen what dart w leaves
-  module _ (n : ℕ) {w k : ℕ} (e : w ≡ vertex_word t v) (f : k ≡ n + 1) where
-    pub read_none : w ≡ nothing → k ≡ n + reads_of (vertex_tests t v)
-    read_none q = (told_goes {x = test_of 1 true} f refl told_all).count ∙ ap (λ l. n + reads_of l) (sym (tests_none (none_leads (sym e ∙ q))))
+  module _ {C : Type 0} {S : C → ℕ → Type 0} {n k : C} {w : ℕ} (e : w ≡ vertex_word t v) (f : Adds S n k 1) where
+    pub read_none : w ≡ nothing → Adds S n k (reads_of (vertex_tests t v))
+    read_none q = rw (tests_none (none_leads (sym e ∙ q))) (told_goes {x = test_of 1 true} f refl told_all).count
 
-    pub read_alone : w ≡ isolated → k ≡ n + reads_of (vertex_tests t v)
-    read_alone q = (told_goes {x = test_of 1 true} f refl told_all).count ∙ ap (λ l. n + reads_of l) (sym (tests_none (alone_leads (sym e ∙ q))))
+    pub read_alone : w ≡ isolated → Adds S n k (reads_of (vertex_tests t v))
+    read_alone q = rw (tests_none (alone_leads (sym e ∙ q))) (told_goes {x = test_of 1 true} f refl told_all).count
 
     module _ (none : w ≢ nothing) (alone : w ≢ isolated) where
-      leading : {m : ℕ} {r : Bool} → Told (lead_tests t v) r n m → m ≡ n + reads_of (vertex_tests t v)
-      leading x = x.count ∙ ap (λ l. n + reads_of l) (sym (tests_leads (word_leads (λ q. none (e ∙ q)) (λ q. alone (e ∙ q)))))
+      leading : {m : C} {r : Bool} → Told S (lead_tests t v) r n m → Adds S n m (reads_of (vertex_tests t v))
+      leading x = rw (tests_leads (word_leads (λ q. none (e ∙ q)) (λ q. alone (e ∙ q)))) x.count
 
-      pub read_past : darts ≤ w → k ≡ n + reads_of (vertex_tests t v)
+      pub read_past : darts ≤ w → Adds S n k (reads_of (vertex_tests t v))
       read_past h = leading (told_past (e, f) h)
 
-      module _ {u m : ℕ} (low : w < darts) (g : u ≡ leaves t w) (h : m ≡ k + 1) where
-        pub read_astray : u ≢ v → m ≡ n + reads_of (vertex_tests t v)
+      module _ {u : ℕ} {m : C} (low : w < darts) (g : u ≡ leaves t w) (h : Adds S k m 1) where
+        pub read_astray : u ≢ v → Adds S n m (reads_of (vertex_tests t v))
         read_astray q = leading (told_low (e, f) low (told_differs (g ∙ ap (leaves t) e, h) q))
 
-        pub read_cycle : {p : ℕ} → u ≡ v → p ≡ m + (cycle_test t w).reads → p ≡ n + reads_of (vertex_tests t v)
-        read_cycle {p} q c = leading (told_low (e, f) low (told_same (g ∙ ap (leaves t) e, h) q (told_end (c ∙ ap (λ x. m + (cycle_test t x).reads) e) refl)))
+        pub read_cycle : {p : C} → u ≡ v → Adds S m p (cycle_test t w).reads → Adds S n p (reads_of (vertex_tests t v))
+        read_cycle {p} q c = leading (told_low (e, f) low (told_same (g ∙ ap (leaves t) e, h) q (told_end (rw e at c) refl)))
 
   leads_none_case : Case (leads_none t v) ((isolated ≤ vertex_word t v) × (vertex_word t v ≤ nothing))
   leads_none_case = elim (ℕ_discrete (vertex_word t v) nothing) [
@@ -147,11 +146,11 @@ module _ (t : List ℕ) (r : Ruled t darts) where
   ]
 
   -- its tests have been made
-  module _ (v : ℕ) (h : v < vertices) {a : Counted} {n m : ℕ} (c : VertexSays t v a) (e : m ≡ n + reads_of (vertex_tests t v)) where
-    pub told_kept : {k : ℕ} → a ≡ Of k → Told (vertex_tests t v) true n m
-    told_kept {k} f = record { verdict = sym (case_says (vertex_case v h) (counts_of_lem k c f).1); count = e }
+  module _ (v : ℕ) (h : v < vertices) {C : Type 0} {S : C → ℕ → Type 0} {a : Option ℕ} {n m : C} (c : VertexSays t v a) (e : Adds S n m (reads_of (vertex_tests t v))) where
+    pub told_kept : {k : ℕ} → a ≡ Some k → Told S (vertex_tests t v) true n m
+    told_kept {k} f = record { verdict = sym (case_says (vertex_case v h) (counts_some k c f).1); count = e }
 
-    pub told_broken : a ≡ Broken → Told (vertex_tests t v) false n m
+    pub told_broken : a ≡ None → Told S (vertex_tests t v) false n m
     told_broken f = record { verdict = sym (case_denies (vertex_case v h) (counts_broken c f)); count = e }
 
   -- a block of vertices
@@ -163,21 +162,21 @@ module _ (t : List ℕ) (r : Ruled t darts) where
     unfolding vertex_block
     block_case = all_case 32 (λ i l. vertex_case (32 * b + i) (omega arith))
 
-    pub block_loose : (n : ℕ) {m : ℕ} → LooseBlock t b → m ≡ n + 32 → ((vertex_block t b).passes ≡ true) × (m ≡ n + (vertex_block t b).reads)
+    pub block_loose : {C : Type 0} {S : C → ℕ → Type 0} {n m : C} → LooseBlock t b → Adds S n m 32 → ((vertex_block t b).passes ≡ true) × Adds S n m (vertex_block t b).reads
     unfolding vertex_block
-    block_loose n k e = (
+    block_loose k e = (
       case_says block_case (λ i l none alone. let w = k i l in absurd (omega arith)),
-      rw (case_says loose_case k) (omega arith),
+      rw (case_says loose_case k) e,
     )
 
-    pub block_read : (n : ℕ) {k m : ℕ} → (LooseBlock t b → ⊥) → k ≡ n + 32 → m ≡ k + reads_below (vertex_in t b) 32 → m ≡ n + (vertex_block t b).reads
+    pub block_read : {C : Type 0} {S : C → ℕ → Type 0} {n k m : C} → (LooseBlock t b → ⊥) → Adds S n k 32 → Adds S k m (reads_below (vertex_in t b) 32) → Adds S n m (vertex_block t b).reads
     unfolding vertex_block
-    block_read n k e f = rw (case_denies loose_case k) (omega arith)
+    block_read k e f = rw (case_denies loose_case k) (adds_more e f)
 
-    pub block_passes : {a : Counted} {n : ℕ} → VerticesTo t (32 * b + 32) a → a ≡ Of n → (vertex_block t b).passes ≡ true
-    block_passes {n = n} c e = case_says block_case (λ i l. (counts_of_lem n c e).1 (32 * b + i) (omega arith))
+    pub block_passes : {a : Option ℕ} {n : ℕ} → VerticesTo t (32 * b + 32) a → a ≡ Some n → (vertex_block t b).passes ≡ true
+    block_passes {n = n} c e = case_says block_case (λ i l. (counts_some n c e).1 (32 * b + i) (omega arith))
 
-    pub block_fails : {a : Counted} {n : ℕ} → Summed t n (32 * b) → VerticesTo t (32 * b + 32) a → a ≡ Broken → (vertex_block t b).passes ≡ false
+    pub block_fails : {a : Option ℕ} {n : ℕ} → Summed t n (32 * b) → VerticesTo t (32 * b + 32) a → a ≡ None → (vertex_block t b).passes ≡ false
     block_fails s c e = case_denies block_case (λ a. counts_broken c e (λ v l. elim (dec_lt v (32 * b)) [
       | yes g ↦ s.rules v g
       | no g ↦ let q : 32 * b + (v - 32 * b) ≡ v = omega arith in rw q at (a (v - 32 * b) (omega arith))

@@ -4,7 +4,7 @@
 --     insert_delete                deleting what was inserted gives the first table back
 --     delete_without               a deletion leaves the old rotation without the edge
 --     written_length               what an accepted edit does to the lengths
-use Rattle.std.specs.Prelude.{ℕ, ◌+◌, ◌*◌, ◌≤◌, ◌≡◌, List, ◌≢◌, ℤ}
+use Rattle.std.specs.Prelude.{ℕ, ◌+◌, ◌*◌, ◌≤◌, ◌≡◌, List, ◌≢◌, ℤ, Ok}
 use Rattle.table.specs.Layout.{nothing, isolated, length_word, edge_word_most}
 use Rattle.table.specs.laws.Writes.{upd, length_edge, length_vertex}
 use Rattle.table.specs.Rotation.{rotation, live?, next_dart}
@@ -22,9 +22,8 @@ use Rattle.edits.proofs.laws.Deleted.{deleted_length, deleted_without}
 use Rattle.edits.proofs.laws.RoundTrip.{deleted_inserted}
 use Rattle.edits.specs.declared.edit.Edit.TheVariants.{AddVertex, RemoveVertex, InsertEdge, DeleteEdge, TurnEdge}
 use Rattle.edits.specs.declared.edit.Edit.{Edit}
-use Rattle.edits.specs.declared.edit.Verdict.TheVariants.{Passes}
 
-module _ (t : List ℕ) (e c₁ c₂ : ℕ) (k : ℤ) (n : ℕ) (p : verdict t (InsertEdge e c₁ c₂ k n) ≡ Passes) where
+module _ (t : List ℕ) (e c₁ c₂ : ℕ) (k : ℤ) (n : ℕ) (p : verdict t (InsertEdge e c₁ c₂ k n) ≡ Ok tt) where
   m : MayInsert t e c₁ c₂ k n
   m = may_insert t e c₁ c₂ k n p
 
@@ -50,7 +49,7 @@ module _ (t : List ℕ) (e c₁ c₂ : ℕ) (k : ℤ) (n : ℕ) (p : verdict t (
   insert_delete = deleted_inserted t m.good e c₁ c₂ (turned_word 100 k) n m.low m.free word.0 word.1 m.long first second
 
 -- what an accepted edit does to the lengths
-pub written_length : (t : List ℕ) (E : Edit) → verdict t E ≡ Passes → (i : ℕ) → length_word (written t E) i ≡ length_after E i (length_word t i)
+pub written_length : (t : List ℕ) (E : Edit) → verdict t E ≡ Ok tt → (i : ℕ) → length_word (written t E) i ≡ length_after E i (length_word t i)
 unfolding upd
 written_length t (AddVertex v) p i = length_vertex t v isolated i (may_add t v p).low
 written_length t (RemoveVertex v) p i = length_vertex t v nothing i (may_remove t v p).low
@@ -61,5 +60,5 @@ written_length t (InsertEdge e c₁ c₂ k n) p i =
 written_length t (DeleteEdge e) p i = let m = may_delete t e p in deleted_length t m.good e m.low m.there i
 written_length t (TurnEdge e a) p i = length_edge t e _ i (may_turn t e a p).low
 
-pub delete_without : (t : List ℕ) (e : ℕ) → verdict t (DeleteEdge e) ≡ Passes → Without (rotation t) e (rotation (written t (DeleteEdge e)))
+pub delete_without : (t : List ℕ) (e : ℕ) → verdict t (DeleteEdge e) ≡ Ok tt → Without (rotation t) e (rotation (written t (DeleteEdge e)))
 delete_without t e p = let m = may_delete t e p in deleted_without t m.good e m.low m.there

@@ -5,7 +5,7 @@
 --     edge_turned                     the rotation with an edge turned
 --     odd_turned                      the parity of turns and amount, from the edge word
 --     remove_changes, turn_changes    the change by a removal; by a turn
-use Rattle.std.specs.Prelude.{ℕ, zero, suc, ◌+◌, ◌-◌, ◌*◌, ◌%◌, ◌<◌, ◌≡◌, refl, true, false, List, ◌≢◌, ℤ, pos, negsuc, nat_abs, ◌+ℤ◌}
+use Rattle.std.specs.Prelude.{ℕ, zero, suc, ◌+◌, ◌-◌, ◌*◌, ◌%◌, ◌<◌, ◌≡◌, refl, true, false, List, ◌≢◌, ℤ, pos, negsuc, nat_abs, ◌+ℤ◌, Ok}
 use native.Mathlib.Omega.{arith}
 use Rattle.std.proofs.Common.{sym, ◌∙◌, subst, set-set}
 use Rattle.std.proofs.Math.Path.{ap}
@@ -35,7 +35,6 @@ use Rattle.edits.specs.Edits.{written}
 use Rattle.edits.proofs.laws.WrittenGood.{add_good, remove_good, insert_good, delete_good, turn_good, turn_live, present_corner}
 use Rattle.edits.specs.declared.edit.Edit.{Edit}
 use Rattle.edits.specs.declared.edit.Edit.TheVariants.{AddVertex, RemoveVertex, InsertEdge, DeleteEdge, TurnEdge}
-use Rattle.edits.specs.declared.edit.Verdict.TheVariants.{Passes}
 use Rattle.edits.specs.Changes.{oddness, turn_change, change}
 use Rattle.edits.specs.Verdicts.{verdict}
 use Rattle.edits.proofs.laws.Verdicts.{may_add, MayRemove, may_remove, MayInsert, may_insert, may_delete, MayTurn, may_turn}
@@ -183,7 +182,7 @@ module _ (t : List ℕ) where
       let odd = odd_turned 100 k (ap overturned (hundred k) ∙ m.few) in
       ap (λ i. edge_word (inserted t e c₁ c₂ (turned_word 100 k) n) i % 2) half ∙ ap (λ x. x % 2) own ∙ odd ∙ omega arith
 
-  pub written_changes : (E : Edit) → verdict t E ≡ Passes → Changes (change t E) (face_count (rotation t)) (face_count (rotation (written t E)))
+  pub written_changes : (E : Edit) → verdict t E ≡ Ok tt → Changes (change t E) (face_count (rotation t)) (face_count (rotation (written t E)))
   written_changes (AddVertex v) p =
       let m = may_add t v p in
       add_count (good_lawful t m.good) (good_lawful _ (add_good t v m)) (vertex_added t m.good v m.low m.absent)

@@ -8,7 +8,7 @@
 --     room_is                                                  the test of turns, from the word that the code makes
 --     insert_on, turn_on                                       turns and amounts that are handed on keep their values
 --     AreNames, names_are                                      the names of an edge and of two corners
-use Rattle.std.specs.Prelude.{ℕ, ◌<◌, ◌≡◌, refl, true, false, not, ◌&&◌, List, ◌≢◌, eqb, ltb, ℤ, ◌+ℤ◌}
+use Rattle.std.specs.Prelude.{ℕ, ◌<◌, ◌≡◌, refl, true, false, not, ◌&&◌, List, ◌≢◌, eqb, ltb, ℤ, ◌+ℤ◌, Ok, Err}
 use Rattle.std.proofs.Common.{arith, sym, ◌∙◌, ap, SFits, to_z, of_z, to_z-of_z}
 use Rattle.std.proofs.Math.Dec.{leb}
 use Rattle.std.specs.Int.{w16}
@@ -28,15 +28,13 @@ use Rattle.table.specs.declared.answer.Refusal.TheVariants.{Overturned}
 use Rattle.tracing.specs.Corner.{present, Present, well_formed}
 use Rattle.tracing.proofs.laws.Corner.{present_means}
 use Rattle.edits.specs.Turns.{turns_in, overturned, turned_word}
-use Rattle.edits.specs.Verdicts.{vertex_there, edge_there, new_vertex, old_vertex, new_edge, old_edge, few_turns, fair_length, and_then, verdict}
+use Rattle.edits.specs.Verdicts.{vertex_there, edge_there, new_vertex, old_vertex, new_edge, old_edge, few_turns, fair_length, and_then, verdict, Verdict}
 use Rattle.edits.proofs.laws.Turns.{word_over, few_word}
 use Rattle.edits.proofs.laws.Held.{Long}
 use Rattle.edits.specs.declared.edit.Edit.{Edit}
 use Rattle.edits.specs.declared.edit.Edit.TheVariants.{AddVertex, RemoveVertex, InsertEdge, DeleteEdge, TurnEdge}
-use Rattle.edits.specs.declared.edit.Verdict.{Verdict}
-use Rattle.edits.specs.declared.edit.Verdict.TheVariants.{Passes, Declines}
 
-pub never : {r : Refusal} → Declines r ≡ Passes → ⊥
+pub never : {r : Refusal} → ◌≡◌ {A = Verdict} (Err r) (Ok tt) → ⊥
 never e = let z : ◌≡◌ {A = ℕ} 0 1 = cc in omega arith
 
 was_good : (t : List ℕ) → good? t ≡ true → Good t
@@ -44,28 +42,28 @@ was_good t e = case_yes (good_case t) e
 
 -- a verdict is one of two
 pub data Judged (v : Verdict) : Type 0 where
-  passed : v ≡ Passes → Judged v
-  declined : (r : Refusal) → v ≡ Declines r → Judged v
+  passed : v ≡ Ok tt → Judged v
+  declined : (r : Refusal) → v ≡ Err r → Judged v
 
 pub judged : (v : Verdict) → Judged v
-judged Passes = passed refl
-judged (Declines r) = declined r refl
+judged (Ok tt) = passed refl
+judged (Err r) = declined r refl
 
 -- two lists of tests, one after the other
 
-pub then_none : (v : Verdict) → v ≡ and_then v Passes
-then_none Passes = refl
-then_none (Declines r) = refl
+pub then_none : (v : Verdict) → v ≡ and_then v (Ok tt)
+then_none (Ok tt) = refl
+then_none (Err r) = refl
 
-pub then_declines : {a : Verdict} (b : Verdict) {r : Refusal} → a ≡ Declines r → Declines r ≡ and_then a b
+pub then_declines : {a : Verdict} (b : Verdict) {r : Refusal} → a ≡ Err r → Err r ≡ and_then a b
 then_declines b e = rw e
 
-pub then_passes : {a b v : Verdict} → a ≡ Passes → v ≡ b → v ≡ and_then a b
+pub then_passes : {a b v : Verdict} → a ≡ Ok tt → v ≡ b → v ≡ and_then a b
 then_passes e f = rw e f
 
-then_through : (a b : Verdict) → and_then a b ≡ Passes → (a ≡ Passes) × (b ≡ Passes)
-then_through Passes b e = (refl, e)
-then_through (Declines r) b e = absurd (never e)
+then_through : (a b : Verdict) → and_then a b ≡ Ok tt → (a ≡ Ok tt) × (b ≡ Ok tt)
+then_through (Ok tt) b e = (refl, e)
+then_through (Err r) b e = absurd (never e)
 
 -- what the tests on names tell where they let an edit through
 
@@ -78,7 +76,7 @@ pub record VertexThere (t : List ℕ) (v : ℕ) : Type 0 where
   pub good : Good t
   pub low : v < vertices
 
-pub vertex_there_lem : (t : List ℕ) (v : ℕ) → old_vertex t v ≡ Passes → VertexThere t v
+pub vertex_there_lem : (t : List ℕ) (v : ℕ) → old_vertex t v ≡ Ok tt → VertexThere t v
 unfolding old_vertex
 vertex_there_lem t v p =
     let a = let_through (good? t) never p in
@@ -104,7 +102,7 @@ pub record MayDelete (t : List ℕ) (e : ℕ) : Type 0 where
   pub low : e < edges
   pub there : edge_word t e ≢ 0
 
-pub edge_there_lem : (t : List ℕ) (e : ℕ) → old_edge t e ≡ Passes → MayDelete t e
+pub edge_there_lem : (t : List ℕ) (e : ℕ) → old_edge t e ≡ Ok tt → MayDelete t e
 unfolding old_edge
 edge_there_lem t e p =
     let a = let_through (good? t) never p in
@@ -120,10 +118,10 @@ pub record MayTurn (t : List ℕ) (e : ℕ) (a : ℤ) : Type 0 where
 
 -- what is known where an edit goes through
 module _ (t : List ℕ) where
-  pub may_add : (v : ℕ) → verdict t (AddVertex v) ≡ Passes → MayAdd t v
+  pub may_add : (v : ℕ) → verdict t (AddVertex v) ≡ Ok tt → MayAdd t v
   unfolding new_vertex
   may_add v p =
-      let a = let_through (good? t) never (then_through (new_vertex t v) Passes p).0 in
+      let a = let_through (good? t) never (then_through (new_vertex t v) (Ok tt) p).0 in
       let b = let_through (ltb v vertices) never a.rest in
       let c = let_through (not (vertex_there t v)) never b.rest in
       record {
@@ -132,13 +130,13 @@ module _ (t : List ℕ) where
         absent = eqb-true (vertex_word t v) nothing (not-false (eqb (vertex_word t v) nothing) (not-true _ c.held));
       }
 
-  pub may_remove : (v : ℕ) → verdict t (RemoveVertex v) ≡ Passes → MayRemove t v
+  pub may_remove : (v : ℕ) → verdict t (RemoveVertex v) ≡ Ok tt → MayRemove t v
   may_remove v p =
       let q = then_through (old_vertex t v) _ p in
       let there = vertex_there_lem t v q.0 in
       record { good = there.good; low = there.low; alone = eqb-true (vertex_word t v) isolated (let_through (eqb (vertex_word t v) isolated) never q.1).held }
 
-  pub may_insert : (e c₁ c₂ : ℕ) (k : ℤ) (n : ℕ) → verdict t (InsertEdge e c₁ c₂ k n) ≡ Passes → MayInsert t e c₁ c₂ k n
+  pub may_insert : (e c₁ c₂ : ℕ) (k : ℤ) (n : ℕ) → verdict t (InsertEdge e c₁ c₂ k n) ≡ Ok tt → MayInsert t e c₁ c₂ k n
   unfolding new_edge
   may_insert e c₁ c₂ k n p =
       let q = then_through (new_edge t e c₁ c₂) (and_then (few_turns k) (fair_length n)) p in
@@ -161,10 +159,10 @@ module _ (t : List ℕ) where
         long = record { some = (let z = ltb-true 0 n (both_left (ltb 0 n) _ s.held) in omega arith); most = leb-true n longest (both_right (ltb 0 n) _ s.held) };
       }
 
-  pub may_delete : (e : ℕ) → verdict t (DeleteEdge e) ≡ Passes → MayDelete t e
-  may_delete e p = edge_there_lem t e (then_through (old_edge t e) Passes p).0
+  pub may_delete : (e : ℕ) → verdict t (DeleteEdge e) ≡ Ok tt → MayDelete t e
+  may_delete e p = edge_there_lem t e (then_through (old_edge t e) (Ok tt) p).0
 
-  pub may_turn : (e : ℕ) (a : ℤ) → verdict t (TurnEdge e a) ≡ Passes → MayTurn t e a
+  pub may_turn : (e : ℕ) (a : ℤ) → verdict t (TurnEdge e a) ≡ Ok tt → MayTurn t e a
   may_turn e a p =
       let q = then_through (old_edge t e) _ p in
       let there = edge_there_lem t e q.0 in
@@ -176,7 +174,7 @@ module _ (t : List ℕ) where
       }
 
 -- an edit goes through on good tables alone
-pub passed_good : (t : List ℕ) (E : Edit) → verdict t E ≡ Passes → Good t
+pub passed_good : (t : List ℕ) (E : Edit) → verdict t E ≡ Ok tt → Good t
 passed_good t (AddVertex v) p = (may_add t v p).good
 passed_good t (RemoveVertex v) p = (may_remove t v p).good
 passed_good t (InsertEdge e c₁ c₂ k n) p = (may_insert t e c₁ c₂ k n p).good
@@ -184,7 +182,7 @@ passed_good t (DeleteEdge e) p = (may_delete t e p).good
 passed_good t (TurnEdge e a) p = (may_turn t e a p).good
 
 -- the word of 0 that the code makes for turns past 99
-pub room_is : (w : ℕ) (a : ℤ) {x : ℕ} {r : Verdict} → x ≡ turned_word w a → r ≡ unless (not (eqb x 0)) (Declines Overturned) Passes → r ≡ few_turns (turns_in w +ℤ a)
+pub room_is : (w : ℕ) (a : ℤ) {x : ℕ} {r : Verdict} → x ≡ turned_word w a → r ≡ unless (not (eqb x 0)) (Err Overturned) (Ok tt) → r ≡ few_turns (turns_in w +ℤ a)
 room_is w a {x} e q = q ∙ elim (truth (overturned (turns_in w +ℤ a))) [
   | holds o ↦ rw (o, eq-eqb x 0 (e ∙ sym (word_over w a o)))
   | fails n ↦ rw (n, ne_eqb x 0 (λ z. few_word w a n (sym e ∙ z)))

@@ -4,7 +4,7 @@
 --     turn_live                                                     a turn leaves the live darts
 --     may_insert_ready, may_delete_ready                            the words that the writes follow are in range
 --     present_corner                                                a corner that is there is a live dart or an isolated vertex
-use Rattle.std.specs.Prelude.{ℕ, ◌<◌, ◌≡◌, refl, List, ◌≢◌, ℤ}
+use Rattle.std.specs.Prelude.{ℕ, ◌<◌, ◌≡◌, refl, List, ◌≢◌, ℤ, Ok}
 use Rattle.std.proofs.Math.Decide.{ℕ_discrete}
 use Rattle.std.proofs.Common.{sym, ◌∙◌, ap, subst, inl, inr}
 use Rattle.std.proofs.Math.Path.{fun_ext}
@@ -26,7 +26,6 @@ use Rattle.edits.proofs.laws.Ready.{InsertReady, DeleteReady}
 use Rattle.edits.specs.Edits.{written}
 use Rattle.edits.specs.declared.edit.Edit.{Edit}
 use Rattle.edits.specs.declared.edit.Edit.TheVariants.{AddVertex, RemoveVertex, InsertEdge, DeleteEdge, TurnEdge}
-use Rattle.edits.specs.declared.edit.Verdict.TheVariants.{Passes}
 use Rattle.edits.proofs.laws.Verdicts.{MayAdd, MayRemove, MayInsert, MayDelete, MayTurn, may_add, may_remove, may_insert, may_delete, may_turn}
 use Rattle.edits.specs.Verdicts.{verdict}
 use Rattle.edits.proofs.laws.Turns.{turned_some, inserted_word}
@@ -123,7 +122,7 @@ module _ (t : List ℕ) where
         | no n ↦ sym (other i n) ∙ z
       ]
 
-  pub written_good : (E : Edit) → verdict t E ≡ Passes → Good (written t E)
+  pub written_good : (E : Edit) → verdict t E ≡ Ok tt → Good (written t E)
   written_good (AddVertex v) p = add_good v (may_add t v p)
   written_good (RemoveVertex v) p = remove_good v (may_remove t v p)
   written_good (InsertEdge e c₁ c₂ k n) p = insert_good e c₁ c₂ k n (may_insert t e c₁ c₂ k n p)

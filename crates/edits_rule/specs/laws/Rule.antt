@@ -5,9 +5,8 @@
 --     unsplit, one_more, even_turn, odd_turn    the rules by the parity of words
 --     few_rules                                 a rule's number is below 5
 --     rule_allows, ruled_reply                  there is a face count after an accepted edit; it is answered with the rule
-use Rattle.std.specs.Prelude.{ℕ, zero, suc, ◌+◌, ◌-◌, ◌%◌, ◌<◌, ◌≤◌, ◌≡◌, refl, ◌≢◌, List, ℤ}
+use Rattle.std.specs.Prelude.{ℕ, zero, suc, ◌+◌, ◌-◌, ◌%◌, ◌<◌, ◌≤◌, ◌≡◌, refl, ◌≢◌, List, ℤ, Ok, Some}
 use Rattle.std.proofs.Common.{arith, sym, ◌∙◌, ap}
-use Rattle.std.proofs.Math.Option.{some}
 use Rattle.table.specs.Good.{Good}
 use Rattle.table.specs.Rotation.{rotation}
 use Rattle.table.specs.laws.Lawful.{good_lawful}
@@ -24,9 +23,7 @@ use Rattle.edits.specs.Verdicts.{verdict}
 use Rattle.edits.specs.Edits.{written, edited}
 use Rattle.edits.proofs.laws.Edits.{edited_passes}
 use Rattle.edits.specs.declared.edit.Edit.{Edit}
-use Rattle.edits.specs.declared.edit.Verdict.TheVariants.{Passes}
 use Rattle.edits.specs.declared.rule.Reply.{Reply}
-use Rattle.edits.specs.declared.rule.Reply.TheVariants.{ByRule}
 use Rattle.edits.proofs.laws.Changes.{first_live}
 use Rattle.edits.proofs.laws.Verdicts.{MayInsert, MayDelete, MayTurn}
 use Rattle.tracing_meets.specs.laws.Read.{Corners, LiveEdge}
@@ -81,11 +78,11 @@ allowed_some {n} {r} a e = by (rw e at a.change)
     by q = omega arith
 
 -- an edit that goes through, on a table of n faces
-module _ (t : List ℕ) (E : Edit) (p : verdict t E ≡ Passes) {r : Rule} (q : rule_of t E ≡ some r) {n : ℕ} (f : n ≡ face_count (rotation t)) where
+module _ (t : List ℕ) (E : Edit) (p : verdict t E ≡ Ok tt) {r : Rule} (q : rule_of t E ≡ Some r) {n : ℕ} (f : n ≡ face_count (rotation t)) where
   pub rule_allows : Good t → (n ≤ places) × Allowed n r
   rule_allows g = let low = faces_low (good_lawful t g) in (omega arith, record { after = face_count (rotation (written t E)); change = rw f (rule_changes t E r p q) })
 
-  pub ruled_reply : {u : List ℕ} {x : Reply} → u ≡ written t E → x ≡ ByRule (faces_after n r) r → (x ≡ reply t E) × (u ≡ edited t E)
+  pub ruled_reply : {u : List ℕ} {x : Reply} → u ≡ written t E → x ≡ record { faces = faces_after n r; rule = Some r } → (Ok x ≡ reply t E) × (u ≡ edited t E)
   ruled_reply e a =
       let after = after_is n (face_count (rotation (written t E))) r (rw f (rule_changes t E r p q)) in
-      (a ∙ by_rule t E (faces_after n r) r p q after, e ∙ sym (edited_passes t E p))
+      (ap Ok a ∙ by_rule t E (faces_after n r) r p q after, e ∙ sym (edited_passes t E p))

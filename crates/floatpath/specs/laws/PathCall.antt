@@ -6,7 +6,7 @@
 --     along_room                                              an accepted path has room, and words in range
 --     Left, left_declined, left_done                          what is answered and left for the path from a step
 --     path_refused, path_left                                 the two ends of the call
-use Rattle.std.specs.Prelude.{ℕ, ◌+◌, ◌*◌, ◌<◌, ◌≤◌, ◌≡◌, refl, true, false, not, leb, ℤ, Float, length}
+use Rattle.std.specs.Prelude.{ℕ, ◌+◌, ◌*◌, ◌<◌, ◌≤◌, ◌≡◌, refl, true, false, not, leb, ℤ, Float, length, Ok, Err}
 use Rattle.std.proofs.Common.{arith, ◌∙◌, ap}
 use Rattle.std.proofs.Math.Path.{sym}
 use mathlib.Core.List.{List, flat_map}
@@ -15,17 +15,13 @@ use Rattle.table.specs.Rotation.{rotation}
 use Rattle.table.specs.laws.Lawful.{good_lawful}
 use Rattle.table.specs.Output.{front}
 use Rattle.table.specs.laws.Output.{done_declined}
-use Rattle.table.specs.declared.answer.Answer.{Answer}
-use Rattle.table.specs.declared.answer.Answer.TheVariants.{Done, Declined}
 use Rattle.table.specs.declared.answer.Refusal.{Refusal}
 use Rattle.table.specs.declared.answer.Refusal.TheVariants.{ShortSlice, ManyTurns, Far}
 use Rattle.tracing.specs.Step.{step, steps}
 use Rattle.tracing.specs.Walk.{walk}
 use Rattle.tracing.proofs.laws.Walk.{run_length, walk_run, walk_period, walk_period_le}
 use Rattle.tracing_walks.specs.laws.Stands.{Stands, stands_low}
-use Rattle.weave.specs.declared.named.Named.{Named}
-use Rattle.weave.specs.declared.named.Named.TheVariants.{There, Refused}
-use Rattle.weave.specs.Calls.{named_step}
+use Rattle.weave.specs.Calls.{named_step, Named}
 use Rattle.weave.proofs.laws.Calls.{there_steps}
 use Rattle.weave.specs.Ribbon.{some}
 use Rattle.floatpath.specs.declared.survey.Survey.{Survey}
@@ -34,18 +30,18 @@ use Rattle.floatpath_pieces.specs.laws.Places.{Lent}
 use Rattle.floatpath.specs.laws.Survey.{survey_of}
 use Rattle.floatpath.specs.laws.Laying.{forms_length, floats_length, path_length, PathRoom}
 use Rattle.floatpath.specs.PathCall.{path_along, path_answer, forms_out, coords_out}
-use Rattle.table.specs.Answers.{if_done}
+use Rattle.table.specs.Answers.{if_done, Answer}
 use Rattle.table.specs.laws.Answers.{let_through}
 
 -- the ends of the measuring
 
 module _ (t : List ℕ) (points lifts : List ℤ) (m c s : ℕ) where
-  pub short_points : length points < point_words → Declined ShortSlice ≡ path_along t points lifts m c s
+  pub short_points : length points < point_words → Err ShortSlice ≡ path_along t points lifts m c s
   unfolding path_along
   short_points h = rw (lt-leb point_words (length points) h)
 
   module _ (p : point_words ≤ length points) where
-    pub short_lifts : length lifts < lift_words → Declined ShortSlice ≡ path_along t points lifts m c s
+    pub short_lifts : length lifts < lift_words → Err ShortSlice ≡ path_along t points lifts m c s
     unfolding path_along
     short_lifts h = rw (le-leb point_words (length points) p, lt-leb lift_words (length lifts) h)
 
@@ -68,22 +64,22 @@ module _ (t : List ℕ) (points lifts : List ℤ) (m c s : ℕ) where
       unfolding survey_of
       far_is = sym (ap (λ u. u.far) e)
 
-      pub short_forms : m < v.steps + 1 → Declined ShortSlice ≡ path_along t points lifts m c s
+      pub short_forms : m < v.steps + 1 → Err ShortSlice ≡ path_along t points lifts m c s
       unfolding path_along
       short_forms h = rw (le-leb point_words (length points) p, le-leb lift_words (length lifts) l, forms_are, lt-leb (v.steps + 1) m h)
 
       module _ (a : v.steps + 1 ≤ m) where
-        pub short_coords : c < 3 * (v.steps + 1) → Declined ShortSlice ≡ path_along t points lifts m c s
+        pub short_coords : c < 3 * (v.steps + 1) → Err ShortSlice ≡ path_along t points lifts m c s
         unfolding path_along
         short_coords h = rw (le-leb point_words (length points) p, le-leb lift_words (length lifts) l, forms_are, le-leb (v.steps + 1) m a, floats_are, lt-leb (3 * (v.steps + 1)) c h)
 
         module _ (b : 3 * (v.steps + 1) ≤ c) where
-          pub many_turns_lem : v.many ≡ true → Declined ManyTurns ≡ path_along t points lifts m c s
+          pub many_turns_lem : v.many ≡ true → Err ManyTurns ≡ path_along t points lifts m c s
           unfolding path_along
           many_turns_lem h = rw (le-leb point_words (length points) p, le-leb lift_words (length lifts) l, forms_are, le-leb (v.steps + 1) m a, floats_are, le-leb (3 * (v.steps + 1)) c b, many_is, h)
 
           module _ (x : v.many ≡ false) where
-            pub far_away : v.far ≡ true → Declined Far ≡ path_along t points lifts m c s
+            pub far_away : v.far ≡ true → Err Far ≡ path_along t points lifts m c s
             unfolding path_along
             far_away h =
                 rw (
@@ -99,11 +95,11 @@ module _ (t : List ℕ) (points lifts : List ℤ) (m c s : ℕ) where
                   h,
                 )
 
-            pub path_sized : v.far ≡ false → Done (v.steps + 1) ≡ path_along t points lifts m c s
+            pub path_sized : v.far ≡ false → Ok (v.steps + 1) ≡ path_along t points lifts m c s
             unfolding path_along
             path_sized h =
                 rw (le-leb point_words (length points) p, le-leb lift_words (length lifts) l, forms_are, le-leb (v.steps + 1) m a, floats_are, le-leb (3 * (v.steps + 1)) c b, many_is, x, far_is, h)
-                (ap Done pieces_are)
+                (ap Ok pieces_are)
 
 -- a walk has at most as many steps as there are step words
 pub survey_few : {t : List ℕ} {points lifts : List ℤ} {s : ℕ} {v : Survey} → Lent t points lifts s → v ≡ survey_of t points lifts (walk (rotation t) s) → v.steps ≤ steps
@@ -118,7 +114,7 @@ survey_few {t} {s = s} h e =
 
 -- an accepted path has room, and words in range
 
-pub along_room : {t : List ℕ} {s : ℕ} → Stands t s → (points lifts : List ℤ) (m c : ℕ) {n : ℕ} → Done n ≡ path_along t points lifts m c s → PathRoom t points lifts s m c
+pub along_room : {t : List ℕ} {s : ℕ} → Stands t s → (points lifts : List ℤ) (m c : ℕ) {n : ℕ} → Ok n ≡ path_along t points lifts m c s → PathRoom t points lifts s m c
 unfolding path_along
 along_room {t} {s} h points lifts m c e =
     let path = path_from t points lifts s in
@@ -150,22 +146,22 @@ pub record Left (t : List ℕ) (points lifts : List ℤ) (s : ℕ) (forms : List
   pub coords_left : coords' ≡ if_done (path_along t points lifts (length forms) (length coords) s) (front (flat_map floats_of (path_from t points lifts s)) coords) coords
 
 module _ {t : List ℕ} {points lifts : List ℤ} {s : ℕ} {forms : List ℕ} {coords : List Float} {a : Answer} (e : a ≡ path_along t points lifts (length forms) (length coords) s) where
-  pub left_declined : {r : Refusal} → a ≡ Declined r → Left t points lifts s forms coords (Declined r) forms coords
+  pub left_declined : {r : Refusal} → a ≡ Err r → Left t points lifts s forms coords (Err r) forms coords
   left_declined f = record { answer = sym f ∙ e; forms_left = rw (← e, f); coords_left = rw (← e, f) }
 
-  pub left_done : {n : ℕ} {forms' : List ℕ} {coords' : List Float} → a ≡ Done n → forms' ≡ front (flat_map forms_of (path_from t points lifts s)) forms
-      → coords' ≡ front (flat_map floats_of (path_from t points lifts s)) coords → Left t points lifts s forms coords (Done n) forms' coords'
+  pub left_done : {n : ℕ} {forms' : List ℕ} {coords' : List Float} → a ≡ Ok n → forms' ≡ front (flat_map forms_of (path_from t points lifts s)) forms
+      → coords' ≡ front (flat_map floats_of (path_from t points lifts s)) coords → Left t points lifts s forms coords (Ok n) forms' coords'
   left_done f g h = record { answer = sym f ∙ e; forms_left = rw (← e, f) g; coords_left = rw (← e, f) h }
 
 -- the ends of the call
 
 module _ (t : List ℕ) (d k : ℕ) (points lifts : List ℤ) (forms : List ℕ) (coords : List Float) {n : Named} (e : n ≡ named_step t d k) where
-  pub path_refused : {r : Refusal} → n ≡ Refused r
-      → (Declined r ≡ path_answer t d k points lifts (length forms) (length coords))
+  pub path_refused : {r : Refusal} → n ≡ Err r
+      → (Err r ≡ path_answer t d k points lifts (length forms) (length coords))
       × (forms ≡ forms_out t d k points lifts forms coords) × (coords ≡ coords_out t d k points lifts forms coords)
   path_refused f = rw (← e, f) (refl, refl, refl)
 
-  pub path_left : {s : ℕ} {r : Answer} {forms' : List ℕ} {coords' : List Float} → n ≡ There s → Left t points lifts s forms coords r forms' coords'
+  pub path_left : {s : ℕ} {r : Answer} {forms' : List ℕ} {coords' : List Float} → n ≡ Ok s → Left t points lifts s forms coords r forms' coords'
       → (r ≡ path_answer t d k points lifts (length forms) (length coords)) × (forms' ≡ forms_out t d k points lifts forms coords) × (coords' ≡ coords_out t d k points lifts forms coords)
   path_left f l =
       let word = (there_steps t d k (sym f ∙ e)).word in

@@ -4,14 +4,13 @@
 --     Surveying                                        the loop over the walk
 --     surveying_none, surveying_more, surveying_all    it begins, goes on, ends
 --     surveying_lent, surveying_few                    the present step's words are there; there are few steps
-use Rattle.std.specs.Prelude.{ℕ, zero, ◌+◌, ◌<◌, ◌≤◌, ◌≡◌, refl, Bool, false, ◌||◌, List, [], ◌∷◌, ◌++◌, ◌≢◌, ltb, ℤ, length}
-use Rattle.std.proofs.Common.{add-one, ◌∙◌, ap, length-append}
+use Rattle.std.specs.Prelude.{ℕ, ◌+◌, ◌<◌, ◌≤◌, ◌≡◌, refl, Bool, false, ◌||◌, List, [], ◌∷◌, ◌++◌, ltb, ℤ, length}
+use Rattle.std.proofs.Common.{◌∙◌, ap, length-append}
 use Rattle.std.proofs.Math.Bool.{or-false}
 use Rattle.table.specs.Rotation.{rotation}
-use Rattle.tracing.specs.Step.{step, steps}
+use Rattle.tracing.specs.Step.{steps}
 use Rattle.tracing.specs.Walk.{walk}
-use Rattle.tracing.proofs.laws.Walk.{iterates, run_suc, run_length}
-use Rattle.tracing_walks.specs.laws.Along.{Walking, walking_none, walking_more, walking_all, walking_few}
+use Rattle.tracing_walks.specs.laws.Along.{Along, along_none, along_more, along_all, along_stands, along_low}
 use Rattle.weave.specs.Letters.{crossings}
 use Rattle.weave_letters.specs.laws.Crossing.{EdgeWord}
 use Rattle.weave.specs.Ribbon.{some}
@@ -42,34 +41,33 @@ module _ (t : List ℕ) (points lifts : List ℤ) (l : List ℕ) (x : ℕ) where
       rw (length-append, some_append (many_turns t) l (x ∷ []), some_append (far_step t points lifts) l (x ∷ []), or-false (many_turns t x), or-false (far_step t points lifts x))
 
 -- the loop over the walk
-pub record Surveying (t : List ℕ) (points lifts : List ℤ) (s at : ℕ) (v : Survey) : Type 0 where
-  pub so_far : ℕ
-  pub walking : Walking t s so_far at
+pub record Surveying (t : List ℕ) (points lifts : List ℤ) (s : ℕ) (gone left : List ℕ) (v : Survey) : Type 0 where
+  pub along : Along t s gone left
   pub points_size : point_words ≤ length points
   pub lifts_size : lift_words ≤ length lifts
-  pub seen : v ≡ survey_of t points lifts (iterates (step (rotation t)) s so_far)
+  pub seen : v ≡ survey_of t points lifts gone
 
-pub surveying_none : {t : List ℕ} {points lifts : List ℤ} {s : ℕ} → Lent t points lifts s → Surveying t points lifts s s (record { steps = 0; many = false; far = false })
-unfolding iterates survey_of some
-surveying_none k = record { so_far = zero; walking = walking_none k.stands; points_size = k.points_size; lifts_size = k.lifts_size; seen = refl }
+pub surveying_none : {t : List ℕ} {points lifts : List ℤ} {s : ℕ} {left : List ℕ} → Lent t points lifts s → left ≡ walk (rotation t) s
+    → Surveying t points lifts s [] left (record { steps = 0; many = false; far = false })
+unfolding survey_of some
+surveying_none k e = record { along = along_none k.stands e; points_size = k.points_size; lifts_size = k.lifts_size; seen = refl }
 
-module _ {t : List ℕ} {points lifts : List ℤ} {s at : ℕ} {v : Survey} (k : Surveying t points lifts s at v) where
-  pub surveying_lent : Lent t points lifts at
-  surveying_lent = record { stands = k.walking.there; points_size = k.points_size; lifts_size = k.lifts_size }
+module _ {t : List ℕ} {points lifts : List ℤ} {s : ℕ} {gone left : List ℕ} {v : Survey} (k : Surveying t points lifts s gone left v) where
+  pub surveying_all : left ≡ [] → v ≡ survey_of t points lifts (walk (rotation t) s)
+  surveying_all e = rw (← along_all k.along e) k.seen
 
-  pub surveying_few : v.steps < steps
-  unfolding survey_of
-  surveying_few = rw (k.seen, run_length) (walking_few k.walking)
+  module _ {at : ℕ} {left' : List ℕ} (e : left ≡ at ∷ left') where
+    pub surveying_lent : Lent t points lifts at
+    surveying_lent = record { stands = along_stands k.along e; points_size = k.points_size; lifts_size = k.lifts_size }
 
-  module _ {m f : Bool} {v' : Survey} (a : m ≡ many_turns t at) (b : f ≡ far_step t points lifts at) (c : v' ≡ survey_with v m f) where
-    seen_more : v' ≡ survey_of t points lifts (iterates (step (rotation t)) s (k.so_far + 1))
-    seen_more =
-        let l = iterates (step (rotation t)) s k.so_far in
-        let seen : survey_with v m f ≡ survey_of t points lifts (l ++ (at ∷ [])) = rw (a, b, k.seen) (survey_more t points lifts l at) in
-        rw (add-one, run_suc, k.walking.along.here) (c ∙ seen)
+    pub surveying_few : v.steps < steps
+    unfolding survey_of
+    surveying_few = rw k.seen (along_low k.along e)
 
-    pub surveying_more : {next : ℕ} → next ≡ step (rotation t) at → next ≢ s → Surveying t points lifts s next v'
-    surveying_more e n = record { so_far = k.so_far + 1; walking = walking_more k.walking e n; points_size = k.points_size; lifts_size = k.lifts_size; seen = seen_more }
-
-    pub surveying_all : {next : ℕ} → next ≡ step (rotation t) at → next ≡ s → v' ≡ survey_of t points lifts (walk (rotation t) s)
-    surveying_all e n = rw (walking_all k.walking e n) seen_more
+    pub surveying_more : {m f : Bool} {v' : Survey} → m ≡ many_turns t at → f ≡ far_step t points lifts at → v' ≡ survey_with v m f → Surveying t points lifts s (gone ++ at ∷ []) left' v'
+    surveying_more a b c = record {
+      along = along_more k.along e;
+      points_size = k.points_size;
+      lifts_size = k.lifts_size;
+      seen = c ∙ rw (a, b, k.seen) (survey_more t points lifts gone at);
+    }

@@ -2,18 +2,15 @@
 --     path_unrounded    the floats of every step of an accepted path are exact
 --     step_unrounded    those of a step whose words are in range
 --     held_point        a piece holds the point that it is made of
-use Rattle.std.specs.Prelude.{ℕ, ◌+◌, ◌*◌, ◌≡◌, refl, Bool, true, false, cond, List, eqb, ℤ}
+use Rattle.std.specs.Prelude.{ℕ, ◌+◌, ◌*◌, ◌≡◌, refl, Bool, true, false, cond, List, eqb, ℤ, Ok, Err}
 use Rattle.std.proofs.Common.{arith, sym}
 use Rattle.orbits.proofs.laws.Truth.{truth, holds, fails, clash}
 use Rattle.table.specs.Rotation.{rotation}
 use Rattle.table.specs.laws.Output.{done_declined}
-use Rattle.table.specs.declared.answer.Answer.TheVariants.{Done}
 use Rattle.tracing.specs.Walk.{walk}
 use Rattle.tracing.specs.Listing.{has}
-use Rattle.weave.specs.declared.named.Named.{Named}
-use Rattle.weave.specs.declared.named.Named.TheVariants.{There, Refused}
 use Rattle.weave.specs.Letters.{over, under}
-use Rattle.weave.specs.Calls.{named_step}
+use Rattle.weave.specs.Calls.{named_step, Named}
 use Rattle.weave.proofs.laws.Calls.{there_steps}
 use Rattle.weave.proofs.laws.Ribbon.{passes_some}
 use Rattle.floatpath_pieces.specs.declared.piece.Point.{Point}
@@ -48,13 +45,13 @@ step_unrounded t points lifts s e =
     }
 
 -- of every step of a ribbon whose path is accepted
-pub path_unrounded : (t : List ℕ) (d k : ℕ) (points lifts : List ℤ) (m c n : ℕ) → path_answer t d k points lifts m c ≡ Done n
+pub path_unrounded : (t : List ℕ) (d k : ℕ) (points lifts : List ℤ) (m c n : ℕ) → path_answer t d k points lifts m c ≡ Ok n
     → (s : ℕ) → has s (walk (rotation t) (2 * d + k)) ≡ true → Unrounded t points lifts s
 path_unrounded t d k points lifts m c n a s h = by (named_step t d k) refl a
   where
-    by : (named : Named) → named ≡ named_step t d k → path_by t points lifts m c named ≡ Done n → Unrounded t points lifts s
-    by (Refused r) e f = absurd (done_declined f)
-    by (There start) e f =
+    by : (named : Named) → named ≡ named_step t d k → path_by t points lifts m c named ≡ Ok n → Unrounded t points lifts s
+    by (Err r) e f = absurd (done_declined f)
+    by (Ok start) e f =
         let steps = there_steps t d k e in
         let room = along_room steps.stands points lifts m c (sym f) in
         elim (truth (far_step t points lifts s)) [

@@ -1,20 +1,17 @@
 -- `read_job` meets its contract. The invariant: what came is read, and the bytes of a cut record wait
 -- at the front of the buffer. The measure is the bytes that may still come, and one more turn for the read that gives none.
-use Rattle.job.specs.laws.Progress.{going_none, going_ready, going_less, going_more}
-use mathlib.Core.Path.{refl, sym}
+use Rattle.job.specs.laws.Progress.{going_none, going_ready, going_more}
+use Rattle.job.specs.declared.State.TheVariants.{More}
+use borrow.Author.Rules.{rules}
+use mathlib.Core.Path.{◌≡◌, refl}
 use Rattle.job.proofs.read_job.Goals as goal
 
-pub loop-p-init : goal.loop-p-init
-loop-p-init g c = going_none c.requires refl
-
-pub slice_bounds-read_block-end : goal.slice_bounds-read_block-end
-slice_bounds-read_block-end g c = sym c.loop-p.invariant.buffer
+pub loop-buf-init : goal.loop-buf-init
+loop-buf-init g c = going_none c.requires refl
 
 pub read_block-p-requires : goal.read_block-p-requires
-read_block-p-requires g c = going_ready c.loop-p.invariant
+read_block-p-requires g c = going_ready c.loop-buf.invariant
 
-pub loop-p-smaller : goal.loop-p-smaller
-loop-p-smaller g c = going_less c.loop-p.invariant c.loop-p-test.true c.if-p-lt-MOST.true c.read_block-p.ensures
-
-pub loop-p-preserved : goal.loop-p-preserved
-loop-p-preserved g c = going_more c.loop-p.invariant c.loop-p-test.true c.if-p-lt-MOST.true c.read_block-p.ensures c.read_block-p.auto.t c.read_block-p.auto.buf
+pub loop-buf-preserved : goal.loop-buf-preserved
+loop-buf-preserved g c = let more : c.loop-buf.p.state ≡ More = search rules in
+    going_more c.loop-buf.invariant more c.if-p-lt-MOST.true c.read_block-p.ensures c.read_block-p.auto.t c.read_block-p.auto.buf

@@ -4,8 +4,8 @@ use Rattle.job.specs.laws.Progress.{Going, waiting}
 use Prim.Native.Nat.{◌+◌, ◌-◌, ◌^◌}
 use Rattle.job.proofs.read_job.Given as goal
 
-abbrev pub invariant-loop-p : goal.invariant-loop-p
-invariant-loop-p g l = Going l.initial.t l.t l.buf l.p
+abbrev pub invariant-loop-buf : goal.invariant-loop-buf
+invariant-loop-buf g l = Going l.initial.t l.t l.buf l.p
 
-abbrev pub decreases-loop-p : goal.decreases-loop-p
-decreases-loop-p g l = waiting l.p.going + (2 ^ 61 - l.p.read)
+abbrev pub decreases-loop-buf : goal.decreases-loop-buf
+decreases-loop-buf g l = waiting l.p.state + (2 ^ 61 - l.p.read)

@@ -1,21 +1,20 @@
 -- The blocks of the job program: they are ready to be run, and what is known of all that came.
 --     block_ready, block_written, block_left, block_after    a block can be run; what is written, left, and known after it
---     goes_failed, goes_ended, goes_more                     whether more is read
---     goes_over                                              why it is not
+--     fine_after, going_reads, over_why                      where the reading stands
 --     turn_came                                              one read, and the records that it makes whole
 --     Going                                                  the loop that reads: what is known of all the bytes that came
---     going_none, going_ready, going_more, going_over        it begins, can go on, goes on, is over
---     waiting, going_less                                    the measure that falls with each turn
-use Rattle.std.specs.Prelude.{ℕ, zero, suc, ◌+◌, ◌-◌, ◌≤◌, ◌<◌, ◌^◌, ◌≡◌, refl, Bool, true, false, ◌≢◌, List, [], ◌∷◌, ◌++◌, length, take, drop}
+--     going_none, going_ready, going_more                    it begins, can go on, goes on
+--     waiting                                                the measure that falls with each turn
+use Rattle.std.specs.Prelude.{ℕ, zero, suc, ◌+◌, ◌≤◌, ◌<◌, ◌^◌, ◌≡◌, refl, Bool, true, false, List, [], ◌∷◌, ◌++◌, length, take, drop}
 use Rattle.std.proofs.Common.{arith, zero-add, suc-add, sym, ◌∙◌, ap, ap₂, length-append, length-drop, length-take-le}
 use Rattle.std.proofs.lemmas.List.Edits.{sets}
 use Rattle.std.proofs.Math.Seq.{length-sets, take-nil, drop-nil}
-use Rattle.orbits.proofs.laws.Truth.{clash, truth, holds, fails}
+use Rattle.orbits.proofs.laws.Truth.{clash}
 use Rattle.table.specs.Good.{Good}
 use Rattle.text.specs.laws.Paste.{front_text}
 use Rattle.records.specs.declared.block.Block.{Block}
 use Rattle.records.specs.declared.records.Stop.{Stop}
-use Rattle.records.specs.declared.records.Stop.TheVariants.{End}
+use Rattle.records.specs.declared.records.Stop.TheVariants.{End, BadMark, CutRecord}
 use Rattle.runs.specs.Run.{run}
 use Rattle.records.specs.Records.{longest_record}
 use Rattle.records.specs.Reading.{reading, read_up_to, ended, reads_on}
@@ -27,7 +26,17 @@ use Rattle.records.specs.laws.Blocks.{left_some, reading_left, left_again, left_
 use Rattle.records.specs.laws.Running.{Ready}
 use Rattle.records.specs.laws.Moving.{block_fits}
 use Rattle.job.specs.declared.Progress.{Progress}
-use Rattle.job.specs.Job.{goes_on, after_block, Turn, came, failed, Finished, nothing_came, stopped, so_many, Read}
+use Rattle.job.specs.declared.State.{State}
+use Rattle.job.specs.declared.State.TheVariants.{More, Over, Failed}
+use Rattle.job.specs.Job.{going, fine, state_after, after_block, Turn, came, failed, Finished, nothing_came, stopped}
+
+-- a write that failed is known by the state
+fine_after : (f : Bool) (new : ℕ) (stop : Stop) → fine (state_after f new stop) ≡ f
+fine_after false new stop = refl
+fine_after true zero stop = refl
+fine_after true (suc new) End = refl
+fine_after true (suc new) BadMark = refl
+fine_after true (suc new) CutRecord = refl
 
 -- the first n bytes of the buffer, and a buffer for the lines
 module _ (number n : ℕ) (t buf out : List ℕ) (e : length buf ≡ 4096) (l : n ≤ 4096) (h : number ≤ 2 ^ 61) (f : 65536 ≡ length out) where
@@ -48,35 +57,29 @@ module _ (number n : ℕ) (t buf out : List ℕ) (e : length buf ≡ 4096) (l : 
         rw (k.0, k.2) (front_text buf (left (take n buf)) (omega arith))
 
     -- how far the reading is then, where the lines were handed over
-    pub block_after : (p : Progress) (new : ℕ) {going fine : Bool} {bytes : ℕ} → p.next ≡ number
-        → going ≡ goes_on fine new b.stop → bytes ≡ length (take b.written out')
-        → record { going = going; fine = fine; left = b.left; next = b.next; stop = b.stop; came = new; read = p.read + new; printed = p.printed + bytes }
-        ≡ after_block t p new (take n buf) fine
-    block_after p new same goes handed =
+    pub block_after : (p : Progress) (new : ℕ) {state : State} (f : Bool) {bytes : ℕ} → p.next ≡ number
+        → state ≡ state_after f new b.stop → bytes ≡ length (take b.written out')
+        → record { state = state; left = b.left; next = b.next; stop = b.stop; came = new; read = p.read + new; printed = p.printed + bytes }
+        ≡ after_block t p new (take n buf) (fine state)
+    block_after p new f same goes handed =
         let bytes-all = handed ∙ length-take-le b.written out' block_written in
-        rw (goes, bytes-all, k.0, same)
+        rw (ap fine goes ∙ fine_after f new b.stop, goes, bytes-all, k.0, same)
 
--- whether more is read
+-- where the reading stands
 
-pub goes_failed : (fine : Bool) (new : ℕ) (stop : Stop) → fine ≡ false → false ≡ goes_on fine new stop
-goes_failed fine new stop e = rw e
+going_reads : (f : Bool) (new : ℕ) (stop : Stop) → going (state_after f new stop) ≡ true → reads_on stop ≡ true
+going_reads false new stop e = absurd (clash e refl)
+going_reads true zero stop e = absurd (clash e refl)
+going_reads true (suc new) End e = refl
+going_reads true (suc new) BadMark e = absurd (clash e refl)
+going_reads true (suc new) CutRecord e = refl
 
-pub goes_ended : (fine : Bool) {new : ℕ} (stop : Stop) → fine ≡ true → new ≡ 0 → false ≡ goes_on fine new stop
-goes_ended fine stop e z = rw (e, z)
-
-pub goes_more : (fine : Bool) (new : ℕ) (stop : Stop) {r : Bool} → fine ≡ true → new ≢ 0 → r ≡ reads_on stop → r ≡ goes_on fine new stop
-goes_more fine zero stop e z h = absurd (z refl)
-goes_more fine (suc new) stop e z h = rw e h
-
-goes_reads : (fine : Bool) (new : ℕ) (stop : Stop) → goes_on fine new stop ≡ true → reads_on stop ≡ true
-goes_reads false new stop e = absurd (clash e refl)
-goes_reads true zero stop e = absurd (clash e refl)
-goes_reads true (suc new) stop e = e
-
-goes_over : {came read : ℕ} (fine : Bool) (new : ℕ) (stop : Stop) → fine ≡ true → goes_on fine new stop ≡ false → came ≡ new → Finished came stop read
-goes_over false new stop f e c = absurd (clash f refl)
-goes_over true zero stop f e c = nothing_came c
-goes_over true (suc new) stop f e c = stopped e
+over_why : {came read : ℕ} (f : Bool) (new : ℕ) (stop : Stop) → f ≡ true → going (state_after f new stop) ≡ false → came ≡ new → Finished came stop read
+over_why false new stop f e c = absurd (clash f refl)
+over_why true zero stop f e c = nothing_came c
+over_why true (suc new) End f e c = absurd (clash refl e)
+over_why true (suc new) BadMark f e c = stopped refl
+over_why true (suc new) CutRecord f e c = absurd (clash refl e)
 
 -- one read
 
@@ -87,7 +90,7 @@ take_split (suc a) n (x ∷ l) = ap (λ k. take k (x ∷ l)) (suc-add a n) ∙ a
 
 pub turn_came : {t₀ buf₀ t buf : List ℕ} {p r : Progress} (buf₁ : List ℕ) (new : ℕ) → p.left + new ≤ length buf₁ → new ≤ 4096
     → take p.left buf₁ ≡ take p.left buf₀
-    → (r ≡ after_block t₀ p new (take (p.left + new) buf₁) r.fine)
+    → (r ≡ after_block t₀ p new (take (p.left + new) buf₁) (fine r.state))
     × (t ≡ run t₀ (reading (take (p.left + new) buf₁)).edits)
     × (take r.left buf ≡ left (take (p.left + new) buf₁))
     → Turn t₀ buf₀ p t buf r
@@ -97,7 +100,7 @@ turn_came {t₀} {buf₀} {t} {buf} {p} {r} buf₁ new room most front (e, f, g)
     let size : length part ≡ new = length-take-le new (drop p.left buf₁) (omega arith) in
     let same : take (p.left + new) buf₁ ≡ take p.left buf₀ ++ part = take_split p.left new buf₁ ∙ ap (λ l. l ++ part) front in
     came part (rw size most)
-    (e ∙ ap₂ (λ n s. after_block t₀ p n s r.fine) (sym size) same)
+    (e ∙ ap₂ (λ n s. after_block t₀ p n s (fine r.state)) (sym size) same)
     (f ∙ ap (λ s. run t₀ (reading s).edits) same)
     (g ∙ ap left same)
 
@@ -115,8 +118,8 @@ pub record Going (t₀ t buf : List ℕ) (p : Progress) : Type 0 where
   pub printed : p.printed ≡ length (lines t₀ 1 (reading input).edits)
   pub waits : p.left ≡ length (left input)
   pub front : take p.left buf ≡ left input
-  pub on : p.going ≡ true → reads_on (reading input).stop ≡ true
-  pub over : p.fine ≡ true → p.going ≡ false → Finished p.came (reading input).stop p.read
+  pub on : going p.state ≡ true → reads_on (reading input).stop ≡ true
+  pub over : fine p.state ≡ true → going p.state ≡ false → Finished p.came (reading input).stop p.read
 
 nothing_read : reading [] ≡ ended End
 unfolding reading read_up_to
@@ -126,7 +129,7 @@ nothing_left : left [] ≡ []
 nothing_left = left_some [] (ap (λ r. reads_on r.stop) nothing_read) ∙ drop-nil (reading []).taken
 
 pub going_none : {t buf : List ℕ} → Good t → 4096 ≡ length buf
-    → Going t t buf (record { going = true; fine = true; left = 0; next = 1; stop = End; came = 1; read = 0; printed = 0 })
+    → Going t t buf (record { state = More; left = 0; next = 1; stop = End; came = 1; read = 0; printed = 0 })
 unfolding run lines
 going_none {t} g e = record {
   input = [];
@@ -162,37 +165,20 @@ going_ready {t₀} {p = p} k =
     (k.buffer, omega arith, omega arith, omega arith, omega arith)
 
 -- the measure: the bytes that may still come, and one more turn for the read that gives none
-abbrev pub waiting : Bool → ℕ
-waiting true = 1
-waiting false = 0
+abbrev pub waiting : State → ℕ
+waiting More = 1
+waiting Over = 0
+waiting Failed = 0
 
-waiting_few : (b : Bool) → waiting b ≤ 1
-waiting_few true = omega arith
-waiting_few false = omega arith
-
-goes_less : (fine : Bool) (new : ℕ) (stop : Stop) → waiting (goes_on fine new stop) ≤ new
-goes_less false new stop = omega arith
-goes_less true zero stop = omega arith
-goes_less true (suc new) stop = let few = waiting_few (reads_on stop) in omega arith
-
-module _ {t₀ t buf : List ℕ} {p : Progress} (k : Going t₀ t buf p) (g : p.going ≡ true) (l : p.read < 2 ^ 60) {t' buf' : List ℕ} {p' : Progress} where
-  pub going_less : Turn t buf p t' buf' p' → waiting p'.going + (2 ^ 61 - p'.read) < waiting p.going + (2 ^ 61 - p.read)
-  going_less (came new m e f h) =
-      let few = waiting_few p'.going in
-      let less : waiting p'.going ≤ length new =
-      rw e (goes_less p'.fine (length new) (reading (take p.left buf ++ new)).stop) in
-      let read : p'.read ≡ p.read + length new = ap (λ x. x.read) e in
-      rw g (omega arith)
-  going_less (failed e f h) = rw (e, g) (omega arith)
-
+module _ {t₀ t buf : List ℕ} {p : Progress} (k : Going t₀ t buf p) (g : p.state ≡ More) (l : p.read < 2 ^ 60) {t' buf' : List ℕ} {p' : Progress} where
   pub going_more : Turn t buf p t' buf' p' → length t' ≡ length t → length buf' ≡ length buf → Going t₀ t' buf' p'
   going_more (came new m e f h) z y =
       let s = left k.input ++ new in
       let here : take p.left buf ++ new ≡ s = ap (λ x. x ++ new) k.front in
       let A = (reading k.input).edits in
       let B = (reading s).edits in
-      let whole : reading (k.input ++ new) ≡ joined (reading k.input) (reading s) = reading_left k.input new (k.on g) in
-      let after : p' ≡ after_block t p (length new) s p'.fine = e ∙ ap (λ x. after_block t p (length new) x p'.fine) here in
+      let whole : reading (k.input ++ new) ≡ joined (reading k.input) (reading s) = reading_left k.input new (k.on (ap going g)) in
+      let after : p' ≡ after_block t p (length new) s (fine p'.state) = e ∙ ap (λ x. after_block t p (length new) x (fine p'.state)) here in
       let all = k.all in
       let low = k.low in
       let next = k.next in
@@ -203,7 +189,7 @@ module _ {t₀ t buf : List ℕ} {p : Progress} (k : Going t₀ t buf p) (g : p.
       let more : p'.next ≡ p.next + length B = ap (λ x. x.next) after in
       let text : p'.printed ≡ p.printed + length (lines t p.next B) = ap (λ x. x.printed) after in
       let line : length (lines t₀ 1 (reading (k.input ++ new)).edits) ≡ length (lines t₀ 1 A) + length (lines t p.next B) =
-      ap length (lines_blocks t₀ 1 k.input new (k.on g)) ∙ length-append (lines t₀ 1 A) (lines (run t₀ A) (1 + length A) B)
+      ap length (lines_blocks t₀ 1 k.input new (k.on (ap going g))) ∙ length-append (lines t₀ 1 A) (lines (run t₀ A) (1 + length A) B)
       ∙ ap₂ (λ x n. length (lines t₀ 1 A) + length (lines x n B)) (sym k.table) (sym next) in
       record {
         input = k.input ++ new;
@@ -212,15 +198,15 @@ module _ {t₀ t buf : List ℕ} {p : Progress} (k : Going t₀ t buf p) (g : p.
         buffer = y ∙ k.buffer;
         all = omega arith;
         low = omega arith;
-        table = f ∙ ap₂ (λ x a. run x (reading a).edits) k.table here ∙ sym (run_blocks t₀ 1 k.input new (k.on g));
+        table = f ∙ ap₂ (λ x a. run x (reading a).edits) k.table here ∙ sym (run_blocks t₀ 1 k.input new (k.on (ap going g)));
         next = rw whole (omega arith);
         stop = ap (λ x. x.stop) after ∙ ap (λ r. r.stop) (sym whole);
         printed = omega arith;
-        waits = ap (λ x. x.left) after ∙ ap length (sym (left_again k.input new (k.on g)));
-        front = h ∙ ap left here ∙ sym (left_again k.input new (k.on g));
-        on = λ q. rw whole (goes_reads p'.fine (length new) (reading s).stop (sym (ap (λ x. x.going) after) ∙ q));
+        waits = ap (λ x. x.left) after ∙ ap length (sym (left_again k.input new (k.on (ap going g))));
+        front = h ∙ ap left here ∙ sym (left_again k.input new (k.on (ap going g)));
+        on = λ q. rw whole (going_reads (fine p'.state) (length new) (reading s).stop (sym (ap (λ x. going x.state) after) ∙ q));
         over = λ q r. rw whole
-            (goes_over p'.fine (length new) (reading s).stop q (sym (ap (λ x. x.going) after) ∙ r) (ap (λ x. x.came) after));
+            (over_why (fine p'.state) (length new) (reading s).stop q (sym (ap (λ x. going x.state) after) ∙ r) (ap (λ x. x.came) after));
       }
   going_more (failed e f h) z y = record {
     input = k.input;
@@ -235,19 +221,6 @@ module _ {t₀ t buf : List ℕ} {p : Progress} (k : Going t₀ t buf p) (g : p.
     printed = rw e k.printed;
     waits = rw e k.waits;
     front = ap (λ x. take x.left buf') e ∙ h ∙ k.front;
-    on = λ q. absurd (clash q (ap (λ x. x.going) e));
-    over = λ q r. absurd (clash q (ap (λ x. x.fine) e));
+    on = λ q. absurd (clash q (ap (λ x. going x.state) e));
+    over = λ q r. absurd (clash q (ap (λ x. fine x.state) e));
   }
-
--- the reading is over
-pub going_over : {t₀ t buf : List ℕ} {p : Progress} → Going t₀ t buf p → (p.going ≡ true → 2 ^ 60 ≤ p.read) → Read t₀ t p
-going_over {p = p} k h = record {
-  input = k.input;
-  all = k.all;
-  table = k.table;
-  next = k.next;
-  stop = k.stop;
-  printed = k.printed;
-  over = λ f. elim (truth p.going) [ holds g ↦ so_many (h g) | fails g ↦ k.over f g ];
-  low = k.low;
-}

@@ -1,24 +1,18 @@
 -- The end of the job program: the last line, the report, a window at a time, and all that was handed over.
 --     line_room, line_handed                                     the last line has room, and all of it is handed over
---     Showing, showing_none, showing_more, showing_all           the loop that prints the report, a window at a time
---     ShowsPart, shows_part, part_room, part_handed, part_low    what a window shows is what is handed over
+--     Showing                                                    the loop that prints the report, a window at a time
 --     start_good, read_good                                      the table is good at the start; after the reading
 --     ended_early, handed_low, ended_whole                       the ends of the program
-use Rattle.std.specs.Prelude.{ℕ, ◌+◌, ◌-◌, ◌≤◌, ◌<◌, ◌^◌, min, ◌≡◌, refl, Bool, true, false, List, take}
+use Rattle.std.specs.Prelude.{ℕ, ◌+◌, ◌≤◌, ◌<◌, ◌^◌, ◌≡◌, refl, Bool, true, false, List, take}
 use Rattle.std.proofs.Common.{arith, sym, ◌∙◌, ap, length-take-le, eq-eqb}
 use Rattle.std.proofs.Math.ListN.{length, length-append}
-use Rattle.std.proofs.lemmas.List.Edits.{sets}
-use Rattle.std.proofs.Math.Seq.{length-sets}
 use Rattle.orbits.proofs.laws.Truth.{clash}
 use Rattle.table.specs.Layout.{words}
 use Rattle.table.specs.Good.{Good}
 use Rattle.table.specs.Empty.{empty_table, emptied}
 use Rattle.table.specs.laws.Empty.{empty_good}
 use Rattle.text.specs.laws.Paste.{pasted_length}
-use Rattle.report.specs.declared.report.Window.{Window}
 use Rattle.report_lines.specs.Lines.{report}
-use Rattle.report.specs.Window.{window_text, window_of}
-use Rattle.report.specs.laws.Window.{window_size}
 use Rattle.records.specs.declared.records.Stop.{Stop}
 use Rattle.runs.specs.Run.{run}
 use Rattle.runs.proofs.laws.Theorem.{run_good}
@@ -28,7 +22,7 @@ use Rattle.records.specs.Lines.{stop_line}
 use Rattle.records.specs.laws.Lines.{lines_few, stop_few}
 use Rattle.records.specs.Blocks.{printed}
 use Rattle.job.specs.declared.Progress.{Progress}
-use Rattle.job.specs.Job.{output, Read, Ended}
+use Rattle.job.specs.Job.{fine, output, Read, Ended}
 use Rattle.text.specs.Paste.{Pasted}
 
 -- the last line has room, and all of it is handed over
@@ -47,66 +41,6 @@ module _ (next : ℕ) (stop : Stop) (line : List ℕ) {size : ℕ} {line' : List
 pub record Showing (t out : List ℕ) (from : ℕ) : Type 0 where
   pub within : from ≤ length (report t)
   pub buffer : 65536 ≡ length out
-
-pub showing_none : (t : List ℕ) {out : List ℕ} → 65536 ≡ length out → Showing t out 0
-showing_none t e = record { within = omega arith; buffer = e }
-
-module _ {t out : List ℕ} {from : ℕ} (k : Showing t out from) {w : Window} {out' : List ℕ}
-    (s : (w ≡ window_of from (length out) t) × (out' ≡ sets out 0 (window_text from (length out) t)) × (w.size < 2 ^ 31)) where
-  -- what the window shows
-  pub record ShowsPart : Type 0 where
-    pub size : w.size ≡ length (report t)
-    pub shown : w.shown ≡ min 65536 (length (report t) - from)
-    pub buffer : 65536 ≡ length out'
-    pub low : w.size < 2 ^ 31
-
-  pub shows_part : ShowsPart
-  shows_part =
-      let part = window_size t from out in
-      let shown : w.shown ≡ length (window_text from (length out) t) = ap (λ x. x.shown) s.0 in
-      let buffer = k.buffer in
-      record {
-        size = ap (λ x. x.size) s.0;
-        shown = omega arith;
-        buffer = k.buffer ∙ sym (ap length s.1 ∙ length-sets out 0 (window_text from (length out) t));
-        low = s.2;
-      }
-
-  pub part_room : w.shown ≤ length out'
-  part_room = let p = shows_part in let shown = p.shown in let buffer = p.buffer in omega arith
-
-  module _ {bytes : ℕ} (h : bytes ≡ length (take w.shown out')) where
-    -- what was handed over is what the window shows
-    pub part_handed : bytes ≡ min 65536 (length (report t) - from)
-    part_handed = h ∙ length-take-le w.shown out' part_room ∙ shows_part.shown
-
-    pub part_low : from + bytes < 2 ^ 31
-    part_low =
-        let p = shows_part in
-        let size = p.size in
-        let low = p.low in
-        let within = k.within in
-        let handed = part_handed in
-        omega arith
-
-    pub part_within : from + bytes ≤ length (report t)
-    part_within = let within = k.within in let handed = part_handed in omega arith
-
-    pub showing_more : from + bytes < w.size → Showing t out' (from + bytes) × (length (report t) - (from + bytes) < length (report t) - from)
-    showing_more q =
-        let p = shows_part in
-        let size = p.size in
-        let within = k.within in
-        let handed = part_handed in
-        (record { within = omega arith; buffer = p.buffer }, omega arith)
-
-    pub showing_all : w.size ≤ from + bytes → from + bytes ≡ length (report t)
-    showing_all q =
-        let p = shows_part in
-        let size = p.size in
-        let within = k.within in
-        let handed = part_handed in
-        omega arith
 
 -- the whole program, over a table t₁ that is filled first
 module _ (t₁ : List ℕ) {t₀ : List ℕ} (h : length t₁ ≡ words) (s : t₀ ≡ emptied t₁) where
@@ -132,9 +66,9 @@ module _ (t₁ : List ℕ) {t₀ : List ℕ} (h : length t₁ ≡ words) (s : t�
         rw (← start) (simp length-append (omega arith))
 
     -- the program's end, after so many bytes were handed over
-    ended : {bytes : ℕ} {fine : Bool} → bytes ≤ p.printed + length (stop_line p.next p.stop) + length (report t)
-        → (fine ≡ true → (bytes ≡ p.printed + length (stop_line p.next p.stop) + length (report t)) × (p.fine ≡ true))
-        → Ended empty_table t (record { fine = fine; came = p.came; read = p.read; printed = bytes })
+    ended : {bytes : ℕ} {f : Bool} → bytes ≤ p.printed + length (stop_line p.next p.stop) + length (report t)
+        → (f ≡ true → (bytes ≡ p.printed + length (stop_line p.next p.stop) + length (report t)) × (fine p.state ≡ true))
+        → Ended empty_table t (record { fine = f; came = p.came; read = p.read; printed = bytes })
     ended m w = record {
       input = k.input;
       all = k.all;
@@ -165,6 +99,6 @@ module _ (t₁ : List ℕ) {t₀ : List ℕ} (h : length t₁ ≡ words) (s : t�
       pub ended_line : Ended empty_table t (record { fine = false; came = p.came; read = p.read; printed = p.printed + line })
       ended_line = ended (omega arith) (λ e. absurd (clash e refl))
 
-      pub ended_whole : {lines : ℕ} {fine : Bool} → p.fine ≡ true → (fine ≡ true → lines ≡ length (report t)) → lines ≤ length (report t)
-          → Ended empty_table t (record { fine = fine; came = p.came; read = p.read; printed = p.printed + line + lines })
+      pub ended_whole : {lines : ℕ} {f : Bool} → fine p.state ≡ true → (f ≡ true → lines ≡ length (report t)) → lines ≤ length (report t)
+          → Ended empty_table t (record { fine = f; came = p.came; read = p.read; printed = p.printed + line + lines })
       ended_whole f b m = ended (omega arith) (λ e. let rest = b e in (omega arith, f))

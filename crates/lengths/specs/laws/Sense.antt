@@ -5,7 +5,7 @@
 --     answer_named, answer_mirror    the same of what the call answers
 --     lone_none                      an isolated vertex yields no ribbon
 --     length_back, taken_back        the way back along an edge takes as much
-use Rattle.std.specs.Prelude.{ℕ, ◌+◌, ◌*◌, ◌/◌, ◌<◌, ◌≤◌, ◌≡◌, refl, true, List, ◌≢◌}
+use Rattle.std.specs.Prelude.{ℕ, ◌+◌, ◌*◌, ◌/◌, ◌<◌, ◌≤◌, ◌≡◌, refl, true, List, ◌≢◌, Ok, Err}
 use native.Mathlib.Omega.{arith}
 use Rattle.std.proofs.Common.{sym, ◌∙◌, ap, ap₂}
 use Rattle.orbits.proofs.laws.Count.{count_le}
@@ -14,7 +14,6 @@ use Rattle.table.specs.Good.{Good}
 use Rattle.table.specs.Rotation.{Rotation, Lawful, rotation, live?, alone?, turns_of}
 use Rattle.table.specs.laws.Lawful.{good_lawful, rev_edge}
 use Rattle.table.specs.laws.Output.{done_declined}
-use Rattle.table.specs.declared.answer.Answer.TheVariants.{Done}
 use Rattle.tracing.specs.Step.{steps, step_type, mirror, back}
 use Rattle.tracing.proofs.laws.Step.{back_dart, back_type}
 use Rattle.tracing.specs.Walk.{walk}
@@ -25,9 +24,7 @@ use Rattle.tracing.proofs.laws.Totals.{total_most, total_named, total_mirror}
 use Rattle.tracing_walks.specs.laws.Stands.{Stands, stands_low}
 use Rattle.tracing_walks.specs.laws.Along.{walk_stands}
 use Rattle.weave.specs.Letters.{over, word_of, step_letters}
-use Rattle.weave.specs.declared.named.Named.{Named}
-use Rattle.weave.specs.declared.named.Named.TheVariants.{There, Refused}
-use Rattle.weave.specs.Calls.{named_step}
+use Rattle.weave.specs.Calls.{named_step, Named}
 use Rattle.weave.proofs.laws.Calls.{there_steps}
 use Rattle.weave_letters.specs.laws.Counts.{overs_back}
 use Rattle.lengths.specs.CutLength.{length_of, taken_by, lap, cut_length, cut_length_by, cut_length_of}
@@ -77,12 +74,12 @@ module _ (t : List ℕ) (g : Good t) where
 
 -- what the call answers, from any step of the ribbon, and from either sense
 
-module _ (t : List ℕ) (d k d' k' : ℕ) {s x : ℕ} (a : named_step t d k ≡ There s) (b : named_step t d' k' ≡ There x) where
+module _ (t : List ℕ) (d k d' k' : ℕ) {s x : ℕ} (a : named_step t d k ≡ Ok s) (b : named_step t d' k' ≡ Ok x) where
   stands : Stands t s
   stands = (there_steps t d k (sym a)).stands
 
   same_call : cut_length t s ≡ cut_length t x → cut_length_of t d k ≡ cut_length_of t d' k'
-  same_call e = ap (cut_length_by t) a ∙ ap Done e ∙ sym (ap (cut_length_by t) b)
+  same_call e = ap (cut_length_by t) a ∙ ap Ok e ∙ sym (ap (cut_length_by t) b)
 
   pub answer_named : has x (walk (rotation t) s) ≡ true → cut_length_of t d k ≡ cut_length_of t d' k'
   answer_named e = same_call (cut_named t stands.good s x (stands_low stands) e)
@@ -91,15 +88,15 @@ module _ (t : List ℕ) (d k d' k' : ℕ) {s x : ℕ} (a : named_step t d k ≡ 
   answer_mirror e = same_call (cut_mirror t stands.good s (stands_low stands) ∙ ap (cut_length t) (sym e))
 
 -- "An isolated vertex still yields no ribbon": a dart that has a cut length does not leave one, and is not the corner of one
-pub lone_none : (t : List ℕ) (d k n : ℕ) → cut_length_of t d k ≡ Done n → (v : ℕ) → alone? t v ≡ true → (leaves t d ≢ v) × (d ≢ lone_corner v)
+pub lone_none : (t : List ℕ) (d k n : ℕ) → cut_length_of t d k ≡ Ok n → (v : ℕ) → alone? t v ≡ true → (leaves t d ≢ v) × (d ≢ lone_corner v)
 lone_none t d k n a v alone = by (named_step t d k) refl a
   where
-    by : (m : Named) → m ≡ named_step t d k → cut_length_by t m ≡ Done n → (leaves t d ≢ v) × (d ≢ lone_corner v)
-    by (There s) e f =
+    by : (m : Named) → m ≡ named_step t d k → cut_length_by t m ≡ Ok n → (leaves t d ≢ v) × (d ≢ lone_corner v)
+    by (Ok s) e f =
         let p = there_steps t d k e in
         let word = p.word in
         let type = p.type in
         let low = stands_low p.stands in
         let half : s / 2 ≡ d = omega arith in
         ((good_lawful t p.stands.good).alone_bare v d alone (rw half at p.stands.live), λ q. omega arith)
-    by (Refused r) e f = absurd (done_declined f)
+    by (Err r) e f = absurd (done_declined f)

@@ -1,14 +1,12 @@
--- What the steps of a ribbon take up, summed along it: what a loop that does so knows, and how it ends.
---     cut_total                                                the cut length is what the steps take up, and the lap
---     taken_before, taken_most, taken_most_lem                 what the first n steps take up; the most that one step does
---     taken_step                                               a step's share, from the word of its edge
---     length_most                                              the length of an edge on the way
---     TakenUp                                                  the first n steps take up a sum
---     taken_none, taken_room, taken_more, taken_all            none yet, room for one more, one more, all and the lap
---     Summing                                                  the loop that sums what the steps take up
---     summing_none, summing_room, summing_more, summing_all    it begins, has room for one step more, goes on, ends
-use Rattle.std.specs.Prelude.{ℕ, zero, suc, ◌+◌, ◌*◌, ◌/◌, ◌%◌, ◌≤◌, ◌≡◌, refl, List, [], ◌∷◌, ◌≢◌, eqb}
-use Rattle.std.proofs.Common.{arith, add-one, ◌∙◌, ap}
+-- What the steps of a ribbon take up, summed along it.
+--     cut_total                              the cut length is what the steps take up, and the lap
+--     taken_before                           what the first n steps take up
+--     taken_most, taken_most_lem             the most that one step does
+--     taken_step                             a step's share, from the word of its edge
+--     length_most                            the length of an edge on the way
+--     walk_taken, taken_room, taken_more     the most that all steps do; room for one step more, and one step more
+use Rattle.std.specs.Prelude.{ℕ, ◌+◌, ◌*◌, ◌/◌, ◌%◌, ◌≤◌, ◌≡◌, refl, List, [], ◌∷◌, ◌++◌, eqb}
+use Rattle.std.proofs.Common.{arith, ◌∙◌, ap}
 use Rattle.table.specs.Layout.{edge_of, longest}
 use Rattle.table.specs.Rotation.{rotation}
 use Rattle.tracing.specs.Step.{step}
@@ -17,9 +15,9 @@ use Rattle.tracing.proofs.laws.Walk.{iterates}
 use Rattle.tracing.specs.Listing.{gather}
 use Rattle.tracing.specs.Met.{times, count_in, total}
 use Rattle.tracing.proofs.laws.Has.{count_in_append}
-use Rattle.tracing.proofs.laws.Totals.{total_last}
+use Rattle.tracing.proofs.laws.Totals.{total_append, total_most}
 use Rattle.tracing_walks.specs.laws.Stands.{Stands, stands_low}
-use Rattle.tracing_walks.specs.laws.Along.{Walking, walking_none, walking_more, walking_all, walking_few}
+use Rattle.tracing_walks.specs.laws.Along.{Along, walk_stands, walk_most}
 use Rattle.weave.specs.Letters.{over, letters_on, step_letters, letters}
 use Rattle.weave_letters.specs.laws.Crossing.{EdgeWord}
 use Rattle.weave_letters.specs.laws.Counts.{letters_few, overs_step}
@@ -58,48 +56,23 @@ taken_most = 66327
 pub taken_most_lem : {t : List ℕ} {x : ℕ} → Stands t x → taken_by t x ≤ taken_most
 taken_most_lem h = let few = (letters_few h).0 in let long = length_most h in omega arith
 
--- the first n steps from s take up `sum`
-pub record TakenUp (t : List ℕ) (s n sum : ℕ) : Type 0 where
-  pub total : sum ≡ taken_before t s n
-  pub most : sum ≤ taken_most * n
+-- what the steps of a ribbon take up
+pub walk_taken : {t : List ℕ} {s : ℕ} → Stands t s → total (taken_by t) (walk (rotation t) s) ≤ taken_most * 4096
+walk_taken {t} {s} h =
+    let sum = total_most (taken_by t) taken_most (walk (rotation t) s) (λ x e. taken_most_lem (walk_stands h e)) in
+    let few = walk_most h in
+    omega arith
 
-pub taken_none : {t : List ℕ} {s : ℕ} → TakenUp t s zero 0
-unfolding iterates total
-taken_none = record { total = refl; most = omega arith }
+-- a loop along a ribbon: the steps so far take up `sum`, and there is room for one step more
+pub taken_room : {t : List ℕ} {s : ℕ} {gone left : List ℕ} {at : ℕ} {left' : List ℕ} {sum x : ℕ} → Along t s gone left → left ≡ at ∷ left' → sum ≡ total (taken_by t) gone
+    → x ≡ taken_by t at → sum + x ≤ taken_most * 4096
+unfolding total
+taken_room {t} {gone = gone} {at = at} {left' = left'} a e k f =
+    let parts = total_append (taken_by t) gone (at ∷ left') in
+    let whole = ap (total (taken_by t)) (a.whole ∙ ap (λ l. gone ++ l) e) in
+    let most = walk_taken a.start in
+    omega arith
 
-module _ {t : List ℕ} {s n at sum x : ℕ} (w : Walking t s n at) (k : TakenUp t s n sum) (e : x ≡ taken_by t at) where
-  -- room for one step more
-  pub taken_room : sum + x ≤ taken_most * 4096
-  taken_room = let most = k.most in let few = walking_few w in let one = taken_most_lem w.there in omega arith
-
-  total_more : sum + x ≡ taken_before t s (n + 1)
-  total_more =
-      let total = k.total in
-      let next : taken_before t s (suc n) ≡ taken_before t s n + taken_by t at =
-      total_last (step (rotation t)) s (taken_by t) n ∙ ap (λ y. taken_before t s n + taken_by t y) w.along.here in
-      rw add-one (omega arith)
-
-  pub taken_more : TakenUp t s (n + 1) (sum + x)
-  taken_more = let most = k.most in let one = taken_most_lem w.there in record { total = total_more; most = omega arith }
-
-  pub taken_all : {next : ℕ} → next ≡ step (rotation t) at → next ≡ s → sum + x + lap ≡ cut_length t s
-  taken_all f b = rw (cut_total t s, walking_all w f b) (ap (λ y. y + lap) total_more)
-
--- the loop along a ribbon: what its steps so far take up is summed
-pub record Summing (t : List ℕ) (s at sum : ℕ) : Type 0 where
-  pub so_far : ℕ
-  pub walking : Walking t s so_far at
-  pub taken : TakenUp t s so_far sum
-
-pub summing_none : {t : List ℕ} {s : ℕ} → Stands t s → Summing t s s 0
-summing_none h = record { so_far = zero; walking = walking_none h; taken = taken_none }
-
-module _ {t : List ℕ} {s at sum x : ℕ} (k : Summing t s at sum) (e : x ≡ taken_by t at) where
-  pub summing_room : sum + x ≤ taken_most * 4096
-  summing_room = taken_room k.walking k.taken e
-
-  pub summing_more : {next : ℕ} → next ≡ step (rotation t) at → next ≢ s → Summing t s next (sum + x)
-  summing_more f b = record { so_far = k.so_far + 1; walking = walking_more k.walking f b; taken = taken_more k.walking k.taken e }
-
-  pub summing_all : {next : ℕ} → next ≡ step (rotation t) at → next ≡ s → sum + x + lap ≡ cut_length t s
-  summing_all f b = taken_all k.walking k.taken e f b
+pub taken_more : (t gone : List ℕ) (at : ℕ) {sum x : ℕ} → sum ≡ total (taken_by t) gone → x ≡ taken_by t at → sum + x ≡ total (taken_by t) (gone ++ at ∷ [])
+unfolding total
+taken_more t gone at k f = let parts = total_append (taken_by t) gone (at ∷ []) in omega arith

@@ -1,14 +1,7 @@
 -- `planner::planner_ask_insert_edge` meets its contract. What inserting edge e would do.
-use mathlib.Core.Path.{◌∙◌, ap, refl}
-use Rattle.table.specs.laws.Answers.{handed_on}
-use Rattle.forecasts.proofs.laws.Forecast.{asked_insertion}
-use Rattle.forecasts.specs.Number.{asked_code}
+use mathlib.Core.Path.{refl}
 use Rattle.forecasts.proofs.laws.Number.{asked_numbered}
 use Rattle.planner.proofs.planner_ask_insert_edge.Goals as goal
 
 pub asked_code-requires : goal.asked_code-requires
 asked_code-requires c = asked_numbered _ _ _ refl c.ask_insert_edge.ensures
-
-pub returns : goal.returns
-returns c = let asked = asked_insertion _ _ _ _ c.args.k c.args.strip c.ranges.k c.ask_insert_edge.ensures in
-    handed_on c.asked_code.type_inv (c.asked_code.ensures ∙ ap asked_code asked)

@@ -1,29 +1,26 @@
 -- A reader whose start is not on the walk of its step: it goes round that walk, and no step says that the walk ends.
 --     never_ends              no step says that the walk ends
 --     On, goes_on_lem, on_walk  the reader stays on the walk of its step
+use Rattle.reader_tally.specs.Forward.{Tallied}
+use Rattle.weave.specs.Calls.{Named}
 use Prim.Native.Nat.{ℕ, zero, suc, ◌+◌, ◌*◌, ◌/◌, ◌%◌}
 use native.Mathlib.Omega.{arith}
 use Rattle.std.proofs.Math.Path.{◌≡◌, subst}
-use Rattle.std.specs.Prelude.{refl, false, List, ◌≢◌}
+use Rattle.std.specs.Prelude.{refl, false, List, ◌≢◌, Ok, Err}
 use Rattle.std.proofs.Common.{sym}
 use Rattle.orbits.proofs.laws.Truth.{clash}
 use Rattle.orbits.specs.Reach.{Reach}
 use Rattle.orbits.proofs.laws.Reach.{reach_here, reach_one, reach_trans}
 use Rattle.table.specs.Rotation.{rotation}
 use Rattle.table.specs.laws.Lawful.{good_lawful}
-use Rattle.table.specs.declared.answer.Answer.TheVariants.{Done}
 use Rattle.tracing.specs.Step.{step}
 use Rattle.tracing.specs.Walk.{walk}
 use Rattle.tracing.specs.Listing.{has}
 use Rattle.tracing.proofs.laws.Place.{trace, trace_step}
 use Rattle.tracing.proofs.laws.Meets.{walk_has}
 use Rattle.tracing_walks.specs.laws.Stands.{stands_low}
-use Rattle.weave.specs.declared.named.Named.{Named}
-use Rattle.weave.specs.declared.named.Named.TheVariants.{There, Refused}
 use Rattle.reader.specs.declared.place.Step.{Step}
 use Rattle.reader_tally.specs.declared.tally.Tally.{Tally}
-use Rattle.reader_tally.specs.declared.tally.Tallied.{Tallied}
-use Rattle.reader_tally.specs.declared.tally.Tallied.TheVariants.{Brought, Kept}
 use Rattle.reader.specs.Reader.{begin_of, word_at, placed, stepped_by, tally_at, step_by, step_of}
 use Rattle.reader.specs.Walked.{steps_from}
 use Rattle.reader.specs.laws.Reader.{there_placed, begun_placed, each_step}
@@ -36,9 +33,9 @@ module _ (t : List ℕ) (at first : Step) (y : Tally) where
   goes_on_lem : (here : Step) (z : Tally) → On here → On (step_of t here first z).at
   goes_on_lem here z r = by (placed t here first) refl
     where
-      tallied : (s : ℕ) → There s ≡ placed t here first → (m : Tallied) → On (stepped_by t here first z s m).at
-      tallied s p (Kept q) = r
-      tallied s p (Brought w) =
+      tallied : (s : ℕ) → Ok s ≡ placed t here first → (m : Tallied) → On (stepped_by t here first z s m).at
+      tallied s p (Err q) = r
+      tallied s p (Ok w) =
           let h = there_placed p in
           let f = trace (rotation t) in
           let next = step (rotation t) s in
@@ -47,16 +44,16 @@ module _ (t : List ℕ) (at first : Step) (y : Tally) where
           subst (Reach f (word_at at)) word (reach_trans (subst (Reach f (word_at at)) (sym h.word) r) one)
 
       by : (n : Named) → n ≡ placed t here first → On (step_by t here first z n).at
-      by (There s) p = tallied s p (tally_at t first s z)
-      by (Refused q) p = r
+      by (Ok s) p = tallied s p (tally_at t first s z)
+      by (Err q) p = r
 
   on_walk : (n : ℕ) → On (steps_from t at first y n).at
   unfolding steps_from
   on_walk zero = reach_here
   on_walk (suc n) = goes_on_lem (steps_from t at first y n).at (steps_from t at first y n).tally (on_walk n)
 
-  pub never_ends : begin_of t at.dart at.kind ≡ Done 0 → has (word_at first) (walk (rotation t) (word_at at)) ≡ false
-      → (n : ℕ) → (steps_from t at first y n).answer ≢ Done 1
+  pub never_ends : begin_of t at.dart at.kind ≡ Ok 0 → has (word_at first) (walk (rotation t) (word_at at)) ≡ false
+      → (n : ℕ) → (steps_from t at first y n).answer ≢ Ok 1
   unfolding steps_from
   never_ends b off zero e = let z : ◌≡◌ {A = ℕ} 0 1 = cc in omega arith
   never_ends b off (suc n) e =

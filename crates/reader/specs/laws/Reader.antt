@@ -10,7 +10,8 @@
 --     Placed, placed_there, there_placed                    a reader that stands at a live step, and began at one
 --     moved_on, step_refused, step_kept, step_moved         the ends of a step
 --     Settled, settled                                      a step goes on, or leaves reader and tally as they were
-use Rattle.std.specs.Prelude.{ℕ, ◌+◌, ◌*◌, ◌/◌, ◌%◌, ◌<◌, ◌≤◌, ◌≡◌, refl, Bool, true, false, ◌&&◌, List, ltb, eqb}
+use Rattle.table.specs.Answers.{Answer}
+use Rattle.std.specs.Prelude.{ℕ, ◌+◌, ◌*◌, ◌/◌, ◌%◌, ◌<◌, ◌≤◌, ◌≡◌, refl, Bool, true, false, ◌&&◌, List, ltb, eqb, Ok, Err}
 use Rattle.std.proofs.Common.{arith, sym, ◌∙◌, ap}
 use Rattle.std.proofs.Math.Bool.{and-true}
 use borrow.Author.Tests.{lt-ltb, le-ltb, ltb-true, eqb-true, eq-eqb, ne_eqb}
@@ -21,21 +22,16 @@ use Rattle.table.specs.laws.Rotation.{yes_live, not_live, case_yes}
 use Rattle.table.specs.Check.{good?}
 use Rattle.table.specs.laws.Check.{good_case}
 use Rattle.table.specs.laws.Output.{done_same, done_declined}
-use Rattle.table.specs.declared.answer.Answer.TheVariants.{Done, Declined}
 use Rattle.table.specs.declared.answer.Refusal.{Refusal}
 use Rattle.table.specs.declared.answer.Refusal.TheVariants.{Torn, NoSuchName, Absent, Overturned}
 use Rattle.tracing.specs.Step.{step}
 use Rattle.tracing.specs.Listing.{bit}
 use Rattle.tracing_walks.specs.laws.Stands.{Stands}
-use Rattle.weave.specs.declared.named.Named.{Named}
-use Rattle.weave.specs.declared.named.Named.TheVariants.{There, Refused}
-use Rattle.weave.specs.Calls.{named_step}
+use Rattle.weave.specs.Calls.{named_step, Named}
 use Rattle.reader.specs.declared.place.Step.{Step}
 use Rattle.reader_tally.specs.declared.tally.Tally.{Tally}
-use Rattle.reader_tally.specs.declared.tally.Tallied.{Tallied}
-use Rattle.reader_tally.specs.declared.tally.Tallied.TheVariants.{Brought, Kept}
 use Rattle.reader.specs.declared.walk.Stepped.{Stepped}
-use Rattle.reader_tally.specs.Forward.{step_tally, tally_of}
+use Rattle.reader_tally.specs.Forward.{step_tally, tally_of, Tallied}
 use Rattle.reader_tally.proofs.laws.Forward.{brought_is, kept_is}
 use Rattle.reader.specs.Reader.{begin_by, begin_of, word_at, step_at, is_step, placed, stays, ends_at, moved_to, stepped_by, tally_at, step_by, step_of, EachStep}
 
@@ -48,25 +44,25 @@ placed_begun t s = rw (and_self (is_step s.dart s.kind), and_self (live? t s.dar
     and_self true = refl
     and_self false = refl
 
-begun_refused : {r : Refusal} (n : Named) → begin_by n ≡ Declined r → n ≡ Refused r
-begun_refused (There x) f = absurd (done_declined (sym f))
-begun_refused {r} (Refused q) f = let same : q ≡ r = cc in ap Refused same
+begun_refused : {r : Refusal} (n : Named) → begin_by n ≡ Err r → n ≡ Err r
+begun_refused (Ok x) f = absurd (done_declined (sym f))
+begun_refused {r} (Err q) f = let same : q ≡ r = cc in ap Err same
 
-pub begun_named : (n : Named) → begin_by n ≡ Done 0 → (x : ℕ) × (There x ≡ n)
-begun_named (There x) e = (x, refl)
-begun_named (Refused r) e = absurd (done_declined e)
+pub begun_named : (n : Named) → begin_by n ≡ Ok 0 → (x : ℕ) × (Ok x ≡ n)
+begun_named (Ok x) e = (x, refl)
+begun_named (Err r) e = absurd (done_declined e)
 
 -- and so a reader that could not be made hands out no step
-begun_declined : (t : List ℕ) (s : Step) (y : Tally) {r : Refusal} → begin_of t s.dart s.kind ≡ Declined r → step_of t s s y ≡ stays s y r
+begun_declined : (t : List ℕ) (s : Step) (y : Tally) {r : Refusal} → begin_of t s.dart s.kind ≡ Err r → step_of t s s y ≡ stays s y r
 begun_declined t s y e = ap (step_by t s s y) (placed_begun t s ∙ begun_refused (named_step t s.dart s.kind) e)
 
 -- the ends of the making
 
 module _ (t : List ℕ) (d k : ℕ) {n : Named} (e : n ≡ named_step t d k) where
-  pub begin_refused : {r : Refusal} → n ≡ Refused r → Declined r ≡ begin_of t d k
+  pub begin_refused : {r : Refusal} → n ≡ Err r → Err r ≡ begin_of t d k
   begin_refused f = sym (ap begin_by (sym e ∙ f))
 
-  pub begin_there : {s : ℕ} → n ≡ There s → Done 0 ≡ begin_of t d k
+  pub begin_there : {s : ℕ} → n ≡ Ok s → Ok 0 ≡ begin_of t d k
   begin_there f = sym (ap begin_by (sym e ∙ f))
 
 -- a step that has a name
@@ -76,38 +72,38 @@ in_range d k h l = rw (lt-ltb d darts h, lt-ltb k 2 (omega arith))
 -- the ends of the placing
 
 module _ (t : List ℕ) (at first : Step) where
-  pub placed_torn : good? t ≡ false → Refused Torn ≡ placed t at first
+  pub placed_torn : good? t ≡ false → Err Torn ≡ placed t at first
   unfolding placed
   placed_torn g = rw g
 
   module _ (g : good? t ≡ true) where
-    pub placed_past : darts ≤ at.dart → Refused NoSuchName ≡ placed t at first
+    pub placed_past : darts ≤ at.dart → Err NoSuchName ≡ placed t at first
     unfolding placed
     placed_past h = rw (g, le-ltb at.dart darts h)
 
-    pub placed_type : at.dart < darts → 1 < at.kind → Refused NoSuchName ≡ placed t at first
+    pub placed_type : at.dart < darts → 1 < at.kind → Err NoSuchName ≡ placed t at first
     unfolding placed
     placed_type h l = rw (g, lt-ltb at.dart darts h, le-ltb at.kind 2 (omega arith))
 
     module _ (n : is_step at.dart at.kind ≡ true) where
-      pub first_past : darts ≤ first.dart → Refused NoSuchName ≡ placed t at first
+      pub first_past : darts ≤ first.dart → Err NoSuchName ≡ placed t at first
       unfolding placed
       first_past h = rw (g, n, le-ltb first.dart darts h)
 
-      pub first_type : first.dart < darts → 1 < first.kind → Refused NoSuchName ≡ placed t at first
+      pub first_type : first.dart < darts → 1 < first.kind → Err NoSuchName ≡ placed t at first
       unfolding placed
       first_type h l = rw (g, n, lt-ltb first.dart darts h, le-ltb first.kind 2 (omega arith))
 
       module _ (m : is_step first.dart first.kind ≡ true) where
-        pub placed_dead : edge_word t (edge_of at.dart) ≡ 0 → Refused Absent ≡ placed t at first
+        pub placed_dead : edge_word t (edge_of at.dart) ≡ 0 → Err Absent ≡ placed t at first
         unfolding placed
         placed_dead z = rw (g, n, m, not_live t at.dart (λ v. v.on z))
 
-        pub first_dead : at.dart < darts → (edge_word t (edge_of at.dart) ≡ 0 → ⊥) → edge_word t (edge_of first.dart) ≡ 0 → Refused Absent ≡ placed t at first
+        pub first_dead : at.dart < darts → (edge_word t (edge_of at.dart) ≡ 0 → ⊥) → edge_word t (edge_of first.dart) ≡ 0 → Err Absent ≡ placed t at first
         unfolding placed
         first_dead h on z = rw (g, n, m, yes_live t at.dart (record { low = h; on = on }), not_live t first.dart (λ v. v.on z))
 
-        pub placed_there : live? t at.dart ≡ true → live? t first.dart ≡ true → There (word_at at) ≡ placed t at first
+        pub placed_there : live? t at.dart ≡ true → live? t first.dart ≡ true → Ok (word_at at) ≡ placed t at first
         unfolding placed
         placed_there l f = rw (g, n, m, l, f)
 
@@ -118,7 +114,7 @@ pub record Placed (t : List ℕ) (at first : Step) (s : ℕ) : Type 0 where
   pub first_low : first.dart < darts
   pub first_type : first.kind < 2
 
-pub there_placed : {t : List ℕ} {at first : Step} {s : ℕ} → There s ≡ placed t at first → Placed t at first s
+pub there_placed : {t : List ℕ} {at first : Step} {s : ℕ} → Ok s ≡ placed t at first → Placed t at first s
 unfolding placed
 there_placed {t} {at} {first} {s} e = elim (truth (good? t)) [
   | fails g ↦ absurd (other (rw g at e))
@@ -130,7 +126,7 @@ there_placed {t} {at} {first} {s} e = elim (truth (good? t)) [
           let here = both_left (is_step at.dart at.kind) (is_step first.dart first.kind) n in
           let start = both_right (is_step at.dart at.kind) (is_step first.dart first.kind) n in
           let low = ltb-true at.kind 2 (both_right (ltb at.dart darts) (ltb at.kind 2) here) in
-          let f : There s ≡ There (2 * at.dart + at.kind) = rw (g, n, l) at e in
+          let f : ◌≡◌ {A = Named} (Ok s) (Ok (2 * at.dart + at.kind)) = rw (g, n, l) at e in
           let word : s ≡ 2 * at.dart + at.kind = cc in
           let half : s / 2 ≡ at.dart = omega arith in
           record {
@@ -143,17 +139,17 @@ there_placed {t} {at} {first} {s} e = elim (truth (good? t)) [
   ]
 ]
   where
-    other : {r : Refusal} → There s ≡ Refused r → ⊥
+    other : {r : Refusal} → ◌≡◌ {A = Named} (Ok s) (Err r) → ⊥
     other f = let z : ◌≡◌ {A = ℕ} 0 1 = cc in omega arith
 
 -- a reader that can be made
-pub begun_placed : (t : List ℕ) (s : Step) → begin_of t s.dart s.kind ≡ Done 0 → Placed t s s (word_at s)
+pub begun_placed : (t : List ℕ) (s : Step) → begin_of t s.dart s.kind ≡ Ok 0 → Placed t s s (word_at s)
 begun_placed t s b =
     let n = begun_named (named_step t s.dart s.kind) b in
     let h = there_placed (n.1 ∙ sym (placed_begun t s)) in rw h.word at h
 
 -- wherever it has come, it is placed as one that is made there
-placed_made : (t : List ℕ) (at first : Step) → begin_of t first.dart first.kind ≡ Done 0 → placed t at first ≡ named_step t at.dart at.kind
+placed_made : (t : List ℕ) (at first : Step) → begin_of t first.dart first.kind ≡ Ok 0 → placed t at first ≡ named_step t at.dart at.kind
 unfolding placed named_step
 placed_made t at first b =
     let h = begun_placed t first b in
@@ -162,108 +158,108 @@ placed_made t at first b =
     let live : live? t first.dart ≡ true = rw half at h.stands.live in
     rw (in_range first.dart first.kind h.first_low (omega arith), live, and-true (is_step at.dart at.kind), and-true (live? t at.dart))
 
-module _ (t : List ℕ) (y : Tally) (at first : Step) (b : begin_of t first.dart first.kind ≡ Done 0) where
-  made_declined : {r : Refusal} → begin_of t at.dart at.kind ≡ Declined r → step_of t at first y ≡ stays at y r
+module _ (t : List ℕ) (y : Tally) (at first : Step) (b : begin_of t first.dart first.kind ≡ Ok 0) where
+  made_declined : {r : Refusal} → begin_of t at.dart at.kind ≡ Err r → step_of t at first y ≡ stays at y r
   made_declined e = ap (step_by t at first y) (placed_made t at first b ∙ begun_refused (named_step t at.dart at.kind) e)
 
-  made_overturned : begin_of t at.dart at.kind ≡ Done 0 → {r : Refusal} → (step_of t at first y).answer ≡ Declined r → r ≡ Overturned
+  made_overturned : begin_of t at.dart at.kind ≡ Ok 0 → {r : Refusal} → (step_of t at first y).answer ≡ Err r → r ≡ Overturned
   made_overturned h {r} = by (placed t at first) ((begun_named (named_step t at.dart at.kind) h).1 ∙ sym (placed_made t at first b))
     where
-      tallied : (s : ℕ) (m : Tallied) → m ≡ tally_at t first s y → (stepped_by t at first y s m).answer ≡ Declined r → r ≡ Overturned
-      tallied s (Brought z) g e = absurd (done_declined (sym e))
-      tallied s (Kept q) g e = let same : q ≡ r = cc in sym same ∙ kept_is t s (ends_at (step (rotation t) s) first) y g
+      tallied : (s : ℕ) (m : Tallied) → m ≡ tally_at t first s y → (stepped_by t at first y s m).answer ≡ Err r → r ≡ Overturned
+      tallied s (Ok z) g e = absurd (done_declined (sym e))
+      tallied s (Err q) g e = let same : q ≡ r = cc in sym same ∙ kept_is t s (ends_at (step (rotation t) s) first) y g
 
-      by : (n : Named) {x : ℕ} → There x ≡ n → (step_by t at first y n).answer ≡ Declined r → r ≡ Overturned
-      by (There s) p e = tallied s (tally_at t first s y) refl e
-      by (Refused q) p e = let z : ◌≡◌ {A = ℕ} 0 1 = cc in absurd (let no : ⊥ = omega arith in no)
+      by : (n : Named) {x : ℕ} → Ok x ≡ n → (step_by t at first y n).answer ≡ Err r → r ≡ Overturned
+      by (Ok s) p e = tallied s (tally_at t first s y) refl e
+      by (Err q) p e = let z : ◌≡◌ {A = ℕ} 0 1 = cc in absurd (let no : ⊥ = omega arith in no)
 
 -- the ends of a step
 
-pub moved_on : (next : ℕ) (first : Step) (z : Tally) {end : Bool} → end ≡ ends_at next first → record { answer = Done (bit end); at = step_at next; tally = z } ≡ moved_to next first z
-moved_on next first z e = ap (λ b. record { answer = Done (bit b); at = step_at next; tally = z }) e
+pub moved_on : (next : ℕ) (first : Step) (z : Tally) {end : Bool} → end ≡ ends_at next first → record { answer = Ok (bit end); at = step_at next; tally = z } ≡ moved_to next first z
+moved_on next first z e = ap (λ b. record { answer = Ok (bit b); at = step_at next; tally = z }) e
 
 module _ (t : List ℕ) (at first : Step) (y : Tally) {n : Named} (e : n ≡ placed t at first) where
-  pub step_refused : {r : Refusal} {q : Stepped} → n ≡ Refused r → q ≡ stays at y r → q ≡ step_of t at first y
+  pub step_refused : {r : Refusal} {q : Stepped} → n ≡ Err r → q ≡ stays at y r → q ≡ step_of t at first y
   step_refused f h = h ∙ sym (ap (step_by t at first y) (sym e ∙ f))
 
-  module _ {s next : ℕ} {last : Bool} {m : Tallied} (f : n ≡ There s) (h : next ≡ step (rotation t) s) (l : last ≡ ends_at next first) (g : m ≡ tally_of t s last y) where
+  module _ {s next : ℕ} {last : Bool} {m : Tallied} (f : n ≡ Ok s) (h : next ≡ step (rotation t) s) (l : last ≡ ends_at next first) (g : m ≡ tally_of t s last y) where
     stepped : stepped_by t at first y s m ≡ step_of t at first y
     stepped =
         let own : last ≡ ends_at (step (rotation t) s) first = l ∙ ap (λ x. ends_at x first) h in
         ap (stepped_by t at first y s) (g ∙ ap (λ b. tally_of t s b y) own) ∙ sym (ap (step_by t at first y) (sym e ∙ f))
 
-    pub step_kept : {r : Refusal} {q : Stepped} → m ≡ Kept r → q ≡ stays at y r → q ≡ step_of t at first y
+    pub step_kept : {r : Refusal} {q : Stepped} → m ≡ Err r → q ≡ stays at y r → q ≡ step_of t at first y
     step_kept k i = i ∙ sym (ap (stepped_by t at first y s) k) ∙ stepped
 
-    pub step_moved : {z : Tally} {q : Stepped} → m ≡ Brought z → q ≡ moved_to next first z → q ≡ step_of t at first y
+    pub step_moved : {z : Tally} {q : Stepped} → m ≡ Ok z → q ≡ moved_to next first z → q ≡ step_of t at first y
     step_moved {z} k i = i ∙ ap (λ x. moved_to x first z) h ∙ sym (ap (stepped_by t at first y s) k) ∙ stepped
 
 -- a step goes on, or it leaves the reader and the tally as they were
 data Settled (at : Step) (y : Tally) (q : Stepped) : Type 0 where
-  goes : (n : ℕ) → q.answer ≡ Done n → Settled at y q
+  goes : (n : ℕ) → q.answer ≡ Ok n → Settled at y q
   rests : (r : Refusal) → q ≡ stays at y r → Settled at y q
 
 settled : (t : List ℕ) (at first : Step) (y : Tally) → Settled at y (step_of t at first y)
 settled t at first y = by (placed t at first)
   where
     tallied : (s : ℕ) (m : Tallied) → Settled at y (stepped_by t at first y s m)
-    tallied s (Brought z) = goes _ refl
-    tallied s (Kept r) = rests r refl
+    tallied s (Ok z) = goes _ refl
+    tallied s (Err r) = rests r refl
 
     by : (n : Named) → Settled at y (step_by t at first y n)
-    by (There s) = tallied s (tally_at t first s y)
-    by (Refused r) = rests r refl
+    by (Ok s) = tallied s (tally_at t first s y)
+    by (Err r) = rests r refl
 
 module _ (t : List ℕ) (y : Tally) where
-  declined_rests : (at first : Step) {r : Refusal} → (step_of t at first y).answer ≡ Declined r → step_of t at first y ≡ stays at y r
+  declined_rests : (at first : Step) {r : Refusal} → (step_of t at first y).answer ≡ Err r → step_of t at first y ≡ stays at y r
   declined_rests at first {r} e = elim (settled t at first y) [
     | goes n f ↦ absurd (done_declined (sym e ∙ f))
     | rests q f ↦
-        let told : Declined q ≡ Declined r = sym (ap (λ s. s.answer) f) ∙ e in
+        let told : ◌≡◌ {A = Answer} (Err q) (Err r) = sym (ap (λ s. s.answer) f) ∙ e in
         let same : q ≡ r = cc in f ∙ ap (stays at y) same
   ]
 
-  ends_back : (at first : Step) → (step_of t at first y).answer ≡ Done 1 → (step_of t at first y).at ≡ first
+  ends_back : (at first : Step) → (step_of t at first y).answer ≡ Ok 1 → (step_of t at first y).at ≡ first
   ends_back at first = by (placed t at first) refl
     where
-      moved : (next : ℕ) → first.kind < 2 → Done (bit (eqb next (word_at first))) ≡ Done 1 → step_at next ≡ first
+      moved : (next : ℕ) → first.kind < 2 → ◌≡◌ {A = Answer} (Ok (bit (eqb next (word_at first)))) (Ok 1) → step_at next ≡ first
       moved next low e = elim (truth (eqb next (word_at first))) [
         | holds g ↦
             let same = eqb-true next (word_at first) g in
             let dart : next / 2 ≡ first.dart = omega arith in
             let kind : next % 2 ≡ first.kind = omega arith in (λ i. record { dart = dart i; kind = kind i })
-        | fails g ↦ let told : Done 0 ≡ Done 1 = rw g at e in let z : ◌≡◌ {A = ℕ} 0 1 = cc in absurd (let no : ⊥ = omega arith in no)
+        | fails g ↦ let told : ◌≡◌ {A = Answer} (Ok 0) (Ok 1) = rw g at e in let z : ◌≡◌ {A = ℕ} 0 1 = cc in absurd (let no : ⊥ = omega arith in no)
       ]
 
-      tallied : (s : ℕ) → first.kind < 2 → (m : Tallied) → (stepped_by t at first y s m).answer ≡ Done 1 → (stepped_by t at first y s m).at ≡ first
-      tallied s low (Brought z) e = moved (step (rotation t) s) low e
-      tallied s low (Kept r) e = absurd (done_declined e)
+      tallied : (s : ℕ) → first.kind < 2 → (m : Tallied) → (stepped_by t at first y s m).answer ≡ Ok 1 → (stepped_by t at first y s m).at ≡ first
+      tallied s low (Ok z) e = moved (step (rotation t) s) low e
+      tallied s low (Err r) e = absurd (done_declined e)
 
-      by : (n : Named) → n ≡ placed t at first → (step_by t at first y n).answer ≡ Done 1 → (step_by t at first y n).at ≡ first
-      by (There s) p e = tallied s (there_placed p).first_type (tally_at t first s y) e
-      by (Refused r) p e = absurd (done_declined e)
+      by : (n : Named) → n ≡ placed t at first → (step_by t at first y n).answer ≡ Ok 1 → (step_by t at first y n).at ≡ first
+      by (Ok s) p e = tallied s (there_placed p).first_type (tally_at t first s y) e
+      by (Err r) p e = absurd (done_declined e)
 
 -- an accepted step's answer says whether the lap is in the tally
-pub step_tallied : (t : List ℕ) (at first : Step) (y : Tally) (n : ℕ) → (step_of t at first y).answer ≡ Done n
+pub step_tallied : (t : List ℕ) (at first : Step) (y : Tally) (n : ℕ) → (step_of t at first y).answer ≡ Ok n
     → (step_of t at first y).tally ≡ step_tally t (word_at at) (eqb n 1) y
 step_tallied t at first y n = by (placed t at first) refl
   where
-    told : (b : Bool) → Done (bit b) ≡ Done n → b ≡ eqb n 1
+    told : (b : Bool) → ◌≡◌ {A = Answer} (Ok (bit b)) (Ok n) → b ≡ eqb n 1
     told true e = sym (eq-eqb n 1 (done_same e))
     told false e = let none = done_same e in sym (ne_eqb n 1 (λ f. omega arith))
 
-    tallied : (s : ℕ) (m : Tallied) → m ≡ tally_at t first s y → (stepped_by t at first y s m).answer ≡ Done n
+    tallied : (s : ℕ) (m : Tallied) → m ≡ tally_at t first s y → (stepped_by t at first y s m).answer ≡ Ok n
         → (stepped_by t at first y s m).tally ≡ step_tally t s (eqb n 1) y
-    tallied s (Brought z) g e =
+    tallied s (Ok z) g e =
         let last = ends_at (step (rotation t) s) first in
         brought_is t s last y g ∙ ap (λ b. step_tally t s b y) (told last e)
-    tallied s (Kept r) g e = absurd (done_declined e)
+    tallied s (Err r) g e = absurd (done_declined e)
 
-    by : (m : Named) → m ≡ placed t at first → (step_by t at first y m).answer ≡ Done n
+    by : (m : Named) → m ≡ placed t at first → (step_by t at first y m).answer ≡ Ok n
         → (step_by t at first y m).tally ≡ step_tally t (word_at at) (eqb n 1) y
-    by (There s) p e =
+    by (Ok s) p e =
         tallied s (tally_at t first s y) refl e ∙ ap (λ x. step_tally t x (eqb n 1) y) (there_placed p).word
-    by (Refused r) p e = absurd (done_declined e)
+    by (Err r) p e = absurd (done_declined e)
 
 pub each_step : (t : List ℕ) (y : Tally) → EachStep t y
 each_step t y = record {

@@ -5,11 +5,12 @@
 --     one_step                                one step that is not declined
 --     Reads, reads_none, reads_more, reads    what n steps have come to: the place, the tally, the steps handed out
 --     lapped, tallied                         the lap once the walk is over; the tally of the first n steps
+--     letters_before, before_suc              their letters; those of one step more
 --     end_at                                  the step says that the walk ends exactly at the walk's end
 use Prim.Native.Nat.{ℕ, zero, suc, ◌+◌, ◌*◌, ◌/◌, ◌%◌, ◌<◌, ◌≤◌}
 use native.Mathlib.Omega.{arith}
 use Rattle.std.proofs.Math.Decide.{ℕ_discrete}
-use Rattle.std.specs.Prelude.{◌≡◌, refl, List, [], ◌∷◌, ◌++◌, eqb}
+use Rattle.std.specs.Prelude.{◌≡◌, refl, List, [], ◌∷◌, ◌++◌, eqb, Ok}
 use Rattle.std.proofs.Math.Path.{sym, ap, ap₂}
 use Rattle.std.proofs.Common.{◌∙◌, lt-ltb, eq-eqb, ne_eqb}
 use Rattle.std.proofs.Math.Bool.{true}
@@ -20,17 +21,15 @@ use Rattle.table.specs.Rotation.{rotation, live?}
 use Rattle.table.specs.laws.Rotation.{live_yes}
 use Rattle.table.specs.laws.Lawful.{good_lawful}
 use Rattle.table.specs.laws.Check.{good_yes}
-use Rattle.table.specs.declared.answer.Answer.TheVariants.{Done}
 use Rattle.tracing.specs.Step.{step, steps}
 use Rattle.tracing.specs.Walk.{walk}
 use Rattle.tracing.proofs.laws.Walk.{iterates, run_suc, run_length, walk_run, walk_period, walk_period_le}
 use Rattle.tracing.specs.Listing.{gather, bit}
+use Rattle.tracing.proofs.laws.Listing.{gather_one, gather_append}
 use Rattle.tracing.proofs.laws.Totals.{total_last}
 use Rattle.tracing_walks.specs.laws.Stands.{Stands, stands_low, stands_step}
-use Rattle.weave.specs.declared.named.Named.TheVariants.{There}
 use Rattle.weave.specs.Letters.{over, under, step_letters, letters}
 use Rattle.weave_letters.specs.laws.Counts.{letters_few}
-use Rattle.weave_letters.specs.laws.Passing.{letters_before, before_suc}
 use Rattle.weave.specs.Ribbon.{some}
 use Rattle.weave.specs.Calls.{named_step}
 use Rattle.weave.proofs.laws.Calls.{there_steps}
@@ -45,6 +44,15 @@ use Rattle.reader_tally.proofs.laws.Forward.{lap_most}
 use Rattle.reader.specs.Reader.{begin_of, word_at, step_at, ends_at, moved_to, step_by, step_of}
 use Rattle.reader.specs.laws.Reader.{in_range, placed_there, begun_named, begun_placed}
 use Rattle.reader.specs.Walked.{steps_from, after_steps, handed, Walked}
+
+-- the letters of the first n steps from s
+abbrev letters_before : List ℕ → ℕ → ℕ → List ℕ
+letters_before t s n = gather (step_letters t) (iterates (step (rotation t)) s n)
+
+before_suc : (t : List ℕ) (s n : ℕ) → letters_before t s (suc n) ≡ letters_before t s n ++ step_letters t (iter (step (rotation t)) n s)
+before_suc t s n =
+    let f = step (rotation t) in
+    rw (run_suc f s n, gather_append (step_letters t) (iterates f s n) (iter f n s ∷ []), gather_one (step_letters t) (iter f n s))
 
 module _ (t : List ℕ) (first : Step) (start : Stands t (word_at first)) (type : first.kind < 2)
     (p : Period (step (rotation t)) (word_at first)) (few : p.steps ≤ steps)
@@ -65,7 +73,7 @@ module _ (t : List ℕ) (first : Step) (start : Stands t (word_at first)) (type 
       let here = in_range (x / 2) (x % 2) (live_yes t (x / 2) h.live).low (omega arith) in
       let there = placed_there t (step_at x) first (sym (good_yes t h.good)) here (in_range first.dart first.kind (live_yes t first.dart begun).low (omega arith)) h.live begun in
       let word : 2 * (x / 2) + x % 2 ≡ x = omega arith in
-      ap (step_by t (step_at x) first y) (sym there ∙ ap There word) ∙ rw fits
+      ap (step_by t (step_at x) first y) (sym there ∙ ap Ok word) ∙ rw fits
 
   -- the lap, once n steps have been all of the walk's
   abbrev lapped : ℕ → ℕ
@@ -200,19 +208,19 @@ module _ (t : List ℕ) (first : Step) (start : Stands t (word_at first)) (type 
         ends = λ n h.
             let l : n < p.steps = omega arith in
             rw size_is
-            (ap (λ r. r.answer) (reads_step n (reads n (omega arith)) l) ∙ ap (λ b. Done (bit b)) (end_at n l));
+            (ap (λ r. r.answer) (reads_step n (reads n (omega arith)) l) ∙ ap (λ b. Ok (bit b)) (end_at n l));
         again = rw size_is (last.at ∙ ap step_at p.back ∙ sym first_at);
         tally = rw (size_is, cut_total t s, all) (rw lap-is at last.tally);
       }
 
 -- a step that a reader can be made at
-begun_there : (t : List ℕ) (s : Step) → begin_of t s.dart s.kind ≡ Done 0 → named_step t s.dart s.kind ≡ There (word_at s)
+begun_there : (t : List ℕ) (s : Step) → begin_of t s.dart s.kind ≡ Ok 0 → named_step t s.dart s.kind ≡ Ok (word_at s)
 begun_there t s b =
     let n = begun_named (named_step t s.dart s.kind) b in
-    sym n.1 ∙ ap There (there_steps t s.dart s.kind n.1).word
+    sym n.1 ∙ ap Ok (there_steps t s.dart s.kind n.1).word
 
 -- a reader that can be made
-pub reader_walks : (t : List ℕ) (first : Step) → begin_of t first.dart first.kind ≡ Done 0 → Walked t first
+pub reader_walks : (t : List ℕ) (first : Step) → begin_of t first.dart first.kind ≡ Ok 0 → Walked t first
 reader_walks t first b =
     let h = begun_placed t first b in
     let start = h.stands in
@@ -224,9 +232,9 @@ reader_walks t first b =
     walked t first start h.first_type p few (walk_run R (word_at first) p few)
 
 -- and the call for the cut length answers what the tally then has
-pub tally_cut : (t : List ℕ) (first : Step) → begin_of t first.dart first.kind ≡ Done 0
-    → cut_length_of t first.dart first.kind ≡ Done (after_steps t first (length (walk (rotation t) (word_at first)))).tally.length
+pub tally_cut : (t : List ℕ) (first : Step) → begin_of t first.dart first.kind ≡ Ok 0
+    → cut_length_of t first.dart first.kind ≡ Ok (after_steps t first (length (walk (rotation t) (word_at first)))).tally.length
 tally_cut t first b =
     let there = begun_there t first b in
     let tally = (reader_walks t first b).tally in
-    ap (cut_length_by t) there ∙ ap (λ y. Done y.length) (sym tally)
+    ap (cut_length_by t) there ∙ ap (λ y. Ok y.length) (sym tally)

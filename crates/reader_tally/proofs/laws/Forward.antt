@@ -3,7 +3,7 @@
 --     brought                                             the tally brought forward
 --     bit_most, lap_most                                  the lap, as the code has it, is at most 320
 --     tally_forward, brought_is                           what the code adds is the step's tally
-use Rattle.std.specs.Prelude.{ℕ, ◌+◌, ◌-◌, ◌*◌, ◌%◌, ◌<◌, ◌≤◌, ◌≡◌, refl, Bool, true, false, List}
+use Rattle.std.specs.Prelude.{ℕ, ◌+◌, ◌-◌, ◌*◌, ◌%◌, ◌<◌, ◌≤◌, ◌≡◌, refl, Bool, true, false, List, Ok, Err}
 use Rattle.std.proofs.Common.{arith, ◌∙◌}
 use borrow.Author.Tests.{lt-ltb, le-ltb}
 use Rattle.orbits.proofs.laws.Truth.{truth, holds, fails}
@@ -16,34 +16,32 @@ use Rattle.weave_letters.specs.laws.Crossing.{EdgeWord}
 use Rattle.weave_letters.specs.laws.Counts.{unders_left}
 use Rattle.lengths.specs.CutLength.{length_of, lap}
 use Rattle.reader_tally.specs.declared.tally.Tally.{Tally}
-use Rattle.reader_tally.specs.declared.tally.Tallied.{Tallied}
-use Rattle.reader_tally.specs.declared.tally.Tallied.TheVariants.{Brought, Kept}
-use Rattle.reader_tally.specs.Forward.{forward, past32, fits32, forward_of, lap_at, step_tally, tally_of}
+use Rattle.reader_tally.specs.Forward.{forward, past32, fits32, forward_of, lap_at, step_tally, tally_of, Tallied}
 
 -- the ends of the bringing forward
 
 module _ (y : Tally) (o u l : ℕ) where
-  pub past_steps : 4294967295 ≤ y.steps → Kept Overturned ≡ forward_of y o u l
+  pub past_steps : 4294967295 ≤ y.steps → Err Overturned ≡ forward_of y o u l
   unfolding forward_of
   past_steps h = rw (le-ltb (y.steps + 1) past32 (omega arith))
 
   module _ (fits : y.steps < 4294967295) where
-    pub past_overs : 4294967295 - y.overs < o → Kept Overturned ≡ forward_of y o u l
+    pub past_overs : 4294967295 - y.overs < o → Err Overturned ≡ forward_of y o u l
     unfolding forward_of
     past_overs h = rw (lt-ltb (y.steps + 1) past32 (omega arith), le-ltb (y.overs + o) past32 (omega arith))
 
-    pub past_unders : y.overs + o ≤ 4294967295 → 4294967295 - y.unders < u → Kept Overturned ≡ forward_of y o u l
+    pub past_unders : y.overs + o ≤ 4294967295 → 4294967295 - y.unders < u → Err Overturned ≡ forward_of y o u l
     unfolding forward_of
     past_unders g h = rw (lt-ltb (y.steps + 1) past32 (omega arith), lt-ltb (y.overs + o) past32 (omega arith), le-ltb (y.unders + u) past32 (omega arith))
 
     module _ (overs : y.overs + o ≤ 4294967295) (unders : y.unders + u ≤ 4294967295) where
-      pub past_length : 4294967295 - y.length < l → Kept Overturned ≡ forward_of y o u l
+      pub past_length : 4294967295 - y.length < l → Err Overturned ≡ forward_of y o u l
       unfolding forward_of
       past_length h =
           let few = lt-ltb (y.steps + 1) past32 (omega arith) in
           rw (few, lt-ltb (y.overs + o) past32 (omega arith), lt-ltb (y.unders + u) past32 (omega arith), le-ltb (y.length + l) past32 (omega arith))
 
-      pub brought : y.length + l ≤ 4294967295 → Brought (forward y o u l) ≡ forward_of y o u l
+      pub brought : y.length + l ≤ 4294967295 → Ok (forward y o u l) ≡ forward_of y o u l
       unfolding forward_of
       brought h =
           let few = lt-ltb (y.steps + 1) past32 (omega arith) in
@@ -71,20 +69,20 @@ tally_forward t s last y {l} {w} {n} {o} h e c f g =
     g ∙ rw (lap_bit last, u, f, h, e.word)
 
 -- a step is declined for its tally with 6 alone
-pub kept_is : (t : List ℕ) (s : ℕ) (last : Bool) (y : Tally) {r : Refusal} → Kept r ≡ tally_of t s last y → r ≡ Overturned
+pub kept_is : (t : List ℕ) (s : ℕ) (last : Bool) (y : Tally) {r : Refusal} → Err r ≡ tally_of t s last y → r ≡ Overturned
 unfolding tally_of forward_of
 kept_is t s last y {r} e = elim (truth (fits32 (step_tally t s last y))) [
-  | fails c ↦ let same : Kept r ≡ Kept Overturned = rw c at e in cc
-  | holds c ↦ let other : Kept r ≡ Brought (step_tally t s last y) = rw c at e in let z : ◌≡◌ {A = ℕ} 0 1 = cc in absurd (let no : ⊥ = omega arith in no)
+  | fails c ↦ let same : Err r ≡ Err Overturned = rw c at e in cc
+  | holds c ↦ let other : ◌≡◌ {A = Tallied} (Err r) (Ok (step_tally t s last y)) = rw c at e in let z : ◌≡◌ {A = ℕ} 0 1 = cc in absurd (let no : ⊥ = omega arith in no)
 ]
 
 -- the tally that a step has brought forward
-pub brought_is : (t : List ℕ) (s : ℕ) (last : Bool) (y : Tally) {z : Tally} → Brought z ≡ tally_of t s last y → z ≡ step_tally t s last y
+pub brought_is : (t : List ℕ) (s : ℕ) (last : Bool) (y : Tally) {z : Tally} → Ok z ≡ tally_of t s last y → z ≡ step_tally t s last y
 unfolding tally_of forward_of
 brought_is t s last y {z} e = elim (truth (fits32 (step_tally t s last y))) [
   | fails c ↦ absurd (other (rw c at e))
-  | holds c ↦ let same : Brought z ≡ Brought (step_tally t s last y) = rw c at e in cc
+  | holds c ↦ let same : ◌≡◌ {A = Tallied} (Ok z) (Ok (step_tally t s last y)) = rw c at e in cc
 ]
   where
-    other : {r : Refusal} → Brought z ≡ Kept r → ⊥
+    other : {r : Refusal} → ◌≡◌ {A = Tallied} (Ok z) (Err r) → ⊥
     other f = let z : ◌≡◌ {A = ℕ} 0 1 = cc in omega arith

@@ -2,13 +2,11 @@
 --     lines_append, lines_one    the lines of a run that goes on; of one edit
 --     lines_few, stop_few        a line has at most 27 bytes
 --     refused_few, line_few      the same of one refusal, of one edit
-use Rattle.std.specs.Prelude.{ℕ, suc, ◌+◌, ◌*◌, ◌≤◌, ◌<◌, ◌^◌, ◌≡◌, List, [], ◌∷◌, ◌++◌, length}
+use Rattle.std.specs.Prelude.{ℕ, suc, ◌+◌, ◌*◌, ◌≤◌, ◌<◌, ◌^◌, ◌≡◌, List, [], ◌∷◌, ◌++◌, length, Ok, Err}
 use Rattle.std.proofs.Common.{arith, add-zero, sym, ◌∙◌, ap, append_assoc, append-nil, length-append}
 use Rattle.text.specs.Decimal.{decimal}
 use Rattle.text.specs.laws.Decimal.{decimal_short, decimal_few}
-use Rattle.table.specs.Answers.{number_of}
-use Rattle.table.specs.declared.answer.Answer.{Answer}
-use Rattle.table.specs.declared.answer.Answer.TheVariants.{Done, Declined}
+use Rattle.table.specs.Answers.{number_of, Answer}
 use Rattle.table.specs.declared.answer.Refusal.{Refusal}
 use Rattle.table.specs.declared.answer.Refusal.TheVariants as refusal
 use Rattle.edits.specs.Edits.{answer, edited}
@@ -41,8 +39,8 @@ refused_few : (n : ℕ) (r : Refusal) → n < 2 ^ 64 → length (no_line n (numb
 refused_few n r h = let few = decimal_few n h in let two = number_few r in simp length-append (omega arith)
 
 answer_few : (n : ℕ) (a : Answer) → n < 2 ^ 64 → length (line_by n a) ≤ 27
-answer_few n (Done f) h = omega arith
-answer_few n (Declined r) h = refused_few n r h
+answer_few n (Ok f) h = omega arith
+answer_few n (Err r) h = refused_few n r h
 
 line_few : (t : List ℕ) (n : ℕ) (E : Edit) → n < 2 ^ 64 → length (edit_line t n E) ≤ 27
 unfolding edit_line

@@ -1,25 +1,23 @@
 -- A block of a job's bytes, as the code takes it: what is left of it is moved to the front.
 --     BlockFits, block_fits                   few bytes are left, the records are few, the lines have room
---     Moving                                  the loop that moves bytes to the front
---     moving_none, moving_more, moving_all    it begins, goes on, ends
+--     front_moved                             what is moved to the front
 --     block_bad, taken_there, block_more      the ends: after a bad mark; where more is read
-use Rattle.std.specs.Prelude.{ℕ, zero, suc, ◌+◌, ◌-◌, ◌≤◌, ◌<◌, ◌≡◌, refl, Bool, true, false, List, [], ◌∷◌, length, get_or, set, take, drop}
-use Rattle.std.proofs.Common.{arith, add-one, sym, ◌∙◌, ap, length-drop, get_or-drop, take-suc, length-take-le}
+use Rattle.std.specs.Prelude.{ℕ, zero, suc, ◌+◌, ◌-◌, ◌≤◌, ◌<◌, ◌≡◌, refl, Bool, true, false, List, [], ◌∷◌, ◌++◌, length, take, drop}
+use Rattle.std.proofs.Common.{arith, zero-add, sym, ◌∙◌, ap, length-drop, length-take-le}
 use Rattle.std.proofs.Math.Nat.{sub-zero, zero-sub, suc-sub-suc}
 use Rattle.std.proofs.lemmas.List.Edits.{sets}
 use Rattle.std.proofs.Math.Seq.{take-nil}
-use Rattle.text.specs.laws.Paste.{sets_ahead}
+use Rattle.std.specs.List.{copy_within}
+use Rattle.text.specs.laws.Paste.{sets_front}
 use Rattle.records.specs.declared.run.Ran.{Ran}
 use Rattle.records.specs.declared.block.Block.{Block}
 use Rattle.records.specs.Records.{longest_record}
 use Rattle.records.specs.Reading.{reading, reads_on}
 use Rattle.records.specs.laws.Reading.{reading_bounds}
-use Rattle.records.specs.Lines.{lines}
 use Rattle.records.specs.laws.Lines.{lines_few}
 use Rattle.records.specs.Blocks.{left, ran_of, block_of}
 use Rattle.records.specs.laws.Blocks.{left_none, left_some, left_few}
 use Rattle.records.specs.laws.Running.{Ready}
-use Rattle.table.specs.laws.Front.{Front, front_none, front_more}
 
 -- what a caller can count on: few bytes are left, so there is room for more; the records are not more than the bytes; the lines have room
 pub record BlockFits (number : ℕ) (s out : List ℕ) (b : Block) : Type 0 where
@@ -36,48 +34,12 @@ block_fits t {number} {s} h e =
     let lines = lines_few t number (reading s).edits (omega arith) in
     rw e (record { few = left_few s; next = omega arith; written = omega arith })
 
--- the loop that moves bytes to the front: the first i stand
-
--- byte i of those that are moved still stands where it stood
-not_moved : {buf₀ : List ℕ} {i : ℕ} {buf : List ℕ} (from : ℕ) → Front (take i (drop from buf₀)) buf₀ 0 i buf → i ≤ length (drop from buf₀)
-    → get_or buf (from + i) 0 ≡ get_or (drop from buf₀) i 0
-not_moved {buf₀} {i} from k h =
-    let part = length-take-le i (drop from buf₀) h in
-    ap (λ l. get_or l (from + i) 0) k.words ∙ sets_ahead buf₀ 0 (take i (drop from buf₀)) (from + i) (omega arith) ∙ sym (get_or-drop from buf₀ i 0)
-
-pub record Moving (from to : ℕ) (buf₀ : List ℕ) (n i : ℕ) (buf : List ℕ) : Type 0 where
-  pub order : from ≤ to
-  pub there : to ≤ length buf₀
-  pub count : n ≡ to - from
-  pub most : i ≤ n
-  pub front : Front (take i (drop from buf₀)) buf₀ 0 i buf
-
-pub moving_none : {from to : ℕ} {buf : List ℕ} → from ≤ to → to ≤ length buf → Moving from to buf (to - from) 0 buf
-moving_none {buf = buf} h l = record { order = h; there = l; count = refl; most = omega arith; front = front_none buf 0 }
-
-pub moving_more : {from to : ℕ} {buf₀ : List ℕ} {n i : ℕ} {buf : List ℕ} → Moving from to buf₀ n i buf → i < n
-    → Moving from to buf₀ n (i + 1) (set buf i (get_or buf (from + i) 0))
-moving_more {from} {to} {buf₀} {n} {i} {buf} k h =
-    let order = k.order in
-    let there = k.there in
-    let count = k.count in
-    let size = length-drop from buf₀ in
-    let within : i < length (drop from buf₀) = omega arith in
-    let same = not_moved from k.front (omega arith) in
-    record {
-      order = k.order;
-      there = k.there;
-      count = k.count;
-      most = omega arith;
-      front = rw (add-one, take-suc (drop from buf₀) i 0 within) (front_more (get_or (drop from buf₀) i 0 ∷ []) k.front (omega arith) (ap (set buf i) same));
-    }
-
-pub moving_all : {from to : ℕ} {buf₀ : List ℕ} {n i : ℕ} {buf : List ℕ} → Moving from to buf₀ n i buf → n ≤ i → buf ≡ sets buf₀ 0 (take (to - from) (drop from buf₀))
-moving_all {from} {to} {buf₀} {n} {i} k h =
-    let most = k.most in
-    let count = k.count in
-    let e : i ≡ to - from = omega arith in
-    k.front.words ∙ ap (λ m. sets buf₀ 0 (take m (drop from buf₀))) e
+-- the bytes from index `from` up to `to`, moved to the front
+front_moved : {from to : ℕ} (buf : List ℕ) → from ≤ to → to ≤ length buf → copy_within buf from to 0 ≡ sets buf 0 (take (to - from) (drop from buf))
+front_moved {from} {to} buf h l =
+    let size = length-drop from buf in
+    let part = length-take-le (to - from) (drop from buf) (omega arith) in
+    ap (λ k. take (to - from) (drop from buf) ++ drop k buf) (zero-add (to - from) ∙ sym part) ∙ sym (sets_front buf (take (to - from) (drop from buf)) (omega arith))
 
 -- the ends of the code, where the block is the first n bytes of `buf`
 
@@ -102,10 +64,10 @@ module _ (t : List ℕ) (number : ℕ) (buf : List ℕ) (n : ℕ) {r : Ran} (e :
         let same : r.taken ≡ (reading (take n buf)).taken = ap (λ x. x.taken) e in
         omega arith
 
-    pub block_more : {on : Bool} {buf' : List ℕ} → on ≡ reads_on r.stop → on ≡ true → buf' ≡ sets buf 0 (take (n - r.taken) (drop r.taken buf))
+    pub block_more : {on : Bool} {buf' : List ℕ} → on ≡ reads_on r.stop → on ≡ true → buf' ≡ copy_within buf r.taken n 0
         → (record { left = n - r.taken; next = r.next; written = r.written; stop = r.stop } ≡ block_of t number (take n buf)) × (buf' ≡ sets buf 0 (left (take n buf)))
     block_more g q f =
         let some : left (take n buf) ≡ drop (reading (take n buf)).taken (take n buf) = left_some (take n buf) (sym (g ∙ ap (λ x. reads_on x.stop) e) ∙ q) in
         let size : length (left (take n buf)) ≡ n - (reading (take n buf)).taken =
         ap length some ∙ length-drop (reading (take n buf)).taken (take n buf) ∙ ap (λ k. k - (reading (take n buf)).taken) (length-take-le n buf h) in
-        (rw (e, size), f ∙ rw (e, some) (ap (sets buf 0) (sym (drop_take (reading (take n buf)).taken n buf))))
+        (rw (e, size), f ∙ front_moved buf taken_there h ∙ rw (e, some) (ap (sets buf 0) (sym (drop_take (reading (take n buf)).taken n buf))))

@@ -1,11 +1,12 @@
 -- All records of some bytes, document 01, "The job program": the edits, the bytes that they took, and why the reading ended.
 --     reading_stopped, reading_record                    what a reading is, by the first record
---     First, first_view, Sized, record_sized             what can stand first; a record has at least four bytes, which are there
+--     First, first_view, first_nothing                    what can stand first; nothing, where there is no byte
+--     Sized, record_sized                                a record has at least four bytes, which are there
 --     joined, joined_none, joined_after, joined_ended    a reading that goes on where another left off
 --     reading_blocks, reading_bad                        bytes that come in blocks
 --     Bounds, reading_bounds                             how many bytes and edits
-use Rattle.std.specs.Prelude.{ℕ, zero, suc, ◌+◌, ◌-◌, ◌*◌, ◌≤◌, ◌<◌, ◌≡◌, refl, true, false, List, [], ◌∷◌, ◌++◌, ltb, eqb, length, drop}
-use Rattle.std.proofs.Common.{arith, zero-add, add-zero, add_assoc, sym, ◌∙◌, ap₂, append_assoc, append-nil, length-append, drop-drop, ltb-true, ltb-false, le-ltb, eqb-true, ne_eqb}
+use Rattle.std.specs.Prelude.{ℕ, zero, suc, ◌+◌, ◌-◌, ◌*◌, ◌≤◌, ◌<◌, ◌≡◌, refl, true, false, List, [], ◌∷◌, ◌++◌, ltb, eqb, length, drop, Option, Some, None, Ok, Err}
+use Rattle.std.proofs.Common.{arith, zero-add, add-zero, add_assoc, sym, ◌∙◌, ap₂, append_assoc, append-nil, length-append, drop-drop, ltb-true, ltb-false, le-ltb, eqb-true, eq-eqb, ne_eqb}
 use Rattle.std.proofs.Math.Path.{ap}
 use Rattle.std.proofs.Math.ListN.{length-drop, get_or-append}
 use Rattle.std.proofs.lemmas.List.{drop-append-le}
@@ -15,13 +16,9 @@ use Rattle.edits.specs.declared.edit.Edit.{Edit}
 use Rattle.edits.specs.declared.edit.Edit.TheVariants.{AddVertex, RemoveVertex, DeleteEdge, TurnEdge}
 use Rattle.records.specs.declared.records.Mark.{Mark}
 use Rattle.records.specs.declared.records.Mark.TheVariants.{AV, RV, IE, IL, DE, TW}
-use Rattle.records.specs.declared.records.Marked.{Marked}
-use Rattle.records.specs.declared.records.Marked.TheVariants.{Known, Unknown}
-use Rattle.records.specs.declared.records.Found.{Found}
-use Rattle.records.specs.declared.records.Found.TheVariants.{Record, Stopped}
 use Rattle.records.specs.declared.records.Stop.{Stop}
 use Rattle.records.specs.declared.records.Stop.TheVariants.{End, BadMark, CutRecord}
-use Rattle.records.specs.Records.{word, signed_word, mark_of, size_of, longest_record, edit_of, known_record, marked_record, first_record}
+use Rattle.records.specs.Records.{word, signed_word, mark_of, size_of, longest_record, edit_of, Found, found, known_record, marked_record, first_record}
 use Rattle.records.specs.Reading.{Reading, ended, after, read_up_to, reading, reads_on}
 
 -- a reading that goes on where another left off
@@ -39,21 +36,21 @@ mark_size DE = (omega arith, omega arith)
 mark_size TW = (omega arith, omega arith)
 
 pub data First (s : List ℕ) (f : Found) : Type 0 where
-  nothing : length s ≡ 0 → f ≡ Stopped End → First s f
-  cut : 1 ≤ length s → length s < longest_record → f ≡ Stopped CutRecord → First s f
-  unknown : 2 ≤ length s → mark_of (word s 0) ≡ Unknown → f ≡ Stopped BadMark → First s f
-  whole : (m : Mark) → mark_of (word s 0) ≡ Known m → size_of m ≤ length s → f ≡ Record (edit_of m s) (size_of m) → First s f
+  nothing : length s ≡ 0 → f ≡ Err End → First s f
+  cut : 1 ≤ length s → length s < longest_record → f ≡ Err CutRecord → First s f
+  unknown : 2 ≤ length s → mark_of (word s 0) ≡ None → f ≡ Err BadMark → First s f
+  whole : (m : Mark) → mark_of (word s 0) ≡ Some m → size_of m ≤ length s → f ≡ found (edit_of m s) (size_of m) → First s f
 
-known_first : (s : List ℕ) (m : Mark) → 2 ≤ length s → mark_of (word s 0) ≡ Known m → First s (known_record m s)
+known_first : (s : List ℕ) (m : Mark) → 2 ≤ length s → mark_of (word s 0) ≡ Some m → First s (known_record m s)
 unfolding known_record
 known_first s m h e = elim (truth (ltb (length s) (size_of m))) [
   | holds l ↦ let short = ltb-true (length s) (size_of m) l in let low = mark_size m in cut (omega arith) (omega arith) (rw l)
   | fails l ↦ whole m e (ltb-false (length s) (size_of m) l) (rw l)
 ]
 
-marked_first : (s : List ℕ) (k : Marked) → 2 ≤ length s → mark_of (word s 0) ≡ k → First s (marked_record k s)
-marked_first s (Known m) h e = known_first s m h e
-marked_first s Unknown h e = unknown h e refl
+marked_first : (s : List ℕ) (k : Option Mark) → 2 ≤ length s → mark_of (word s 0) ≡ k → First s (marked_record k s)
+marked_first s (Some m) h e = known_first s m h e
+marked_first s None h e = unknown h e refl
 
 pub first_view : (s : List ℕ) → First s (first_record s)
 unfolding first_record
@@ -68,18 +65,27 @@ first_view s = elim (truth (eqb (length s) 0)) [
   ]
 ]
 
+pub first_nothing : (s : List ℕ) → length s ≡ 0 → Err End ≡ first_record s
+unfolding first_record
+first_nothing s e = rw (eq-eqb (length s) 0 e)
+
 -- a record has at least four bytes, which are there
 pub record Sized (s : List ℕ) (k : ℕ) : Type 0 where
   pub some : 4 ≤ k
   pub there : k ≤ length s
 
-record_parts : {E F : Edit} {k l : ℕ} → Record E k ≡ Record F l → k ≡ l
-record_parts e = cc
+size_in : Found → ℕ
+size_in (Ok r) = r.size
+size_in (Err x) = 0
 
-stopped_other : {E : Edit} {k : ℕ} {x : Stop} → Stopped x ≡ Record E k → ⊥
+record_parts : {E F : Edit} {k l : ℕ} → found E k ≡ found F l → k ≡ l
+unfolding size_in
+record_parts e = ap size_in e
+
+stopped_other : {E : Edit} {k : ℕ} {x : Stop} → Err x ≡ found E k → ⊥
 stopped_other e = let z : ◌≡◌ {A = ℕ} 0 1 = cc in omega arith
 
-pub record_sized : (s : List ℕ) {E : Edit} {k : ℕ} → first_record s ≡ Record E k → Sized s k
+pub record_sized : (s : List ℕ) {E : Edit} {k : ℕ} → first_record s ≡ found E k → Sized s k
 record_sized s e = elim (first_view s) [
   | nothing h f ↦ absurd (stopped_other (sym f ∙ e))
   | cut h l f ↦ absurd (stopped_other (sym f ∙ e))
@@ -93,11 +99,11 @@ record_sized s e = elim (first_view s) [
 -- a reading, by the first record
 
 module _ (n : ℕ) (s : List ℕ) where
-  up_to_stopped : (x : Stop) → first_record s ≡ Stopped x → read_up_to (suc n) s ≡ ended x
+  up_to_stopped : (x : Stop) → first_record s ≡ Err x → read_up_to (suc n) s ≡ ended x
   unfolding read_up_to
   up_to_stopped x e = rw e
 
-  up_to_record : (E : Edit) (k : ℕ) → first_record s ≡ Record E k → read_up_to (suc n) s ≡ after E k (read_up_to n (drop k s))
+  up_to_record : (E : Edit) (k : ℕ) → first_record s ≡ found E k → read_up_to (suc n) s ≡ after E k (read_up_to n (drop k s))
   unfolding read_up_to
   up_to_record E k e = rw e
 
@@ -132,10 +138,10 @@ unfolding reading
 reading_suc s = enough (length s) (suc (length s)) s (omega arith) (omega arith)
 
 module _ (s : List ℕ) where
-  pub reading_stopped : (x : Stop) → first_record s ≡ Stopped x → reading s ≡ ended x
+  pub reading_stopped : (x : Stop) → first_record s ≡ Err x → reading s ≡ ended x
   reading_stopped x e = reading_suc s ∙ up_to_stopped (length s) s x e
 
-  pub reading_record : (E : Edit) (k : ℕ) → first_record s ≡ Record E k → reading s ≡ after E k (reading (drop k s))
+  pub reading_record : (E : Edit) (k : ℕ) → first_record s ≡ found E k → reading s ≡ after E k (reading (drop k s))
   unfolding reading
   reading_record E k e =
       let left = length-drop k s in
@@ -169,12 +175,12 @@ edit_append IL s b h = rw (word_append s b 2 (omega arith), word_append s b 4 (o
 edit_append DE s b h = ap DeleteEdge (word_append s b 2 (omega arith))
 edit_append TW s b h = ap₂ (λ x y. TurnEdge x (signed_word y)) (word_append s b 2 (omega arith)) (word_append s b 4 (omega arith))
 
-whole_append : (m : Mark) (s b : List ℕ) → mark_of (word s 0) ≡ Known m → size_of m ≤ length s → first_record (s ++ b) ≡ Record (edit_of m s) (size_of m)
+whole_append : (m : Mark) (s b : List ℕ) → mark_of (word s 0) ≡ Some m → size_of m ≤ length s → first_record (s ++ b) ≡ found (edit_of m s) (size_of m)
 unfolding first_record known_record
 whole_append m s b e h =
     let low = mark_size m in
     let size = length-append s b in
-    let known : mark_of (word (s ++ b) 0) ≡ Known m = ap mark_of (word_append s b 0 (omega arith)) ∙ e in
+    let known : mark_of (word (s ++ b) 0) ≡ Some m = ap mark_of (word_append s b 0 (omega arith)) ∙ e in
     rw (ne_eqb (length (s ++ b)) 0 (omega arith), ne_eqb (length (s ++ b)) 1 (omega arith), known, le-ltb (length (s ++ b)) (size_of m) (omega arith), edit_append m s b h)
 
 blocks : (n : ℕ) (a b : List ℕ) → reads_on (read_up_to n a).stop ≡ true → reading (a ++ b) ≡ joined (read_up_to n a) (reading (drop (read_up_to n a).taken a ++ b))
@@ -202,11 +208,11 @@ pub reading_blocks : (a b : List ℕ) → reads_on (reading a).stop ≡ true →
 unfolding reading
 reading_blocks a b h = blocks (length a) a b h
 
-unknown_append : (s b : List ℕ) → mark_of (word s 0) ≡ Unknown → 2 ≤ length s → first_record (s ++ b) ≡ Stopped BadMark
+unknown_append : (s b : List ℕ) → mark_of (word s 0) ≡ None → 2 ≤ length s → first_record (s ++ b) ≡ Err BadMark
 unfolding first_record
 unknown_append s b e h =
     let size = length-append s b in
-    let same : mark_of (word (s ++ b) 0) ≡ Unknown = ap mark_of (word_append s b 0 (omega arith)) ∙ e in
+    let same : mark_of (word (s ++ b) 0) ≡ None = ap mark_of (word_append s b 0 (omega arith)) ∙ e in
     rw (ne_eqb (length (s ++ b)) 0 (omega arith), ne_eqb (length (s ++ b)) 1 (omega arith), same)
 
 bad : (n : ℕ) (a b : List ℕ) → reads_on (read_up_to n a).stop ≡ false → reading (a ++ b) ≡ read_up_to n a

@@ -4,26 +4,22 @@
 --     stop_none, stop_bad, stop_cut                          the line of a reading that ended
 --     Running                                                the loop: the edits of the first `at` bytes are done
 --     running_none, running_more, running_stopped            it begins, goes on, ends
---     running_size, left_part, ReadWithin, running_within    the slice's size; the bytes left; a whole record is within bounds
-use Rattle.std.specs.Prelude.{ℕ, ◌+◌, ◌-◌, ◌*◌, ◌≤◌, ◌<◌, ◌^◌, ◌≡◌, refl, List, [], ◌∷◌, ◌++◌, length, take, drop}
+--     left_part, ReadWithin, running_within                  the bytes left; a whole record is within bounds
+use Rattle.std.specs.Prelude.{ℕ, ◌+◌, ◌-◌, ◌*◌, ◌≤◌, ◌<◌, ◌^◌, ◌≡◌, refl, List, [], ◌∷◌, ◌++◌, length, take, drop, Err, Ok}
 use Rattle.std.proofs.Common.{arith, ◌∙◌, ap, length-append, length-drop, take_all, drop-drop}
 use Rattle.std.proofs.Math.Path.{sym}
 use Rattle.std.proofs.lemmas.List.Edits.{sets}
-use Rattle.text.specs.laws.Paste.{paste_none, paste_sets, pasted_then, pasted_as, pasted_length}
-use Rattle.table.specs.Answers.{number_of}
-use Rattle.table.specs.declared.answer.Answer.{Answer}
-use Rattle.table.specs.declared.answer.Answer.TheVariants.{Done, Declined}
+use Rattle.text.specs.laws.Paste.{paste_none, paste_sets, pasted_then, pasted_as}
+use Rattle.table.specs.Answers.{number_of, Answer}
 use Rattle.table.specs.declared.answer.Refusal.{Refusal}
 use Rattle.table.specs.declared.answer.Refusal.TheVariants as refusal
 use Rattle.edits.specs.Edits.{answer, edited}
 use Rattle.edits.specs.declared.edit.Edit.{Edit}
-use Rattle.records.specs.declared.records.Found.{Found}
-use Rattle.records.specs.declared.records.Found.TheVariants.{Record, Stopped}
 use Rattle.records.specs.declared.records.Stop.{Stop}
 use Rattle.records.specs.declared.records.Stop.TheVariants.{End, BadMark, CutRecord}
 use Rattle.runs.specs.Run.{run}
 use Rattle.runs.proofs.laws.Run.{run_append, run_one}
-use Rattle.records.specs.Records.{first_record}
+use Rattle.records.specs.Records.{Found, found, first_record}
 use Rattle.records.specs.Reading.{reading, ended, after}
 use Rattle.records.specs.laws.Reading.{joined, joined_none, joined_after, joined_ended, reading_stopped, reading_record, record_sized}
 use Rattle.records.specs.Lines.{no_line, stop_line, edit_line, lines}
@@ -39,11 +35,11 @@ pub record Ready (number : ℕ) (s out : List ℕ) : Type 0 where
 
 -- the line of one edit, by its answer
 module _ (t : List ℕ) (n : ℕ) (E : Edit) {a : Answer} (e : a ≡ answer t E) where
-  pub line_done : {f at : ℕ} (out : List ℕ) → a ≡ Done f → Pasted 0 at out (edit_line t n E) at out
+  pub line_done : {f at : ℕ} (out : List ℕ) → a ≡ Ok f → Pasted 0 at out (edit_line t n E) at out
   unfolding edit_line
   line_done {at = at} out g = rw (← e, g) (record { end = omega arith; shows = sym (paste_none 0 at out) })
 
-  pub line_declined : {r : Refusal} {m at end : ℕ} {out out' : List ℕ} → a ≡ Declined r → m ≡ number_of r → Pasted 0 at out (no_line n m) end out'
+  pub line_declined : {r : Refusal} {m at end : ℕ} {out out' : List ℕ} → a ≡ Err r → m ≡ number_of r → Pasted 0 at out (no_line n m) end out'
       → Pasted 0 at out (edit_line t n E) end out'
   unfolding edit_line
   line_declined g h p = rw (← e, g, ← h) p
@@ -89,9 +85,6 @@ running_none {s = s} {out = out} h = record {
 }
 
 module _ {t₀ s : List ℕ} {number : ℕ} {out₀ t : List ℕ} {at next end : ℕ} {out : List ℕ} (k : Running t₀ s number out₀ t at next end out) where
-  pub running_size : length out ≡ length out₀
-  running_size = pasted_length k.text
-
   -- what is left, as the part of the slice that the code passes on
   pub left_part : take (length s - at) (drop at s) ≡ drop at s
   left_part = take_all (length s - at) (drop at s) (let size = length-drop at s in omega arith)
@@ -108,7 +101,7 @@ module _ {t₀ s : List ℕ} {number : ℕ} {out₀ t : List ℕ} {at next end :
       pub number_fits : next + 1 < 2 ^ 64
       pub place : end ≤ 2 ^ 40
 
-    pub running_within : {E : Edit} {size : ℕ} → f ≡ Record E size → ReadWithin size
+    pub running_within : {E : Edit} {size : ℕ} → f ≡ found E size → ReadWithin size
     running_within q =
         let z = record_sized (drop at s) (sym here ∙ q) in
         let left = length-drop at s in
@@ -120,7 +113,7 @@ module _ {t₀ s : List ℕ} {number : ℕ} {out₀ t : List ℕ} {at next end :
         let short = lines_few t₀ number k.so_far (omega arith) in
         record { some = z.some; there = omega arith; low = omega arith; number_fits = omega arith; place = omega arith }
 
-    pub running_more : {E : Edit} {size : ℕ} {t' : List ℕ} {end' : ℕ} {out' : List ℕ} → f ≡ Record E size → t' ≡ edited t E → length t' ≡ length t
+    pub running_more : {E : Edit} {size : ℕ} {t' : List ℕ} {end' : ℕ} {out' : List ℕ} → f ≡ found E size → t' ≡ edited t E → length t' ≡ length t
         → Pasted 0 end out (edit_line t next E) end' out'
         → Running t₀ s number out₀ t' (at + size) (next + 1) end' out'
     running_more {E} {size} {t'} {end'} {out'} q d z p =
@@ -161,7 +154,7 @@ module _ {t₀ s : List ℕ} {number : ℕ} {out₀ t : List ℕ} {at next end :
         rw all_read (rw (k.count, written), k.table, k.text.shows ∙ paste_sets 0 out₀ (lines t₀ number k.so_far))
 
   module _ {f : Found} (e : f ≡ first_record (take (length s - at) (drop at s))) where
-    pub running_stopped : {x : Stop} → f ≡ Stopped x
+    pub running_stopped : {x : Stop} → f ≡ Err x
         → (record { taken = at; next = next; written = end; stop = x } ≡ ran_of t₀ number s)
         × (t ≡ run t₀ (reading s).edits)
         × (out ≡ sets out₀ 0 (lines t₀ number (reading s).edits))

@@ -4,16 +4,14 @@
 --     step_wrote                                                   a step
 --     StepsWriting                                                 the loop over the walk
 --     stepping_none, stepping_near, stepping_more, stepping_all    it begins, is far from any limit, goes on, ends
-use Rattle.std.specs.Prelude.{ℕ, zero, ◌+◌, ◌*◌, ◌/◌, ◌%◌, ◌<◌, ◌≤◌, ◌^◌, ◌≡◌, List, [], ◌∷◌, ◌++◌, ◌≢◌}
-use Rattle.std.proofs.Common.{arith, add-one, sym, ◌∙◌, ap}
+use Rattle.std.specs.Prelude.{ℕ, ◌+◌, ◌*◌, ◌/◌, ◌%◌, ◌<◌, ◌≤◌, ◌^◌, ◌≡◌, List, [], ◌∷◌, ◌++◌, length}
+use Rattle.std.proofs.Common.{arith, sym, ◌∙◌, ap, length-append}
 use Rattle.table.specs.Rotation.{rotation}
-use Rattle.tracing.specs.Step.{step}
 use Rattle.tracing.specs.Walk.{walk}
-use Rattle.tracing.proofs.laws.Walk.{iterates, run_suc}
 use Rattle.tracing.specs.Listing.{gather}
 use Rattle.tracing.proofs.laws.Listing.{gather_one, gather_append}
 use Rattle.tracing_walks.specs.laws.Stands.{Stands}
-use Rattle.tracing_walks.specs.laws.Along.{Walking, walking_none, walking_more, walking_all, walking_few}
+use Rattle.tracing_walks.specs.laws.Along.{Along, along_none, along_more, along_all, along_low, walk_most}
 use Rattle.weave.specs.Letters.{crossings, letters_on, step_letters, letter_at}
 use Rattle.weave_letters.specs.laws.Crossing.{EdgeWord, crossings_few, letters_length, letters_at}
 use Rattle.text.specs.Paste.{put, Pasted}
@@ -57,38 +55,30 @@ unfolding step_text step_letters
 step_wrote {t} {s} {w} low e a b c d l =
     wrote_then (wrote_then (wrote_then (wrote_then a (short 1 b (omega arith))) (number_wrote (omega arith) c)) (short 1 d (omega arith))) (wrote_as l (ap (λ x. letters_on x (s % 2)) e.word))
 
--- the loop over the walk: the first steps are written
-pub record StepsWriting (t : List ℕ) (s from at here end : ℕ) (out₀ out : List ℕ) : Type 0 where
-  pub so_far : ℕ
-  pub walking : Walking t s so_far here
-  pub wrote : Wrote (142 * so_far) from at out₀ (gather (step_text t) (iterates (step (rotation t)) s so_far)) end out
+-- the loop over the walk: the steps so far are written
+pub record StepsWriting (t : List ℕ) (s from at : ℕ) (gone left : List ℕ) (end : ℕ) (out₀ out : List ℕ) : Type 0 where
+  pub along : Along t s gone left
+  pub wrote : Wrote (142 * length gone) from at out₀ (gather (step_text t) gone) end out
 
-pub stepping_none : {t : List ℕ} {s : ℕ} (from at : ℕ) (out : List ℕ) → Stands t s → StepsWriting t s from at s at out out
-unfolding iterates gather
-stepping_none from at out h = record { so_far = zero; walking = walking_none h; wrote = wrote_none from at out }
+pub stepping_none : {t : List ℕ} {s : ℕ} (from at : ℕ) (out : List ℕ) {left : List ℕ} → Stands t s → left ≡ walk (rotation t) s → StepsWriting t s from at [] left at out out
+unfolding gather
+stepping_none from at out h e = record { along = along_none h e; wrote = wrote_none from at out }
 
--- far from the end of the places
-pub stepping_near : {t : List ℕ} {s from at here end : ℕ} {out₀ out : List ℕ} → at < 2 ^ 44 → StepsWriting t s from at here end out₀ out → end < 2 ^ 45
-stepping_near h k = let few = walking_few k.walking in let near = k.wrote.near in omega arith
+module _ {t : List ℕ} {s from at : ℕ} {gone left : List ℕ} {end : ℕ} {out₀ out : List ℕ} (k : StepsWriting t s from at gone left end out₀ out) where
+  pub stepping_all : left ≡ [] → Wrote steps_most from at out₀ (gather (step_text t) (walk (rotation t) s)) end out
+  stepping_all e =
+      let most = walk_most k.along.start in
+      rw (← along_all k.along e) (wrote_most k.wrote steps_most (omega (arith, ap length (along_all k.along e))))
 
-steps_more : {t : List ℕ} {s n here : ℕ} → Walking t s n here
-    → gather (step_text t) (iterates (step (rotation t)) s n) ++ step_text t here ≡ gather (step_text t) (iterates (step (rotation t)) s (n + 1))
-steps_more {t} {s} {n} {here} w =
-    let f = step (rotation t) in
-    rw (add-one, run_suc f s n, w.along.here, gather_append (step_text t) (iterates f s n) (here ∷ []), gather_one (step_text t) here)
+  module _ {here : ℕ} {left' : List ℕ} (e : left ≡ here ∷ left') where
+    -- far from the end of the places
+    pub stepping_near : at < 2 ^ 44 → end < 2 ^ 45
+    stepping_near h = let low = along_low k.along e in let near = k.wrote.near in omega arith
 
-step_more : {t : List ℕ} {s from at here end r : ℕ} {out₀ out out' : List ℕ} (k : StepsWriting t s from at here end out₀ out) → Wrote 142 from end out (step_text t here) r out'
-    → Wrote (142 * (k.so_far + 1)) from at out₀ (gather (step_text t) (iterates (step (rotation t)) s (k.so_far + 1))) r out'
-step_more k w = wrote_most (wrote_as (wrote_then k.wrote w) (steps_more k.walking)) (142 * (k.so_far + 1)) (omega arith)
-
-pub stepping_more : {t : List ℕ} {s from at here end r next : ℕ} {out₀ out out' : List ℕ}
-    → StepsWriting t s from at here end out₀ out → Wrote 142 from end out (step_text t here) r out'
-    → next ≡ step (rotation t) here → next ≢ s → StepsWriting t s from at next r out₀ out'
-stepping_more k w e b = record { so_far = k.so_far + 1; walking = walking_more k.walking e b; wrote = step_more k w }
-
-pub stepping_all : {t : List ℕ} {s from at here end r next : ℕ} {out₀ out out' : List ℕ}
-    → StepsWriting t s from at here end out₀ out → Wrote 142 from end out (step_text t here) r out'
-    → next ≡ step (rotation t) here → next ≡ s → Wrote steps_most from at out₀ (gather (step_text t) (walk (rotation t) s)) r out'
-stepping_all k w e b =
-    let few = walking_few k.walking in
-    rw (walking_all k.walking e b) (wrote_most (step_more k w) steps_most (omega arith))
+    pub stepping_more : {r : ℕ} {out' : List ℕ} → Wrote 142 from end out (step_text t here) r out' → StepsWriting t s from at (gone ++ here ∷ []) left' r out₀ out'
+    stepping_more w =
+        let size = length-append gone (here ∷ []) in
+        record {
+          along = along_more k.along e;
+          wrote = rw (gather_append (step_text t) gone (here ∷ []), gather_one (step_text t) here) (wrote_most (wrote_then k.wrote w) (142 * length (gone ++ here ∷ [])) (omega arith));
+        }

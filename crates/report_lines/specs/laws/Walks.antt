@@ -9,7 +9,7 @@
 --     LoneAt, PlacedLone, lone_none, lone_one                        vertex v: it is not isolated, or its line is written
 --     lone_lines, LonesWriting                                       the lines of isolated vertices; the loop over the vertices
 --     ending_none, ending_at, ending_more, ending_all                it begins, is ready, goes on, ends
-use Rattle.std.specs.Prelude.{ℕ, suc, ◌+◌, ◌-◌, ◌*◌, ◌<◌, ◌≤◌, ◌^◌, ◌≡◌, refl, List, [], ◌∷◌, ◌++◌, map, ◌≢◌, length}
+use Rattle.std.specs.Prelude.{ℕ, suc, ◌+◌, ◌-◌, ◌*◌, ◌<◌, ◌≤◌, ◌^◌, ◌≡◌, refl, Option, Some, List, [], ◌∷◌, ◌++◌, map, ◌≢◌, length}
 use Rattle.std.proofs.Common.{arith, add-one, add-zero, sym, ◌∙◌, ap, ap₂, append-nil, append_assoc, length-append, lt-ltb, le-ltb}
 use Rattle.std.proofs.lemmas.List.{map-append, length-map}
 use Rattle.orbits.proofs.laws.Truth.{false_unless}
@@ -18,12 +18,11 @@ use Rattle.table.specs.Good.{Good}
 use Rattle.table.specs.Rotation.{rotation, alone?}
 use Rattle.table.specs.laws.Rotation.{alone_yes, alone_word}
 use Rattle.tracing.specs.Walk.{walk}
-use Rattle.tracing.specs.Listing.{gather, met_by, starts, fresh, lone, alones, lone_corner, walk_text}
-use Rattle.tracing.proofs.laws.Listing.{gather_one, gather_none, starts_suc, lone_yes, lone_no, alones_suc, written_some}
+use Rattle.tracing.specs.Listing.{gather, met_by, starts, fresh, lone, alones, lone_corner}
+use Rattle.tracing.proofs.laws.Listing.{starts_suc, lone_yes, lone_no, alones_suc}
 use Rattle.tracing_walks.specs.laws.Stands.{Stands}
 use Rattle.tracing_walks.specs.laws.Marks.{mark, unmarked}
-use Rattle.tracing_walks.specs.declared.count.Size.{Size}
-use Rattle.tracing_walks.specs.laws.Size.{LookReady, Looked, unmet, unmet_case, no_start, begins, Seen, seen_none, seen_range, seen_more, unmet_fresh, looked_begins}
+use Rattle.tracing_walks.specs.laws.Size.{LookReady, Looked, unmet, no_walk, one_walk, looked_marks, Seen, seen_none, seen_range, seen_more, unmet_fresh}
 use Rattle.text.specs.Decimal.{decimal}
 use Rattle.text.specs.laws.Decimal.{decimal_low}
 use Rattle.report_lines.specs.declared.walk.Place.{Place}
@@ -84,42 +83,29 @@ pub record LinePlaced (t m : List ℕ) (d i from at : ℕ) (out : List ℕ) (r :
   pub wrote : Wrote walk_most from at out (numbered (walk_line t) i (unmet t m d)) r.at out'
   pub few : r.index ≤ i + 1
 
-module _ {t m : List ℕ} {d i at : ℕ} {size : Size} {m' : List ℕ} (h : DartAt t m d i at) (k : Looked t d m size m') where
-  pub placed_none : {from : ℕ} (out : List ℕ) → size.words ≡ 0 → LinePlaced t m d i from at out (record { at = at; index = i }) m' out
-  placed_none {from} out e = elim (unmet_case t m d) [
-    | no_start u ↦ record {
-      marks = k.marks;
-      index = rw u (omega arith);
-      wrote = rw (u, numbered_none (walk_line t) i) (wrote_most (wrote_none from at out) walk_most (omega arith));
-      few = omega arith;
-    }
-    | begins l u ↦
-        let some = written_some (rotation t) d in
-        let one = k.words ∙ ap (λ a. length (gather (walk_text (rotation t)) a)) u ∙ ap length (gather_one (walk_text (rotation t)) d) in
-        absurd (omega arith)
-  ]
+pub placed_none : {t m : List ℕ} {d i from at : ℕ} {r : Option ℕ} {m' : List ℕ} (out : List ℕ) → Looked t d m r m' → ((n : ℕ) → r ≢ Some n)
+    → LinePlaced t m d i from at out (record { at = at; index = i }) m' out
+placed_none {t} {i = i} {from = from} {at = at} out (no_walk u) q = record {
+  marks = looked_marks (no_walk u);
+  index = rw u (omega arith);
+  wrote = rw (u, numbered_none (walk_line t) i) (wrote_most (wrote_none from at out) walk_most (omega arith));
+  few = omega arith;
+}
+placed_none out (one_walk h u k) q = absurd (q _ refl)
 
-  module _ (some : size.words ≢ 0) where
-    -- the walk that starts there
-    pub placed_walk : WalkAt t d (size.words - 1) at
-    placed_walk =
-        let b = looked_begins h.range k some in
-        let low = h.range.low in
-        let words = k.words in
-        let steps = ap length b.text in
-        record { stands = b.stands; low = low; steps = omega arith; near = h.near }
+module _ {t m : List ℕ} {d i at n : ℕ} {m' : List ℕ} where
+  -- the walk that starts there
+  pub placed_walk : DartAt t m d i at → Looked t d m (Some n) m' → WalkAt t d n at
+  placed_walk h (one_walk st u k) = record { stands = st; low = h.range.low; steps = k.steps; near = h.near }
 
-    pub placed_one : {from end : ℕ} {out out' : List ℕ} → Wrote walk_most from at out (walk_line t i d) end out'
-        → LinePlaced t m d i from at out (record { at = end; index = i + 1 }) m' out'
-    placed_one w = elim (unmet_case t m d) [
-      | no_start u ↦ absurd (some (k.words ∙ ap (λ a. length (gather (walk_text (rotation t)) a)) u ∙ ap length (gather_none (walk_text (rotation t)))))
-      | begins l u ↦ record {
-        marks = k.marks;
-        index = rw u;
-        wrote = rw (u, numbered_one (walk_line t) i d) w;
-        few = omega arith;
-      }
-    ]
+  pub placed_one : {from end : ℕ} {out out' : List ℕ} → Looked t d m (Some n) m' → Wrote walk_most from at out (walk_line t i d) end out'
+      → LinePlaced t m d i from at out (record { at = end; index = i + 1 }) m' out'
+  placed_one (one_walk st u k) w = record {
+    marks = looked_marks (one_walk st u k);
+    index = rw u refl;
+    wrote = rw (u, numbered_one (walk_line t) i d) w;
+    few = omega arith;
+  }
 
 -- the loop over the darts: the lines of the walks that start below d are written
 pub record Numbering (t : List ℕ) (from at d i end : ℕ) (m out₀ out : List ℕ) : Type 0 where

@@ -6,9 +6,9 @@
 --     tells_calls, told_called                     what the answers say is what the rules call for
 --     answered_rule                                the rule says how the answered number came of the one before
 --     edited_length, run_length                    the length of an edge after an edit; after the run
-use Rattle.std.specs.Prelude.{ℕ, ◌≡◌, refl, List, [], ◌∷◌, ◌++◌, ◌≢◌, eqb, pos, ◌+ℤ◌}
+use Rattle.table.specs.Answers.{Answer}
+use Rattle.std.specs.Prelude.{ℕ, ◌≡◌, refl, List, [], ◌∷◌, ◌++◌, ◌≢◌, eqb, pos, ◌+ℤ◌, Ok, Option, None, Some}
 use Rattle.std.proofs.Common.{arith, sym, ◌∙◌, ap, ap₂}
-use Rattle.std.proofs.Math.Option.{some}
 use Rattle.std.proofs.Math.IntN.{+ℤ_idr, +ℤ_assoc}
 use Rattle.orbits.proofs.laws.Truth.{truth, holds, fails}
 use Rattle.table.specs.Layout.{length_word}
@@ -20,7 +20,6 @@ use Rattle.table.specs.Empty.{empty_table}
 use Rattle.table.specs.laws.Empty.{empty_good}
 use Rattle.table.specs.laws.Output.{output_accepted, done_declined}
 use Rattle.table.specs.laws.Signed.{difference, below, above}
-use Rattle.table.specs.declared.answer.Answer.TheVariants.{Done}
 use Rattle.tracing.specs.Listing.{face_count, listing}
 use Rattle.tracing.proofs.laws.Met.{present_once, absent_never}
 use Rattle.tracing.proofs.laws.Edges.{edge_twice}
@@ -49,7 +48,7 @@ use Rattle.runs.specs.RunLaws.{RunLaws}
 use Rattle.edits.specs.Verdicts.{verdict}
 use Rattle.edits.proofs.laws.Verdicts.{judged, passed, declined}
 
-same : {n m : ℕ} → Done n ≡ Done m → n ≡ m
+same : {n m : ℕ} → ◌≡◌ {A = Answer} (Ok n) (Ok m) → n ≡ m
 same e = cc
 
 -- one edit
@@ -80,11 +79,11 @@ edited_count t E g = elim (judged (verdict t E)) [
 tells_calls : (t : List ℕ) (E : Edit) → tells E (reply t E) ≡ calls t E
 unfolding calls reply
 tells_calls t E = elim (judged (verdict t E)) [
-  | passed p ↦ rw (answer_passes t E p, p) (by E _)
+  | passed p ↦ rw (answer_passes t E p, p) (by E 0)
   | declined r p ↦ rw (answer_declines t E r p, p)
 ]
   where
-    by : (E : Edit) (n : ℕ) → tells E (with_rule (Done n) (rule_of t E)) ≡ number (change t E)
+    by : (E : Edit) (n : ℕ) → tells E (with_rule (Ok n) (rule_of t E)) ≡ number (change t E)
     by (AddVertex v) n = refl
     by (RemoveVertex v) n = refl
     by (InsertEdge e c₁ c₂ k l) n = ap number (rule_change_lem t (InsertEdge e c₁ c₂ k l) _ refl)
@@ -92,8 +91,8 @@ tells_calls t E = elim (judged (verdict t E)) [
     by (TurnEdge e a) n = ap number (rule_change_lem t (TurnEdge e a) _ refl)
 
 -- and the rule says how the answered number came of the one before
-answered_rule : (t : List ℕ) (E : Edit) (n : ℕ) → answer t E ≡ Done n
-    → (reply t E ≡ with_rule (Done n) (rule_of t E)) × ((r : Rule) → rule_of t E ≡ some r → Changes (rule_change r) (face_count (rotation t)) n)
+answered_rule : (t : List ℕ) (E : Edit) (n : ℕ) → answer t E ≡ Ok n
+    → (reply t E ≡ with_rule (Ok n) (rule_of t E)) × ((r : Rule) → rule_of t E ≡ Some r → Changes (rule_change r) (face_count (rotation t)) n)
 unfolding reply
 answered_rule t E n a = (
   rw a,
@@ -104,7 +103,7 @@ answered_rule t E n a = (
 )
 
 -- an edit that answers a number went through, and the number is the new face count
-pub answered_count : (t : List ℕ) (E : Edit) (n : ℕ) → answer t E ≡ Done n → pos n ≡ face_number (edited t E)
+pub answered_count : (t : List ℕ) (E : Edit) (n : ℕ) → answer t E ≡ Ok n → pos n ≡ face_number (edited t E)
 answered_count t E n a = elim (judged (verdict t E)) [
   | passed p ↦ rw (edited_passes t E p) (ap pos (same (sym a ∙ answer_passes t E p)))
   | declined r p ↦ absurd (done_declined (sym (answer_declines t E r p) ∙ a))

@@ -4,16 +4,15 @@
 --     commit_answered, commit_away                                 its answer; turned away, it leaves the table
 --     done_good, done_count, done_run, done_answered, done_away    the same of any deed
 --     ran_count, ran_counted                                       the whole run: the face count; the plain edits that it counts as
-use Rattle.std.specs.Prelude.{ℕ, refl, List, [], ◌∷◌, ◌++◌, pos, ◌+ℤ◌}
+use Rattle.table.specs.Answers.{Answer}
+use Rattle.std.specs.Prelude.{ℕ, refl, List, [], ◌∷◌, ◌++◌, pos, ◌+ℤ◌, Ok, Err, Option, None, Some, Result}
+use Rattle.edits.specs.declared.rule.Reply.{Reply}
 use Rattle.std.proofs.Common.{arith, sym, ◌∙◌, ap}
-use Rattle.std.proofs.Math.Path.{◌≡◌}
-use Rattle.std.proofs.Math.Option.{Option, none, some}
+use Rattle.std.proofs.Math.Path.{◌≡◌, sym, ap}
 use Rattle.std.proofs.Math.IntN.{+ℤ_idr, +ℤ_assoc}
 use Rattle.table.specs.Good.{Good}
 use Rattle.table.specs.Empty.{empty_table}
 use Rattle.table.specs.laws.Empty.{empty_good}
-use Rattle.table.specs.declared.answer.Answer.{Answer}
-use Rattle.table.specs.declared.answer.Answer.TheVariants.{Done, Declined}
 use Rattle.table.specs.declared.answer.Refusal.{Refusal}
 use Rattle.edits.specs.Edits.{edited, answer}
 use Rattle.edits.specs.Rules.{rule_of, with_rule, reply}
@@ -22,7 +21,6 @@ use Rattle.edits.proofs.laws.Verdicts.{judged, passed, declined}
 use Rattle.edits.proofs.laws.Edits.{edited_declines, answer_passes}
 use Rattle.edits.specs.declared.edit.Edit.{Edit}
 use Rattle.edits.specs.declared.rule.Rule.{Rule}
-use Rattle.edits.specs.declared.rule.Reply.TheVariants.{Refused}
 use Rattle.forecasts.specs.declared.forecast.Forecast.{Forecast}
 use Rattle.forecasts.specs.Forecast.{commit_verdict, commit_reply, committed}
 use Rattle.forecasts.proofs.laws.Forecast.{asked_passes, commit_exactly, commit_plain, commit_declines}
@@ -34,25 +32,23 @@ use Rattle.runs_deeds.specs.DeedLaws.{DeedLaws}
 
 -- a reply with a count is that of an edit that answered it, with the edit's rule
 module _ (t : List ℕ) (E : Edit) (n : ℕ) (m : Option Rule) where
-  counts_in : reply t E ≡ with_rule (Done n) m → (answer t E ≡ Done n) × (m ≡ rule_of t E)
+  counts_in : reply t E ≡ with_rule (Ok n) m → (answer t E ≡ Ok n) × (m ≡ rule_of t E)
   unfolding reply
   counts_in e = by (answer t E) (rule_of t E) m e
     where
-      by : (a : Answer) (o m : Option Rule) → with_rule a o ≡ with_rule (Done n) m → (a ≡ Done n) × (m ≡ o)
-      by (Done k) none none e = (cc, refl)
-      by (Done k) none (some r) e = absurd (let z : ◌≡◌ {A = ℕ} 0 1 = cc in omega arith)
-      by (Done k) (some r) none e = absurd (let z : ◌≡◌ {A = ℕ} 0 1 = cc in omega arith)
-      by (Done k) (some r) (some s) e = (cc, cc)
-      by (Declined r) o none e = absurd (let z : ◌≡◌ {A = ℕ} 0 1 = cc in omega arith)
-      by (Declined r) o (some s) e = absurd (let z : ◌≡◌ {A = ℕ} 0 1 = cc in omega arith)
+      same : {x y : Reply} → ◌≡◌ {A = Result Reply Refusal} (Ok x) (Ok y) → x ≡ y
+      same e = cc
+
+      by : (a : Answer) (o m : Option Rule) → with_rule a o ≡ with_rule (Ok n) m → (a ≡ Ok n) × (m ≡ o)
+      by (Ok k) o m e = let q = same e in (ap Ok (ap (λ y. y.faces) q), sym (ap (λ y. y.rule) q))
+      by (Err r) o m e = absurd (let z : ◌≡◌ {A = ℕ} 0 1 = cc in omega arith)
 
 -- a refusal is no reply with a count
-no_count : {r : Refusal} (n : ℕ) (m : Option Rule) → Refused r ≡ with_rule (Done n) m → ⊥
-no_count n none e = let z : ◌≡◌ {A = ℕ} 0 1 = cc in omega arith
-no_count n (some s) e = let z : ◌≡◌ {A = ℕ} 0 1 = cc in omega arith
+no_count : {r : Refusal} (n : ℕ) (m : Option Rule) → Err r ≡ with_rule (Ok n) m → ⊥
+no_count n m e = let z : ◌≡◌ {A = ℕ} 0 1 = cc in omega arith
 
 -- an edit that answers a refusal leaves the table
-refused_keeps : (t : List ℕ) (E : Edit) (r : Refusal) → reply t E ≡ Refused r → edited t E ≡ t
+refused_keeps : (t : List ℕ) (E : Edit) (r : Refusal) → reply t E ≡ Err r → edited t E ≡ t
 unfolding reply
 refused_keeps t E r e = elim (judged (verdict t E)) [
   | passed p ↦ absurd (no_count _ (rule_of t E) (sym e ∙ ap (λ a. with_rule a (rule_of t E)) (answer_passes t E p)))
@@ -84,14 +80,14 @@ module _ (t : List ℕ) (E : Edit) (f : Forecast) where
     | declined r p ↦ rw p (run_none t) ∙ sym (commit_declines t E f r p).1
   ]
 
-  commit_answered : (n : ℕ) (m : Option Rule) → commit_reply t E f ≡ with_rule (Done n) m → (pos n ≡ face_number (committed t E f)) × (m ≡ rule_of t E)
+  commit_answered : (n : ℕ) (m : Option Rule) → commit_reply t E f ≡ with_rule (Ok n) m → (pos n ≡ face_number (committed t E f)) × (m ≡ rule_of t E)
   commit_answered n m e = elim (judged (commit_verdict t E f)) [
     | passed p ↦ let c = counts_in t E n m (sym (commit_plain t E f p).0 ∙ e) in
         (answered_count t E n c.0 ∙ ap face_number (sym (commit_plain t E f p).1), c.1)
     | declined r p ↦ absurd (no_count n m (sym (commit_declines t E f r p).0 ∙ e))
   ]
 
-  commit_away : (r : Refusal) → commit_reply t E f ≡ Refused r → committed t E f ≡ t
+  commit_away : (r : Refusal) → commit_reply t E f ≡ Err r → committed t E f ≡ t
   commit_away r e = elim (judged (commit_verdict t E f)) [
     | passed p ↦ (commit_plain t E f p).1 ∙ refused_keeps t E r (sym (commit_plain t E f p).0 ∙ e)
     | declined s p ↦ (commit_declines t E f s p).1
@@ -111,12 +107,12 @@ done_run : (t : List ℕ) (D : Deed) → run t (counts_as t D) ≡ done t D
 done_run t (edit E) = run_one t E
 done_run t (commit E f) = commit_run t E f
 
-done_answered : (t : List ℕ) (D : Deed) (n : ℕ) (m : Option Rule) → deed_reply t D ≡ with_rule (Done n) m
+done_answered : (t : List ℕ) (D : Deed) (n : ℕ) (m : Option Rule) → deed_reply t D ≡ with_rule (Ok n) m
     → (pos n ≡ face_number (done t D)) × (m ≡ rule_of t (edit_in D))
 done_answered t (edit E) n m e = let c = counts_in t E n m e in (answered_count t E n c.0, c.1)
 done_answered t (commit E f) n m e = commit_answered t E f n m e
 
-done_away : (t : List ℕ) (D : Deed) (r : Refusal) → deed_reply t D ≡ Refused r → done t D ≡ t
+done_away : (t : List ℕ) (D : Deed) (r : Refusal) → deed_reply t D ≡ Err r → done t D ≡ t
 done_away t (edit E) r e = refused_keeps t E r e
 done_away t (commit E f) r e = commit_away t E f r e
 

@@ -4,22 +4,19 @@
 --     run_on, answers_on               a run, and its answers
 --     run_on_lem, answers_on_lem       they are those of the table itself
 --     verdict_by                        the verdict on a good table, from a function that reads its words
-use Rattle.std.specs.Prelude.{ℕ, ◌+◌, ◌≡◌, refl, not, Bool, ◌&&◌, List, [], ◌∷◌, eqb, ltb, get_or, ℤ, ◌+ℤ◌}
+use Rattle.std.specs.Prelude.{ℕ, ◌+◌, ◌≡◌, refl, not, Bool, ◌&&◌, List, [], ◌∷◌, eqb, ltb, get_or, ℤ, ◌+ℤ◌, Ok, Err, Option, None, Some, Result}
 use Rattle.std.proofs.Common.{◌∙◌}
 use Rattle.std.proofs.Math.Path.{ap, ap₂}
-use Rattle.std.proofs.Math.Option.{Option, none, some}
 use Rattle.table.specs.Layout.{vertices, edges, nothing, edge_at, vertex_at}
 use Rattle.table.specs.Rotation.{rotation}
 use Rattle.table.specs.Good.{Good}
 use Rattle.table.specs.laws.Check.{good_yes}
-use Rattle.table.specs.Answers.{unless}
-use Rattle.table.specs.declared.answer.Answer.{Answer}
-use Rattle.table.specs.declared.answer.Answer.TheVariants.{Done, Declined}
+use Rattle.table.specs.Answers.{unless, Answer}
 use Rattle.table.specs.declared.answer.Refusal.TheVariants.{NoSuchName, Taken, Absent}
 use Rattle.tracing.specs.Listing.{face_count}
 use Rattle.tracing.specs.Corner.{well_formed, present}
 use Rattle.edits.specs.Turns.{turns_in}
-use Rattle.edits.specs.Verdicts.{verdict, and_then, isolation, few_turns, fair_length, new_vertex, old_vertex, new_edge, old_edge}
+use Rattle.edits.specs.Verdicts.{verdict, and_then, isolation, few_turns, fair_length, new_vertex, old_vertex, new_edge, old_edge, Verdict}
 use Rattle.edits.specs.Edits.{edited, answer}
 use Rattle.edits.proofs.laws.Edits.{edited_passes, edited_declines, answer_passes, answer_declines}
 use Rattle.surgery.specs.Change.{insertion, deletion, turning}
@@ -29,8 +26,6 @@ use Rattle.edits.specs.declared.rule.Rule.{Rule}
 use Rattle.edits.specs.declared.rule.Reply.{Reply}
 use Rattle.edits.specs.declared.edit.Edit.{Edit}
 use Rattle.edits.specs.declared.edit.Edit.TheVariants.{AddVertex, RemoveVertex, InsertEdge, DeleteEdge, TurnEdge}
-use Rattle.edits.specs.declared.edit.Verdict.{Verdict}
-use Rattle.edits.specs.declared.edit.Verdict.TheVariants.{Passes, Declines}
 use Rattle.runs.specs.Run.{run}
 use Rattle.runs.proofs.laws.Theorem.{edited_good}
 use Rattle.samples.specs.Samples.{answers}
@@ -42,22 +37,22 @@ use Rattle.table.specs.declared.answer.Refusal.{Refusal}
 -- the verdict on a good table whose word at i is g i
 module _ (g : ℕ → ℕ) where
   abbrev vertex_by : ℕ → Bool → Refusal → Verdict
-  vertex_by v test r = unless (ltb v vertices) (Declines NoSuchName) (unless test (Declines r) Passes)
+  vertex_by v test r = unless (ltb v vertices) (Err NoSuchName) (unless test (Err r) (Ok tt))
 
   abbrev edge_by : ℕ → Verdict
-  edge_by e = unless (ltb e edges) (Declines NoSuchName) (unless (not (eqb (g (edge_at + e)) 0)) (Declines Absent) Passes)
+  edge_by e = unless (ltb e edges) (Err NoSuchName) (unless (not (eqb (g (edge_at + e)) 0)) (Err Absent) (Ok tt))
 
   abbrev verdict_by : Edit → Verdict
-  verdict_by (AddVertex v) = and_then (vertex_by v (not (not (eqb (g (vertex_at + v)) nothing))) Taken) Passes
+  verdict_by (AddVertex v) = and_then (vertex_by v (not (not (eqb (g (vertex_at + v)) nothing))) Taken) (Ok tt)
   verdict_by (RemoveVertex v) = and_then (vertex_by v (not (eqb (g (vertex_at + v)) nothing)) Absent) (isolation (g (vertex_at + v)))
   verdict_by (InsertEdge e c₁ c₂ k n) =
       and_then
-      (unless (ltb e edges && (well_formed c₁ && well_formed c₂)) (Declines NoSuchName)
-      (unless (not (not (eqb (g (edge_at + e)) 0))) (Declines Taken)
-      (unless (present (rotation_by g) c₁ && present (rotation_by g) c₂) (Declines Absent)
-      Passes)))
+      (unless (ltb e edges && (well_formed c₁ && well_formed c₂)) (Err NoSuchName)
+      (unless (not (not (eqb (g (edge_at + e)) 0))) (Err Taken)
+      (unless (present (rotation_by g) c₁ && present (rotation_by g) c₂) (Err Absent)
+      (Ok tt))))
       (and_then (few_turns k) (fair_length n))
-  verdict_by (DeleteEdge e) = and_then (edge_by e) Passes
+  verdict_by (DeleteEdge e) = and_then (edge_by e) (Ok tt)
   verdict_by (TurnEdge e a) = and_then (edge_by e) (few_turns (turns_in (g (edge_at + e)) +ℤ a))
 
 verdict_by_lem : (t : List ℕ) (E : Edit) → Good t → verdict t E ≡ verdict_by (λ i. get_or t i 0) E
@@ -69,12 +64,12 @@ verdict_by_lem t (DeleteEdge e) g = rw (← good_yes t g)
 verdict_by_lem t (TurnEdge e a) g = rw (← good_yes t g)
 
 abbrev writes_by : Verdict → Writes → Writes → Writes
-writes_by Passes new old = new
-writes_by (Declines r) new old = old
+writes_by (Ok tt) new old = new
+writes_by (Err r) new old = old
 
 abbrev answered_by : Verdict → ℕ → Answer
-answered_by Passes n = Done n
-answered_by (Declines r) n = Declined r
+answered_by (Ok tt) n = Ok n
+answered_by (Err r) n = Err r
 
 unfoldable pub verdict_on : Writes → Edit → Verdict
 verdict_on ws E = verdict_by (read ws) E
@@ -87,22 +82,22 @@ answer_on ws E = answered_by (verdict_on ws E) (faces_on (written_on ws E))
 
 -- the rule of an edit, and its answer with it
 unfoldable pub rule_on : Writes → Edit → Option Rule
-rule_on ws (AddVertex v) = none
-rule_on ws (RemoveVertex v) = none
-rule_on ws (InsertEdge e c₁ c₂ k n) = some (rule_for (insertion (meeting_on ws c₁ c₂) (oddness k)))
-rule_on ws (DeleteEdge e) = some (rule_for (deletion (sides_on ws e)))
-rule_on ws (TurnEdge e a) = some (turn_rule (oddness a) (turning (sides_on ws e)))
+rule_on ws (AddVertex v) = None
+rule_on ws (RemoveVertex v) = None
+rule_on ws (InsertEdge e c₁ c₂ k n) = Some (rule_for (insertion (meeting_on ws c₁ c₂) (oddness k)))
+rule_on ws (DeleteEdge e) = Some (rule_for (deletion (sides_on ws e)))
+rule_on ws (TurnEdge e a) = Some (turn_rule (oddness a) (turning (sides_on ws e)))
 
-unfoldable pub reply_on : Writes → Edit → Reply
+unfoldable pub reply_on : Writes → Edit → Result Reply Refusal
 reply_on ws E = with_rule (answer_on ws E) (rule_on ws E)
 
 rule_on_lem : (ws : Writes) (E : Edit) → rule_of (table_of ws) E ≡ rule_on ws E
 unfolding rule_on
 rule_on_lem ws (AddVertex v) = refl
 rule_on_lem ws (RemoveVertex v) = refl
-rule_on_lem ws (InsertEdge e c₁ c₂ k n) = ap (λ m. some (rule_for (insertion m (oddness k)))) (meeting_read ws c₁ c₂)
-rule_on_lem ws (DeleteEdge e) = ap (λ s. some (rule_for (deletion s))) (sides_read ws e)
-rule_on_lem ws (TurnEdge e a) = ap (λ s. some (turn_rule (oddness a) (turning s))) (sides_read ws e)
+rule_on_lem ws (InsertEdge e c₁ c₂ k n) = ap (λ m. Some (rule_for (insertion m (oddness k)))) (meeting_read ws c₁ c₂)
+rule_on_lem ws (DeleteEdge e) = ap (λ s. Some (rule_for (deletion s))) (sides_read ws e)
+rule_on_lem ws (TurnEdge e a) = ap (λ s. Some (turn_rule (oddness a) (turning s))) (sides_read ws e)
 
 module _ (ws : Writes) (E : Edit) (g : Good (table_of ws)) where
   verdict_on_lem : verdict (table_of ws) E ≡ verdict_on ws E
@@ -114,16 +109,16 @@ module _ (ws : Writes) (E : Edit) (g : Good (table_of ws)) where
   edited_on_lem = by (verdict_on ws E) verdict_on_lem
     where
       by : (v : Verdict) → verdict (table_of ws) E ≡ v → edited (table_of ws) E ≡ table_of (writes_by v (written_on ws E) ws)
-      by Passes e = edited_passes (table_of ws) E e ∙ written_on_lem ws E
-      by (Declines r) e = edited_declines (table_of ws) E r e
+      by (Ok tt) e = edited_passes (table_of ws) E e ∙ written_on_lem ws E
+      by (Err r) e = edited_declines (table_of ws) E r e
 
   answer_on_lem : answer (table_of ws) E ≡ answer_on ws E
   unfolding answer_on
   answer_on_lem = by (verdict_on ws E) verdict_on_lem
     where
       by : (v : Verdict) → verdict (table_of ws) E ≡ v → answer (table_of ws) E ≡ answered_by v (faces_on (written_on ws E))
-      by Passes e = answer_passes (table_of ws) E e ∙ ap (λ t. Done (face_count (rotation t))) (written_on_lem ws E) ∙ ap Done (faces_read_lem (written_on ws E))
-      by (Declines r) e = answer_declines (table_of ws) E r e
+      by (Ok tt) e = answer_passes (table_of ws) E e ∙ ap (λ t. Ok (face_count (rotation t))) (written_on_lem ws E) ∙ ap Ok (faces_read_lem (written_on ws E))
+      by (Err r) e = answer_declines (table_of ws) E r e
 
   reply_on_lem : reply (table_of ws) E ≡ reply_on ws E
   unfolding reply reply_on

@@ -3,7 +3,7 @@
 --     counts_short, counts_done    the ends of the call for the mesh's counts: 7, or five words
 --     rows_size                    six words for each part
 --     parts_short, parts_done      the ends of the call for the parts' rows: 7, or all rows
-use Rattle.std.specs.Prelude.{ℕ, ◌*◌, ◌<◌, ◌≤◌, ◌≡◌, true, List, length, set, ℤ}
+use Rattle.std.specs.Prelude.{ℕ, ◌*◌, ◌<◌, ◌≤◌, ◌≡◌, true, List, length, set, ℤ, Ok, Err}
 use Rattle.std.proofs.Common.{arith, sym, ◌∙◌, ap, SFits, to_z, of_z, to_z-of_z}
 use Rattle.std.proofs.Math.Path.{refl}
 use Rattle.std.proofs.Math.Seq.{sets}
@@ -13,7 +13,6 @@ use Rattle.table.specs.Layout.{vertices}
 use Rattle.table.specs.Rotation.{rotation}
 use Rattle.table.specs.Check.{good?}
 use Rattle.table.specs.laws.Output.{output_done, sets_front, output_short}
-use Rattle.table.specs.declared.answer.Answer.TheVariants.{Done, Declined}
 use Rattle.table.specs.declared.answer.Refusal.TheVariants.{ShortSlice}
 use Rattle.surface.specs.Parts.{root?}
 use Rattle.surface.specs.Rows.{rows}
@@ -39,12 +38,12 @@ module _ (out : List ℤ) (v e f p : ℕ) (h : v < 65536) (i : e < 65536) (j : f
 -- the ends of the calls
 
 module _ (t : List ℕ) (out : List ℤ) (g : good? t ≡ true) where
-  pub counts_short : length out < 5 → (Declined ShortSlice ≡ counts_answer t (length out)) × (out ≡ counts_out t out)
+  pub counts_short : length out < 5 → (Err ShortSlice ≡ counts_answer t (length out)) × (out ≡ counts_out t out)
   unfolding counts_of
   counts_short h = output_short t (counts_of (rotation t)) out g h
 
   pub counts_done : {v e f p : ℕ} {x : ℤ} {out' : List ℤ} → MeshCounts (rotation t) v e f p x → 5 ≤ length out → out' ≡ sets out 0 (five_words v e f p (to_z w32 (of_z w32 x)))
-      → (Done 5 ≡ counts_answer t (length out)) × (out' ≡ counts_out t out)
+      → (Ok 5 ≡ counts_answer t (length out)) × (out' ≡ counts_out t out)
   unfolding counts_of
   counts_done m h w =
       let text = counts_of (rotation t) in
@@ -56,13 +55,13 @@ module _ (t : List ℕ) {k : ℕ} (c : AddedUp (root? (rotation t)) vertices k) 
   rows_size = let a = rows_length (rotation t) in let b = parts_count (rotation t) in let p = c.passed in omega arith
 
   module _ (out : List ℤ) (g : good? t ≡ true) where
-    pub parts_short : length out < 6 * k → (Declined ShortSlice ≡ parts_answer t (length out)) × (out ≡ parts_out t out)
+    pub parts_short : length out < 6 * k → (Err ShortSlice ≡ parts_answer t (length out)) × (out ≡ parts_out t out)
     parts_short h =
         let s = rows_size in
         let all = ap length (rows_all (rotation t)) in
         output_short t (part_rows (rotation t)) out g (omega arith)
 
-    pub parts_done : {n : ℕ} {out' : List ℤ} → Written (rotation t) vertices n out out' → (Done (6 * k) ≡ parts_answer t (length out)) × (out' ≡ parts_out t out)
+    pub parts_done : {n : ℕ} {out' : List ℤ} → Written (rotation t) vertices n out out' → (Ok (6 * k) ≡ parts_answer t (length out)) × (out' ≡ parts_out t out)
     parts_done W =
         let text = part_rows (rotation t) in
         let all = rows_all (rotation t) in

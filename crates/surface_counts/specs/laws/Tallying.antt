@@ -10,7 +10,7 @@
 --     PartTally, tallied                                                the words of a part at the end: V, E, F, orientable
 --     Tallies                                                           a good table with its labels, and four arrays of zeros
 --     tallies_keyed, tallies_vertexing, tallies_edging                  the loops can begin on these
-use Rattle.std.specs.Prelude.{ℕ, ◌+◌, ◌*◌, ◌/◌, ◌%◌, ◌<◌, ◌≤◌, ◌≡◌, Bool, true, false, ◌&&◌, List, map, ◌≢◌, length, get_or, set, replicate}
+use Rattle.std.specs.Prelude.{ℕ, ◌+◌, ◌*◌, ◌/◌, ◌%◌, ◌<◌, ◌≤◌, ◌≡◌, Bool, true, false, ◌&&◌, refl, Option, Some, List, map, ◌≢◌, length, get_or, set, replicate}
 use native.Mathlib.Omega.{arith}
 use Rattle.std.proofs.Common.{sym, ◌∙◌, ap₂, length-append, eq-eqb, ne_eqb}
 use Rattle.std.proofs.Math.Path.{ap}
@@ -24,12 +24,11 @@ use Rattle.table.specs.laws.Lawful.{good_lawful}
 use Rattle.orbits.proofs.laws.Truth.{Truth, truth, holds, fails, clash, both, both_right, false_unless}
 use Rattle.orbits.specs.Count.{count}
 use Rattle.orbits.proofs.laws.Count.{count_same, count_le}
-use Rattle.tracing_walks.specs.declared.count.Size.{Size}
 use Rattle.tracing.specs.Listing.{only, starts, alones, lone_corner, faces}
 use Rattle.tracing.proofs.laws.Listing.{starts_suc}
 use Rattle.tracing.proofs.laws.Has.{count_in_append, count_in_map}
 use Rattle.tracing.proofs.laws.Starts.{start?, start_live, starts_more, starts_count, alones_count}
-use Rattle.tracing_walks.specs.laws.Size.{Looked, Seen, seen_none, seen_more, unmet_fresh}
+use Rattle.tracing_walks.specs.laws.Size.{Looked, no_walk, one_walk, looked_marks, looked_one, unmet, Seen, seen_none, seen_more, unmet_fresh}
 use Rattle.tracing_walks.specs.laws.Marks.{unmarked}
 use Rattle.surface.specs.Labels.{label, in_part, agrees, untwisted, twisted, orientable}
 use Rattle.surface.proofs.laws.Labels.{label_is, orientable_is}
@@ -156,28 +155,30 @@ pub record Dartwise (t up : List ℕ) (n : ℕ) (met fs : List ℕ) : Type 0 whe
   pub seen : Seen t n met
   pub walk : WalkTally t n fs
 
-module _ {t up : List ℕ} {n : ℕ} {met fs : List ℕ} (K : Dartwise t up n met fs) (h : n < darts) {r : Size} {met' : List ℕ} (v : Looked t n met r met') where
-  walks_start : r.walks ≡ length (only (start? (rotation t) n) n)
+module _ {t up : List ℕ} {n : ℕ} {met fs : List ℕ} (K : Dartwise t up n met fs) (h : n < darts) where
+  walks_start : length (unmet t met n) ≡ length (only (start? (rotation t) n) n)
   walks_start =
       let R = rotation t in
-      let u = v.walks ∙ ap length (unmet_fresh K.seen h) in
+      let u = ap length (unmet_fresh K.seen h) in
       let both_ways = simp length-append at (ap length (sym (starts_suc R n) ∙ starts_more R n)) in
       omega arith
 
-  pub walk_none : r.walks ≡ 0 → Dartwise t up (n + 1) met' fs
-  walk_none z = record {
+  pub walk_none : {r : Option ℕ} {met' : List ℕ} → Looked t n met r met' → ((k : ℕ) → r ≢ Some k) → Dartwise t up (n + 1) met' fs
+  walk_none (no_walk u) e = record {
     keyed = K.keyed;
-    seen = seen_more K.seen h v.marks;
+    seen = seen_more K.seen h (looked_marks (no_walk u));
     walk = tally_skip K.walk (false_unless (start? (rotation t) n) (λ s.
-        let one : r.walks ≡ 1 = walks_start ∙ rw s in
+        let none = ap length u in
+        let one : length (unmet t met n) ≡ 1 = walks_start ∙ rw s in
         omega arith));
   }
+  walk_none (one_walk st u k) e = absurd (e _ refl)
 
-  module _ (z : r.walks ≢ 0) where
+  module _ {k : ℕ} {met' : List ℕ} (v : Looked t n met (Some k) met') where
     starts_here : start? (rotation t) n ≡ true
     starts_here = elim (truth (start? (rotation t) n)) [
       | holds s ↦ s
-      | fails s ↦ absurd (z (walks_start ∙ rw s))
+      | fails s ↦ absurd (let one = ap length (looked_one v) in let none : length (unmet t met n) ≡ 0 = walks_start ∙ rw s in omega arith)
     ]
 
     pub start_low : leaves t n < vertices
@@ -192,7 +193,7 @@ module _ {t up : List ℕ} {n : ℕ} {met fs : List ℕ} (K : Dartwise t up n me
     pub walk_more : Dartwise t up (n + 1) met' (bump fs (get_or up (leaves t n) 0))
     walk_more = record {
       keyed = K.keyed;
-      seen = seen_more K.seen h v.marks;
+      seen = seen_more K.seen h (looked_marks v);
       walk = tally_more K.walk starts_here (K.keyed.label (leaves t n) start_low) walk_key;
     }
 

@@ -6,13 +6,13 @@
 --     iter_live, iter_leaves, iter_word      the same after k steps
 --     orbit_size                             an orbit has as many points as steps round it
 --     Round                                  the walk round a cycle, n steps on, with no smaller dart so far
---     CycleSays                              the number of darts on the cycle, or 0 where a smaller one is on it
+--     CycleSays                              the number of darts on the cycle, or none where a smaller one is on it
 --     round_none, round_more, round_short    the walk begins, goes on, and stays below the number of darts
 --     round_all, round_lower                 what it answers where it ends
 use Prim.Native.Nat.{ℕ, zero, suc, ◌+◌, ◌-◌, ◌≤◌, ◌<◌}
 use native.Mathlib.Omega.{arith}
 use Rattle.std.proofs.Common.{lt_of_lt_of_le, ◌∙◌, add-one}
-use Rattle.std.specs.Prelude.{◌≡◌, true, List, ◌≢◌}
+use Rattle.std.specs.Prelude.{◌≡◌, true, List, Option, Some, None, ◌≢◌}
 use Rattle.std.proofs.Math.Path.{refl, sym, ap}
 use Rattle.std.proofs.Math.Decide.{ℕ_discrete, dec_lt}
 use Rattle.orbits.specs.Count.{count}
@@ -135,10 +135,10 @@ pub record Round (t : List ℕ) (w n d : ℕ) : Type 0 where
   pub apart : (k : ℕ) → zero < k → k < n → iter (next_dart t) k w ≢ w
   pub above : (k : ℕ) → k < n → w ≤ iter (next_dart t) k w
 
--- what the walk answers: the number of darts on the cycle, or 0 where a smaller dart than w is on it
-pub data CycleSays (t : List ℕ) (w n : ℕ) : Type 0 where
-  leads : (p : Period (next_dart t) w) → p.steps ≡ n → ((k : ℕ) → w ≤ iter (next_dart t) k w) → CycleSays t w n
-  follows : n ≡ 0 → (k : ℕ) → iter (next_dart t) k w < w → CycleSays t w n
+-- what the walk answers: the number of darts on the cycle, or none where a smaller dart than w is on it
+pub data CycleSays (t : List ℕ) (w : ℕ) (r : Option ℕ) : Type 0 where
+  leads : (p : Period (next_dart t) w) → r ≡ Some p.steps → ((k : ℕ) → w ≤ iter (next_dart t) k w) → CycleSays t w r
+  follows : r ≡ None → (k : ℕ) → iter (next_dart t) k w < w → CycleSays t w r
 
 module _ (t : List ℕ) (r : Ruled t darts) (w : ℕ) (l : Live t w) where
   pub round_none : Round t w 1 (next_word t w)
@@ -182,11 +182,11 @@ module _ (t : List ℕ) (r : Ruled t darts) (w : ℕ) (l : Live t w) where
         ]
       ]
 
-  pub round_all : (n d : ℕ) → Round t w n d → d ≡ w → CycleSays t w n
+  pub round_all : (n d : ℕ) → Round t w n d → d ≡ w → CycleSays t w (Some n)
   round_all n d o e = leads p refl (λ k. let i = reach_within p (record { steps = k; lands = refl }) in rw (← i.lands) (o.above i.steps i.few))
     where
       p : Period (next_dart t) w
       p = record { steps = n; some = o.some; back = o.at ∙ e; least = o.apart }
 
-  pub round_lower : (n d : ℕ) → Round t w n d → d < w → CycleSays t w 0
+  pub round_lower : (n d : ℕ) → Round t w n d → d < w → CycleSays t w None
   round_lower n d o h = follows refl n (rw o.at h)

@@ -22,9 +22,8 @@ use Rattle.table.specs.Good.{Good, Bare}
 use Rattle.table.specs.Rotation.{live?}
 use Rattle.table.specs.laws.Rotation.{yes_live, not_live}
 use Rattle.table.specs.laws.Blocks.{edge_blocks, IdleBlock, dead_dart, block_on}
-use Rattle.table.specs.laws.Counting.{Counts, counts, breaks, counts_of_lem, counts_broken}
-use Rattle.table.specs.declared.counted.Counted.{Counted}
-use Rattle.table.specs.declared.counted.Counted.TheVariants.{Broken, Of}
+use Rattle.table.specs.laws.Counting.{Counts, counts, breaks, counts_some, counts_broken}
+use Rattle.std.specs.Prelude.{Option, Some, None}
 
 -- the words of a live dart: "previous" undoes "next". That "next" undoes "previous" follows (laws/Cycle), since a map that can be undone on finitely many
 -- darts is onto them.
@@ -44,10 +43,10 @@ abbrev pub Ruled : List ℕ → ℕ → Type 0
 Ruled t n = (d : ℕ) → d < n → DartRule t d
 
 -- what the count of the live darts below n answers, and of all
-abbrev pub DartsTo : List ℕ → ℕ → Counted → Type 0
+abbrev pub DartsTo : List ℕ → ℕ → Option ℕ → Type 0
 DartsTo t n r = Counts (Ruled t n) (count (live? t) n) r
 
-abbrev pub DartsSay : List ℕ → Counted → Type 0
+abbrev pub DartsSay : List ℕ → Option ℕ → Type 0
 DartsSay t r = DartsTo t darts r
 
 -- every rule of a dart is one of a good table's
@@ -125,10 +124,10 @@ module _ (t : List ℕ) where
   pub passed_few : (n d : ℕ) → RuledBelow t n d → n ≤ d
   passed_few n d p = rw p.counted (count_le (live? t) d)
 
-  pub passed_to : (n d : ℕ) → RuledBelow t n d → DartsTo t d (Of n)
-  passed_to n d p = counts (ap Of p.counted) p.rules
+  pub passed_to : (n d : ℕ) → RuledBelow t n d → DartsTo t d (Some n)
+  passed_to n d p = counts (ap Some p.counted) p.rules
 
-  pub passed_broken : (d to : ℕ) → d < to → (DartRule t d → ⊥) → DartsTo t to Broken
+  pub passed_broken : (d to : ℕ) → d < to → (DartRule t d → ⊥) → DartsTo t to None
   passed_broken d to h n = breaks refl (λ r. n (r d h))
 
   -- a block of darts: those of an idle one keep their rules, and none is live
@@ -138,8 +137,8 @@ module _ (t : List ℕ) where
       passed_dead n (64 * b + i) p (omega arith) (rule_dead t (64 * b + i) off (k.bare i l)) off)
 
   -- and those of another as they are counted
-  pub passed_block : {r : Counted} (n b : ℕ) → b < edge_blocks → DartsTo t (64 * b + 64) r → r ≡ Of n → RuledBelow t n (64 * b + 64)
-  passed_block n b h c e = let k = counts_of_lem n c e in record { low = omega arith; rules = k.1; counted = k.0 }
+  pub passed_block : {r : Option ℕ} (n b : ℕ) → b < edge_blocks → DartsTo t (64 * b + 64) r → r ≡ Some n → RuledBelow t n (64 * b + 64)
+  passed_block n b h c e = let k = counts_some n c e in record { low = omega arith; rules = k.1; counted = k.0 }
 
-  pub block_broken : {r : Counted} (b : ℕ) → b < edge_blocks → DartsTo t (64 * b + 64) r → r ≡ Broken → DartsSay t Broken
+  pub block_broken : {r : Option ℕ} (b : ℕ) → b < edge_blocks → DartsTo t (64 * b + 64) r → r ≡ None → DartsSay t None
   block_broken b h c e = breaks refl (λ r. counts_broken c e (λ d l. r d (omega arith)))

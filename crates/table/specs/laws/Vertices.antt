@@ -9,7 +9,7 @@
 --     summed_loose, summed_block, block_broken      the same block by block
 --     counted_good, good_counted                    the table is good exactly if rules and count say so
 --     vertex_none, vertex_alone, vertex_astray      one vertex: not live, isolated, or with a word that leads nothing
---     leaving_live, vertex_leads, vertex_follows    and one whose word leads a cycle, or follows a smaller dart
+--     leaving_live, vertex_cycle                    and one whose word leads a dart of it: what the walk round its cycle says
 --     one_more, spread                              Boolean laws of the count
 use Prim.Native.Nat.{ℕ, zero, suc, ◌+◌, ◌*◌, ◌/◌, ◌≤◌, ◌<◌}
 use native.Mathlib.Omega.{arith}
@@ -33,9 +33,8 @@ use Rattle.table.specs.laws.Rotation.{yes_live, live_yes, not_live, next_dart_de
 use Rattle.table.specs.laws.Darts.{Ruled}
 use Rattle.table.specs.laws.Cycle.{CycleSays, leads, follows, next_live, prev_live, prev_undone, next_inj, iter_live, iter_leaves, iter_word, orbit_size}
 use Rattle.table.specs.laws.Blocks.{vertex_blocks, LooseBlock, block_on}
-use Rattle.table.specs.laws.Counting.{Counts, counts, breaks, counts_of_lem, counts_broken}
-use Rattle.table.specs.declared.counted.Counted.{Counted}
-use Rattle.table.specs.declared.counted.Counted.TheVariants.{Broken, Of}
+use Rattle.table.specs.laws.Counting.{Counts, counts, breaks, counts_some, counts_broken}
+use Rattle.std.specs.Prelude.{Option, Some, None}
 
 -- w is live, leaves v, and is the smallest on its cycle
 pub record Leads (t : List ℕ) (v w : ℕ) : Type 0 where
@@ -58,13 +57,13 @@ unfoldable pub led_below : List ℕ → ℕ → ℕ → Bool
 led_below t v d = (live? t d && led? t d) && ltb (leaves t d) v
 
 -- what the count of the darts led at one vertex answers, at the vertices below n, and at all
-abbrev pub VertexSays : List ℕ → ℕ → Counted → Type 0
+abbrev pub VertexSays : List ℕ → ℕ → Option ℕ → Type 0
 VertexSays t v r = Counts (VertexRule t v) (count (led_at t v) darts) r
 
-abbrev pub VerticesTo : List ℕ → ℕ → Counted → Type 0
+abbrev pub VerticesTo : List ℕ → ℕ → Option ℕ → Type 0
 VerticesTo t n r = Counts ((v : ℕ) → v < n → VertexRule t v) (count (led_below t n) darts) r
 
-abbrev pub VerticesSay : List ℕ → Counted → Type 0
+abbrev pub VerticesSay : List ℕ → Option ℕ → Type 0
 VerticesSay t r = Counts ((v : ℕ) → v < vertices → VertexRule t v) (count (λ d. live? t d && led? t d) darts) r
 
 module _ (t : List ℕ) (r : Ruled t darts) where
@@ -159,22 +158,22 @@ module _ (t : List ℕ) where
   summed_few n v s = rw s.counted (count_le (led_below t v) darts)
 
   -- every live dart leaves a vertex, so none is left out
-  all_below_lem : Ruled t darts → (d : ℕ) → d < darts → led_below t vertices d ≡ (live? t d && led? t d)
+  none_left_out : Ruled t darts → (d : ℕ) → d < darts → led_below t vertices d ≡ (live? t d && led? t d)
   unfolding led_below
-  all_below_lem r d h = same_truth (led_below t vertices d) (live? t d && led? t d)
+  none_left_out r d h = same_truth (led_below t vertices d) (live? t d && led? t d)
       (both_left (live? t d && led? t d) _)
       (λ e. let l = live_yes t d (both_left (live? t d) (led? t d) e) in both e (lt-ltb _ _ ((r d h).linked l.on).at))
 
-  pub summed_all : (n v : ℕ) → Ruled t darts → Summed t n v → vertices ≤ v → VerticesSay t (Of n)
+  pub summed_all : (n v : ℕ) → Ruled t darts → Summed t n v → vertices ≤ v → VerticesSay t (Some n)
   summed_all n v r s h =
       let e : v ≡ vertices = omega (arith, s.low) in
       let c : n ≡ count (led_below t vertices) darts = rw (← e) s.counted in
-      counts (ap Of (c ∙ count_same (led_below t vertices) (λ d. live? t d && led? t d) darts (all_below_lem r))) (rw e at s.rules)
+      counts (ap Some (c ∙ count_same (led_below t vertices) (λ d. live? t d && led? t d) darts (none_left_out r))) (rw e at s.rules)
 
-  pub summed_to : (n v : ℕ) → Summed t n v → VerticesTo t v (Of n)
-  summed_to n v s = counts (ap Of s.counted) s.rules
+  pub summed_to : (n v : ℕ) → Summed t n v → VerticesTo t v (Some n)
+  summed_to n v s = counts (ap Some s.counted) s.rules
 
-  pub summed_broken : (v to : ℕ) → v < to → (VertexRule t v → ⊥) → VerticesTo t to Broken
+  pub summed_broken : (v to : ℕ) → v < to → (VertexRule t v → ⊥) → VerticesTo t to None
   summed_broken v to h n = breaks refl (λ r. n (r v h))
 
   -- a block of vertices: those of a loose one keep their rule, and none leads a dart
@@ -185,10 +184,10 @@ module _ (t : List ℕ) where
       rw z at (summed_more n 0 (32 * b + i) s (omega arith) (λ none alone. absurd (omega arith)) (sym (led_none t r (32 * b + i) (omega arith)))))
 
   -- and those of another as they are summed
-  pub summed_block : {r : Counted} (n b : ℕ) → b < vertex_blocks → VerticesTo t (32 * b + 32) r → r ≡ Of n → Summed t n (32 * b + 32)
-  summed_block n b h c e = let k = counts_of_lem n c e in record { low = omega arith; rules = k.1; counted = k.0 }
+  pub summed_block : {r : Option ℕ} (n b : ℕ) → b < vertex_blocks → VerticesTo t (32 * b + 32) r → r ≡ Some n → Summed t n (32 * b + 32)
+  summed_block n b h c e = let k = counts_some n c e in record { low = omega arith; rules = k.1; counted = k.0 }
 
-  pub block_broken : {r : Counted} (b : ℕ) → b < vertex_blocks → VerticesTo t (32 * b + 32) r → r ≡ Broken → VerticesSay t Broken
+  pub block_broken : {r : Option ℕ} (b : ℕ) → b < vertex_blocks → VerticesTo t (32 * b + 32) r → r ≡ None → VerticesSay t None
   block_broken b h c e = breaks refl (λ r. counts_broken c e (λ v l. r v (omega arith)))
 
 -- The whole: the rules and the count are those of a good table.
@@ -259,25 +258,23 @@ module _ (t : List ℕ) (size : length t ≡ words) (r : Ruled t darts) where
 
 -- one vertex, as the check reads it
 module _ (t : List ℕ) (r : Ruled t darts) (v : ℕ) where
-  pub vertex_none : vertex_word t v ≡ nothing → VertexSays t v (Of 0)
-  vertex_none e = counts (ap Of (sym (led_none t r v (omega (arith, e))))) (λ n i. absurd (n e))
+  pub vertex_none : vertex_word t v ≡ nothing → VertexSays t v (Some 0)
+  vertex_none e = counts (ap Some (sym (led_none t r v (omega (arith, e))))) (λ n i. absurd (n e))
 
-  pub vertex_alone : vertex_word t v ≡ isolated → VertexSays t v (Of 0)
-  vertex_alone e = counts (ap Of (sym (led_none t r v (omega (arith, e))))) (λ n i. absurd (i e))
+  pub vertex_alone : vertex_word t v ≡ isolated → VertexSays t v (Some 0)
+  vertex_alone e = counts (ap Some (sym (led_none t r v (omega (arith, e))))) (λ n i. absurd (i e))
 
   -- a word that leads no dart which leaves v
-  pub vertex_astray : vertex_word t v ≢ nothing → vertex_word t v ≢ isolated → (Leads t v (vertex_word t v) → ⊥) → VertexSays t v Broken
+  pub vertex_astray : vertex_word t v ≢ nothing → vertex_word t v ≢ isolated → (Leads t v (vertex_word t v) → ⊥) → VertexSays t v None
   vertex_astray n i no_lead = breaks refl (λ rule. no_lead (rule n i))
 
   pub leaving_live : v < vertices → (w : ℕ) → w < darts → leaves t w ≡ v → Live t w
   leaving_live h w l e = record { low = l; on = λ off. let b = ((r w l).bare off).leaves_none in omega (arith, b, e) }
 
-  pub vertex_leads : v < vertices → vertex_word t v < darts → leaves t (vertex_word t v) ≡ v → (n : ℕ) → CycleSays t (vertex_word t v) n → n ≢ 0 → VertexSays t v (Of n)
-  vertex_leads h l e n (leads p s least) some =
+  -- a word that leads a dart which leaves v, by what its cycle says
+  pub vertex_cycle : v < vertices → vertex_word t v ≢ nothing → vertex_word t v ≢ isolated → vertex_word t v < darts → leaves t (vertex_word t v) ≡ v
+      → {a : Option ℕ} → CycleSays t (vertex_word t v) a → VertexSays t v a
+  vertex_cycle h n i l e (leads p s least) =
       let a : Leads t v (vertex_word t v) = record { live = leaving_live h _ l e; here = e; least = least } in
-      counts (ap Of (sym s ∙ sym (led_cycle t r v a p))) (λ _ _. a)
-  vertex_leads h l e n (follows z k s) some = absurd (some z)
-
-  pub vertex_follows : (n : ℕ) → CycleSays t (vertex_word t v) n → n ≡ 0 → Leads t v (vertex_word t v) → ⊥
-  vertex_follows n (leads p s least) z a = let some = p.some in omega arith
-  vertex_follows n (follows z k s) _ a = let up = a.least k in omega arith
+      counts (s ∙ ap Some (sym (led_cycle t r v a p))) (λ _ _. a)
+  vertex_cycle h n i l e (follows z k s) = breaks z (λ rule. let up = (rule n i).least k in omega arith)

@@ -1,6 +1,6 @@
 -- A slice as a window on a text: `from` is the place in the text where the slice begins.
 -- What is written at a place that the slice does not show changes nothing.
---     put_before, put_in, put_past, put_length             one byte, before the window, in it, past it
+--     put_before, put_in, put_length                       one byte, before the window, in it
 --     paste_none, paste_one, paste_append, paste_length    a text: no byte, one, two texts
 --     paste_sets                                           at the beginning of the text the stores are plain
 --     window_holds, window_keeps, window_shows             what a window shows after the whole text
@@ -12,23 +12,20 @@ use Rattle.std.proofs.Math.Decide.{dec_lt, ℕ_discrete}
 use Rattle.std.proofs.Math.Nat.{sub-zero}
 use Rattle.std.proofs.Math.ListN.{get_or-append}
 use Rattle.std.proofs.lemmas.List.Edits.{sets, sets-eq}
-use Rattle.std.proofs.Math.Seq.{length-sets, set_out, take-append_seam}
+use Rattle.std.proofs.Math.Seq.{length-sets, take-append_seam}
 use Rattle.std.proofs.lemmas.Bool.{lt-leb}
 use Rattle.text.specs.Paste.{put, paste, Pasted}
 
 -- one byte
 
 module _ (from at : ℕ) (out : List ℕ) (b : ℕ) where
-  pub put_before : at < from → put from at out b ≡ out
+  put_before : at < from → put from at out b ≡ out
   unfolding put
   put_before h = rw (lt-leb from at h)
 
-  pub put_in : from ≤ at → put from at out b ≡ set out (at - from) b
+  put_in : from ≤ at → put from at out b ≡ set out (at - from) b
   unfolding put
   put_in h = rw (le-leb from at h)
-
-  pub put_past : from ≤ at → length out ≤ at - from → put from at out b ≡ out
-  put_past h l = put_in h ∙ set_out out (at - from) b l
 
   pub put_length : length (put from at out b) ≡ length out
   put_length = elim (dec_lt at from) [

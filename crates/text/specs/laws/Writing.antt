@@ -1,11 +1,11 @@
 -- What the code that writes knows in its loops.
 --     Copying                                                      the loop that writes the bytes of a text
 --     copying_none, copying_more, copying_all                      it begins, goes on, ends
---     Spelled, spelled_part                                        the digits of a number at the end of the array
+--     Spelled                                                      the digits of a number at the end of the array
 --     Spelling                                                     the loop that finds them, from the last on
 --     spelling_none, spelling_room, spelling_more, spelling_all    it begins, has room, goes on, ends
 use Rattle.std.specs.Prelude.{ℕ, suc, ◌+◌, ◌-◌, ◌/◌, ◌%◌, ◌^◌, ◌<◌, ◌≤◌, ◌≡◌, refl, List, [], ◌∷◌, ◌++◌, length, get_or, set, take, drop}
-use Rattle.std.proofs.Common.{arith, add-one, sym, ◌∙◌, ap, append_assoc, length-set, length-append, length-drop, drop_of_length-le, take-suc, take_all, length-take-le, drop-cons, drop-set-lt, get_or-set_same}
+use Rattle.std.proofs.Common.{arith, add-one, sym, ◌∙◌, ap, append_assoc, length-set, length-append, drop_of_length-le, take-suc, take_all, length-take-le, drop-cons, drop-set-lt, get_or-set_same}
 use Rattle.text.specs.Paste.{put, paste, Pasted}
 use Rattle.text.specs.laws.Paste.{put_length, paste_none, paste_one, paste_append}
 use Rattle.text.specs.Decimal.{digit, decimal}
@@ -41,10 +41,6 @@ pub record Spelled (n r : ℕ) (digits : List ℕ) : Type 0 where
   pub start : r < 20
   pub size : length digits ≡ 20
   pub text : drop r digits ≡ decimal n
-
--- as the part of the array that is passed on
-pub spelled_part : {n r : ℕ} {digits : List ℕ} → Spelled n r digits → take (20 - r) (drop r digits) ≡ decimal n
-spelled_part {n} {r} {digits} k = let size = k.size in take_all (20 - r) (drop r digits) (rw length-drop (omega arith)) ∙ k.text
 
 -- the loop that finds them: those after index i stand, and those of `rest` go before them
 pub record Spelling (n i rest : ℕ) (digits : List ℕ) : Type 0 where

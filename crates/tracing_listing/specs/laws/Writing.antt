@@ -11,8 +11,8 @@
 --     Ending                                                         the loop over the vertices
 --     ending_none, ending_room, ending_more                          it begins, has room, goes on
 --     listed_parts, walks_room, lones_room                           both together are the listing; there is room for both
-use Rattle.std.specs.Prelude.{ℕ, zero, suc, ◌+◌, ◌-◌, ◌*◌, ◌<◌, ◌≤◌, ◌≡◌, refl, List, [], ◌∷◌, ◌++◌, map, ◌≢◌, length, set}
-use Rattle.std.proofs.Common.{arith, add-one, zero-add, ◌∙◌, ap, length-append, length-set}
+use Rattle.std.specs.Prelude.{ℕ, suc, ◌+◌, ◌*◌, ◌<◌, ◌≤◌, ◌≡◌, refl, Option, Some, List, [], ◌∷◌, ◌++◌, map, ◌≢◌, length, set}
+use Rattle.std.proofs.Common.{arith, add-one, zero-add, sym, ◌∙◌, ap, length-append}
 use Rattle.std.proofs.lemmas.List.{map-append}
 use Rattle.std.proofs.lemmas.List.Edits.{sets}
 use Rattle.std.proofs.Math.Seq.{length-sets}
@@ -20,61 +20,45 @@ use Rattle.table.specs.Layout.{vertices, darts, isolated, vertex_word, lone_at}
 use Rattle.table.specs.Good.{Good}
 use Rattle.table.specs.Rotation.{Rotation, rotation, alone?}
 use Rattle.table.specs.laws.Rotation.{alone_yes, alone_word}
-use Rattle.table.specs.laws.Lawful.{good_lawful}
 use Rattle.table.specs.Output.{front}
 use Rattle.table.specs.laws.Output.{sets_front, sets_append}
 use Rattle.orbits.proofs.laws.Truth.{false_unless}
-use Rattle.tracing_walks.specs.declared.count.Size.{Size}
-use Rattle.tracing.specs.Step.{step}
 use Rattle.tracing.specs.Walk.{walk}
-use Rattle.tracing.proofs.laws.Walk.{iterates, run_suc, run_length, walk_run, walk_period, walk_period_le}
 use Rattle.tracing.specs.Listing.{gather, fresh, starts, lone, alones, lone_corner, walk_text, met_by, faces, listing}
-use Rattle.tracing.proofs.laws.Listing.{gather_none, gather_one, gather_append, starts_suc, lone_yes, lone_no, alones_suc, written_lone, written_some}
-use Rattle.tracing_walks.specs.laws.Stands.{Stands, stands_low}
-use Rattle.tracing_walks.specs.laws.Along.{Walking, walking_none, walking_more, walking_all, along_few}
+use Rattle.tracing.proofs.laws.Listing.{gather_none, gather_one, gather_append, starts_suc, lone_yes, lone_no, alones_suc, written_lone}
+use Rattle.tracing_walks.specs.laws.Stands.{Stands}
+use Rattle.tracing_walks.specs.laws.Along.{Along, along_none, along_more, along_all, along_few}
 use Rattle.tracing_walks.specs.laws.Marks.{mark, unmarked}
-use Rattle.tracing_walks.specs.laws.Size.{LookReady, Looked, unmet, Seen, seen_none, seen_range, seen_more, unmet_fresh, unmet_case, no_start, begins, looked_begins}
+use Rattle.tracing_walks.specs.laws.Size.{LookReady, Looked, unmet, Seen, seen_none, seen_range, seen_more, unmet_fresh, no_walk, one_walk, looked_marks, looked_text}
 use Rattle.table.specs.laws.Front.{Front, front_none, front_more, next_room}
 
--- stores one after another
-
 -- the loop that writes a walk
-pub record Stepping (t : List ℕ) (s start : ℕ) (out₀ : List ℕ) (n at : ℕ) (out : List ℕ) : Type 0 where
-  pub walking : Walking t s n at
+pub record Stepping (t : List ℕ) (s start : ℕ) (out₀ gone left : List ℕ) (n : ℕ) (out : List ℕ) : Type 0 where
+  pub along : Along t s gone left
   pub room : start + length (walk (rotation t) s) ≤ length out₀
-  pub size : length out ≡ length out₀
-  pub words : out ≡ sets out₀ start (iterates (step (rotation t)) s n)
+  pub count : n ≡ length gone
+  pub words : out ≡ sets out₀ start gone
 
-pub stepping_none : {t : List ℕ} {s start : ℕ} {out : List ℕ} → Stands t s → start + length (walk (rotation t) s) ≤ length out → Stepping t s start out zero s out
-unfolding iterates
-stepping_none h l = record { walking = walking_none h; room = l; size = refl; words = refl }
+pub stepping_none : {t : List ℕ} {s start n : ℕ} {out left : List ℕ} → Stands t s → start + length (walk (rotation t) s) ≤ length out → left ≡ walk (rotation t) s → n ≡ 0
+    → Stepping t s start out [] left n out
+stepping_none h l e c = record { along = along_none h e; room = l; count = c; words = refl }
 
--- a step of the walk has a place in it
-pub stepping_within : {t : List ℕ} {s start n at : ℕ} {out₀ out : List ℕ} → Stepping t s start out₀ n at out → start + n < length out
-stepping_within {t} {s} k =
-    let L = good_lawful t k.walking.start.good in
-    let low = stands_low k.walking.start in
-    let p = walk_period (rotation t) L s low in
-    let few = along_few k.walking.along p in
-    let size : length (walk (rotation t) s) ≡ p.steps =
-    ap length (walk_run (rotation t) s p (walk_period_le (rotation t) L s low p)) ∙ run_length (step (rotation t)) s p.steps in
-    let room = k.room in
-    let same = k.size in
-    omega arith
+module _ {t : List ℕ} {s start : ℕ} {out₀ gone left : List ℕ} {n : ℕ} {out : List ℕ} (k : Stepping t s start out₀ gone left n out) where
+  pub stepping_all : left ≡ [] → out ≡ sets out₀ start (walk (rotation t) s)
+  stepping_all e = rw (← along_all k.along e) k.words
 
-stepping_words : {t : List ℕ} {s start n at : ℕ} {out₀ out : List ℕ} → Stepping t s start out₀ n at out
-    → set out (start + n) at ≡ sets out₀ start (iterates (step (rotation t)) s (n + 1))
-stepping_words {t} {s} {start} {n} {at} {out₀} k =
-    let f = step (rotation t) in
-    rw (add-one, run_suc, k.walking.along.here, sets_append out₀ start (iterates f s n) (at ∷ []), run_length f s n, k.words)
+  module _ {at : ℕ} {left' : List ℕ} (e : left ≡ at ∷ left') where
+    -- a step of the walk has a place in it
+    pub stepping_within : start + n < length out
+    stepping_within = let few = along_few k.along e in let room = k.room in rw (k.words, length-sets) (omega (arith, k.count))
 
-pub stepping_more : {t : List ℕ} {s start n at next : ℕ} {out₀ out : List ℕ} → Stepping t s start out₀ n at out → next ≡ step (rotation t) at → next ≢ s
-    → Stepping t s start out₀ (n + 1) next (set out (start + n) at)
-stepping_more {out = out} k e b = record { walking = walking_more k.walking e b; room = k.room; size = rw length-set k.size; words = stepping_words k }
-
-pub stepping_all : {t : List ℕ} {s start n at next : ℕ} {out₀ out : List ℕ} → Stepping t s start out₀ n at out → next ≡ step (rotation t) at → next ≡ s
-    → set out (start + n) at ≡ sets out₀ start (walk (rotation t) s)
-stepping_all k e b = rw (walking_all k.walking e b) (stepping_words k)
+    pub stepping_more : {m : ℕ} → m ≡ n + 1 → Stepping t s start out₀ (gone ++ at ∷ []) left' m (set out (start + n) at)
+    stepping_more f = record {
+      along = along_more k.along e;
+      room = k.room;
+      count = rw (f, k.count, length-append) refl;
+      words = rw (k.words, k.count) (sym (sets_append out₀ start gone (at ∷ [])));
+    }
 
 -- a dart in range, and room for the words of the walk that starts at it
 pub record RoomAt (t m out : List ℕ) (at d : ℕ) : Type 0 where
@@ -87,30 +71,26 @@ pub record Entered (t m out : List ℕ) (at d r : ℕ) (m' out' : List ℕ) : Ty
   pub marks : m' ≡ mark m (met_by (rotation t) (unmet t m d))
   pub words : out' ≡ sets out at (gather (walk_text (rotation t)) (unmet t m d))
 
-pub entered_none : {t : List ℕ} {d : ℕ} {m : List ℕ} {r : Size} {m' : List ℕ} (out : List ℕ) (at : ℕ) → Looked t d m r m' → r.words ≡ 0 → Entered t m out at d at m' out
-entered_none {t} {d} {m} out at k e = elim (unmet_case t m d) [
-  | no_start u ↦
-      let blank : gather (walk_text (rotation t)) (unmet t m d) ≡ [] = rw u (gather_none (walk_text (rotation t))) in
-      record { end = rw blank (omega arith); marks = k.marks; words = rw blank }
-  | begins l u ↦
-      let some : 0 < length (walk_text (rotation t) d) = written_some (rotation t) d in
-      let w = k.words ∙ ap (λ l. length (gather (walk_text (rotation t)) l)) u ∙ ap length (gather_one (walk_text (rotation t)) d) in
-      absurd (omega arith)
-]
+pub entered_none : {t : List ℕ} {d : ℕ} {m : List ℕ} {r : Option ℕ} {m' : List ℕ} (out : List ℕ) (at : ℕ) → Looked t d m r m' → ((n : ℕ) → r ≢ Some n) → Entered t m out at d at m' out
+entered_none {t} {d} {m} out at (no_walk u) q =
+    let blank : gather (walk_text (rotation t)) (unmet t m d) ≡ [] = rw u (gather_none (walk_text (rotation t))) in
+    record { end = rw blank (omega arith); marks = looked_marks (no_walk u); words = rw blank refl }
+entered_none out at (one_walk h u k) q = absurd (q _ refl)
 
-pub entered_walk : {t : List ℕ} {d : ℕ} {m : List ℕ} {r : Size} {m' out out' : List ℕ} {at : ℕ} → RoomAt t m out at d → Looked t d m r m' → r.words ≢ 0
-    → out' ≡ sets (set out at (r.words - 1)) (at + 1) (walk (rotation t) (2 * d)) → Entered t m out at d (at + r.words) m' out'
-entered_walk {t} {d} {m} {r} {out = out} {at = at} h k e f =
-    let b = looked_begins h.range k e in
-    record { end = rw k.words; marks = k.marks; words = rw (b.text, f, add-one) }
+module _ {t m out : List ℕ} {at d : ℕ} (h : RoomAt t m out at d) {n : ℕ} {m' : List ℕ} where
+  pub entered_walk : {out' : List ℕ} → Looked t d m (Some n) m' → out' ≡ sets (set out at n) (at + 1) (walk (rotation t) (2 * d)) → Entered t m out at d (at + 1 + n) m' out'
+  entered_walk (one_walk st u k) f =
+      let text = looked_text h.range.low u k in
+      let size = k.steps in
+      record { end = rw text (omega (arith, k.steps)); marks = looked_marks (one_walk st u k); words = rw (text, f, add-one) refl }
 
-pub walk_room : {t : List ℕ} {d : ℕ} {m : List ℕ} {r : Size} {m' out : List ℕ} {at : ℕ} → RoomAt t m out at d → Looked t d m r m' → r.words ≢ 0 → (x : ℕ)
-    → at + 1 + length (walk (rotation t) (2 * d)) ≤ length (set out at x)
-walk_room {t} {d} {m} {r} {out = out} {at = at} h k e x =
-    let b = looked_begins h.range k e in
-    let room = h.room in
-    let size = ap length b.text in
-    rw length-set (omega arith)
+  -- there is room for the number of steps and the steps
+  pub walk_room : Looked t d m (Some n) m' → at + 1 + n ≤ length out
+  walk_room (one_walk st u k) =
+      let text = ap length (looked_text h.range.low u k) in
+      let room = h.room in
+      let size = k.steps in
+      omega arith
 
 -- a vertex in range, and room for its empty walk
 pub record RoomLone (t out : List ℕ) (at v : ℕ) : Type 0 where

@@ -6,7 +6,7 @@
 --     TaggedFrom, look_ready, from_dead, from_met, from_start     the walk that starts at dart d, if one does
 --     TagCounting, counting_none, counting_more, counting_dead    the loop over the darts, with the walks counted
 --     Tags, tags_all, count_all                                   all walks are traced; the number of faces
-use Rattle.std.specs.Prelude.{ℕ, zero, ◌+◌, ◌*◌, ◌%◌, ◌<◌, ◌≤◌, ◌≡◌, refl, true, List, [], ◌∷◌, ◌++◌, map, ◌≢◌, get_or, set, replicate}
+use Rattle.std.specs.Prelude.{ℕ, ◌+◌, ◌*◌, ◌%◌, ◌<◌, ◌≤◌, ◌≡◌, refl, true, List, [], ◌∷◌, ◌++◌, map, ◌≢◌, get_or, set, replicate}
 use Rattle.std.proofs.Common.{arith, add-zero, sym, ◌∙◌, ap₂, append-nil, length-append, length-set, get_or-set_same, get_or-set_other}
 use Rattle.std.proofs.Math.Numerals.{add-one}
 use Rattle.std.proofs.Math.Decide.{ℕ_discrete}
@@ -21,9 +21,8 @@ use Rattle.table.specs.laws.Blocks.{edge_blocks, DeadBlock, dead_dart, block_on}
 use Rattle.table.specs.Rotation.{Rotation, Lawful, rotation, live?}
 use Rattle.table.specs.laws.Rotation.{live_yes, yes_live}
 use Rattle.table.specs.laws.Lawful.{good_lawful}
-use Rattle.tracing.specs.Step.{step, corner}
+use Rattle.tracing.specs.Step.{corner}
 use Rattle.tracing.specs.Walk.{walk, corners}
-use Rattle.tracing.proofs.laws.Walk.{iterates, run_suc}
 use Rattle.tracing.specs.Listing.{has, met_by, fresh, starts, faces, face_count}
 use Rattle.tracing.proofs.laws.Listing.{has_here, has_there, gather_none, gather_one, gather_append, starts_suc, starts_zero, fresh_dead, fresh_met, fresh_start}
 use Rattle.tracing.proofs.laws.Has.{has_empty, has_tail, has_parts, left, right, has_left, has_right, has_gather, has_map}
@@ -31,7 +30,7 @@ use Rattle.tracing.proofs.laws.Starts.{has_start}
 use Rattle.tracing.specs.Corner.{face_of, type_of}
 use Rattle.tracing.proofs.laws.Corner.{corner_met, face_by}
 use Rattle.tracing_walks.specs.laws.Stands.{Stands, stands_corner}
-use Rattle.tracing_walks.specs.laws.Along.{Walking, walking_none, walking_more, walking_all}
+use Rattle.tracing_walks.specs.laws.Along.{Along, along_none, along_more, along_all, along_stands}
 use Rattle.tracing_walks.specs.laws.Size.{LookReady, Lone}
 
 -- the tags m with those of these steps of the walk from s
@@ -65,39 +64,31 @@ tagged_reads R m s (x ∷ l) c h = elim (tagged_reads R (set m (corner R x) (s +
   ]
 ]
 
--- the walk from s is under way, and the corners of its steps so far are tagged
-pub record Tagging (t : List ℕ) (s : ℕ) (m₀ : List ℕ) (at : ℕ) (m : List ℕ) : Type 0 where
-  pub so_far : ℕ
-  pub walking : Walking t s so_far at
-  pub tags : m ≡ tagged (rotation t) m₀ s (iterates (step (rotation t)) s so_far)
+-- the loop over the walk from s: the corners of the steps so far are tagged
+pub record Tagging (t : List ℕ) (s : ℕ) (m₀ gone left m : List ℕ) : Type 0 where
+  pub along : Along t s gone left
+  pub tags : m ≡ tagged (rotation t) m₀ s gone
   pub size : length m ≡ darts
 
-pub tagging_none : {t : List ℕ} {s : ℕ} {m : List ℕ} → Stands t s → length m ≡ darts → Tagging t s m s m
-unfolding iterates tagged
-tagging_none h l = record { so_far = zero; walking = walking_none h; tags = refl; size = l }
+pub tagging_none : {t : List ℕ} {s : ℕ} {m left : List ℕ} → Stands t s → length m ≡ darts → left ≡ walk (rotation t) s → Tagging t s m [] left m
+unfolding tagged
+tagging_none h l e = record { along = along_none h e; tags = refl; size = l }
 
-module _ {t : List ℕ} {s : ℕ} {m₀ : List ℕ} {at : ℕ} {m : List ℕ} (k : Tagging t s m₀ at m) {c : ℕ} (e : c ≡ corner (rotation t) at) where
-  pub tagging_corner : c < darts
-  tagging_corner = rw e (stands_corner k.walking.there)
+module _ {t : List ℕ} {s : ℕ} {m₀ gone left m : List ℕ} (k : Tagging t s m₀ gone left m) where
+  pub tagging_all : left ≡ [] → m ≡ tagged (rotation t) m₀ s (walk (rotation t) s)
+  tagging_all e = rw (← along_all k.along e) k.tags
 
-  one_more : set m c (s + at % 2) ≡ tagged (rotation t) m₀ s (iterates (step (rotation t)) s (k.so_far + 1))
-  unfolding tagged
-  one_more =
-      let R = rotation t in
-      let f = step R in
-      rw (e, k.tags, add-one, run_suc, k.walking.along.here) (sym (tagged_append R m₀ s (iterates f s k.so_far) (at ∷ [])))
+  module _ {at : ℕ} {left' : List ℕ} (e : left ≡ at ∷ left') {c : ℕ} (f : c ≡ corner (rotation t) at) where
+    pub tagging_corner : c < darts
+    tagging_corner = rw f (stands_corner (along_stands k.along e))
 
-  module _ {next : ℕ} (f : next ≡ step (rotation t) at) where
-    pub tagging_more : next ≢ s → Tagging t s m₀ next (set m c (s + at % 2))
-    tagging_more b = record {
-      so_far = k.so_far + 1;
-      walking = walking_more k.walking f b;
-      tags = one_more;
+    pub tagging_more : Tagging t s m₀ (gone ++ at ∷ []) left' (set m c (s + at % 2))
+    unfolding tagged
+    tagging_more = record {
+      along = along_more k.along e;
+      tags = rw (f, k.tags) (sym (tagged_append (rotation t) m₀ s gone (at ∷ [])));
       size = length-set m c (s + at % 2) ∙ k.size;
     }
-
-    pub tagging_all : next ≡ s → set m c (s + at % 2) ≡ tagged (rotation t) m₀ s (walk (rotation t) s)
-    tagging_all b = rw (walking_all k.walking f b) one_more
 
 -- the tag w of corner c once the walks that start below d are traced
 pub data TagOf (R : Rotation) (d c w : ℕ) : Type 0 where

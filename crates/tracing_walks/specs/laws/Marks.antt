@@ -3,14 +3,13 @@
 --     mark_append, mark_length    corners marked in two goes; as many marks as before
 --     mark_has, mark_reads        a corner is marked exactly if it is among them
 --     mark_step                   the corners of some steps marked, and of one more
-use Rattle.std.specs.Prelude.{ℕ, ◌+◌, ◌<◌, ◌≡◌, refl, true, List, [], ◌∷◌, ◌++◌, map, length, get_or, set, replicate}
-use Rattle.std.proofs.Common.{add-one, sym, ◌∙◌, ap, length-set, get_or-set_same, get_or-set_other}
+use Rattle.std.specs.Prelude.{ℕ, ◌<◌, ◌≡◌, refl, true, List, [], ◌∷◌, ◌++◌, map, length, get_or, set, replicate}
+use Rattle.std.proofs.Common.{sym, ◌∙◌, ap, length-set, get_or-set_same, get_or-set_other}
 use Rattle.std.proofs.Math.Decide.{ℕ_discrete}
-use Rattle.std.proofs.lemmas.List.{length-replicate, get_or-replicate}
+use Rattle.std.proofs.lemmas.List.{length-replicate, get_or-replicate, map-append}
 use Rattle.table.specs.Layout.{darts}
 use Rattle.table.specs.Rotation.{Rotation}
-use Rattle.tracing.specs.Step.{step, corner}
-use Rattle.tracing.proofs.laws.Walk.{iterates, run_suc}
+use Rattle.tracing.specs.Step.{corner}
 use Rattle.tracing.specs.Listing.{has, bit}
 use Rattle.tracing.proofs.laws.Listing.{has_here, has_there}
 
@@ -59,14 +58,7 @@ unmarked = replicate darts 0
 pub mark_reads : (cs : List ℕ) (c : ℕ) → c < darts → get_or (mark unmarked cs) c 0 ≡ bit (has c cs)
 mark_reads cs c h = mark_has unmarked cs c (rw length-replicate h) (get_or-replicate darts c 0 0 h)
 
--- the corners of the first n steps, and of one more
-pub mark_step : (R : Rotation) (m : List ℕ) (s n at : ℕ) → Rattle.orbits.specs.Iterate.iter (step R) n s ≡ at
-    → set (mark m (map (corner R) (iterates (step R) s n))) (corner R at) 1 ≡ mark m (map (corner R) (iterates (step R) s (n + 1)))
+-- the corners of some steps, and of one more
+pub mark_step : (R : Rotation) (m l : List ℕ) (x : ℕ) → mark m (map (corner R) (l ++ x ∷ [])) ≡ set (mark m (map (corner R) l)) (corner R x) 1
 unfolding mark
-mark_step R m s n at e =
-    rw (add-one, run_suc, e, map_append (corner R) (iterates (step R) s n) (at ∷ []))
-    (sym (mark_append m (map (corner R) (iterates (step R) s n)) (corner R at ∷ [])))
-  where
-    map_append : (f : ℕ → ℕ) (a b : List ℕ) → map f (a ++ b) ≡ map f a ++ map f b
-    map_append f [] b = refl
-    map_append f (x ∷ a) b = ap (λ l. f x ∷ l) (map_append f a b)
+mark_step R m l x = rw map-append (mark_append m (map (corner R) l) (corner R x ∷ []))

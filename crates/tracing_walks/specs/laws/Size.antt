@@ -1,19 +1,23 @@
 -- What the code that counts the listed walks promises, and the invariants of its loops.
---     Marked                                                       the walk from s has n steps, and its corners are marked
---     Marking                                                      the loop that marks a walk
---     marking_none, marking_more, marking_all, marking_corner      it begins, goes on, ends; the present corner has a mark
---     LookReady, Looked                                            what the look at dart d asks; what it leaves
---     unmet, Unmet, unmet_case, unmet_fresh                        dart d, if a walk starts there, as the marks tell
---     unmet_dead, unmet_marked, unmet_start, edge_live             none on an edge that is not live or where marked, else one
---     looked_dead, looked_met, looked_walk, looked_begins          the ways through the look
---     start_stands, Begins                                         the first step of a walk that starts at d; its words
---     Seen, seen_none, seen_range, seen_more                       the loop over the darts: the corners of walks so far are marked
---     WalkCounting, counting_none, counting_more, counting_dead    the same with walks and words counted; a block without live edge
---     Lone, lone_none, lone_more, lone_skip                        the loop that counts the isolated vertices
---     Measured, measured                                           F, and the number of words of the listing
-use Rattle.std.specs.Prelude.{ℕ, zero, suc, ◌+◌, ◌*◌, ◌/◌, ◌<◌, ◌≤◌, ◌-◌, ◌≡◌, refl, Bool, true, false, not, List, [], ◌∷◌, map, ◌≢◌, eqb, length, get_or, set}
+--     Marked                                                          the walk from s has n steps, and its corners are marked
+--     Marking                                                         the loop that marks a walk
+--     marking_none, marking_more, marking_all, marking_count          it begins, goes on, ends, with the number of steps too
+--     marking_corner                                                  the present corner has a mark
+--     LookReady, Looked                                               what the look at dart d asks; what it leaves
+--     unmet, unmet_fresh                                              dart d, if a walk starts there, as the marks tell
+--     unmet_dead, unmet_marked, unmet_start, edge_live                none on an edge that is not live or where marked, else one
+--     looked_dead, looked_met, looked_walk                            the ways through the look
+--     looked_marks, looked_one, looked_text                           its marks; a walk that starts there; its words
+--     looked_stands, looked_steps, looked_low                         that walk starts on a live dart; its steps, which are few
+--     start_stands                                                    the first step of a walk that starts at d
+--     Seen, seen_none, seen_range, seen_more                          the loop over the darts: the corners of walks so far are marked
+--     WalkCounting, counting_none, counting_more, counting_skip       the same with walks and words counted
+--     counting_dead                                                   a block without live edge
+--     Lone, lone_none, lone_more, lone_skip                           the loop that counts the isolated vertices
+--     Measured, measured                                              F, and the number of words of the listing
+use Rattle.std.specs.Prelude.{ℕ, suc, ◌+◌, ◌*◌, ◌/◌, ◌<◌, ◌≤◌, ◌≡◌, refl, Bool, true, false, not, Option, Some, None, List, [], ◌∷◌, ◌++◌, map, ◌≢◌, eqb, length, get_or, set}
 use Rattle.std.proofs.Common.{arith, add-zero, add-one, sym, ◌∙◌, ap, ap₂, append-nil, length-append, length-set, eq-eqb, ne_eqb}
-use Rattle.std.proofs.Math.Decide.{ℕ_discrete}
+use Rattle.std.proofs.lemmas.Option.{none-some}
 use Rattle.std.proofs.lemmas.List.{length-map, length-replicate}
 use Rattle.table.specs.Layout.{words as table-words, vertices, darts, isolated, edge_of, edge_word, vertex_word}
 use Rattle.table.specs.Good.{Good}
@@ -22,13 +26,12 @@ use Rattle.table.specs.Rotation.{Rotation, rotation, live?, alone?}
 use Rattle.table.specs.laws.Rotation.{yes_live, live_case, holds, fails, alone_yes, alone_word}
 use Rattle.orbits.proofs.laws.Truth.{truth, holds as yes_true, fails as yes-false, false_unless}
 use Rattle.tracing_walks.specs.declared.count.Size.{Size}
-use Rattle.tracing.specs.Step.{step, corner}
+use Rattle.tracing.specs.Step.{corner}
 use Rattle.tracing.specs.Walk.{walk, corners}
-use Rattle.tracing.proofs.laws.Walk.{iterates, run_length}
 use Rattle.tracing.specs.Listing.{has, only, gather, met_by, fresh, starts, walk_text, alones, lone_corner, faces, face_count, listing, bit}
 use Rattle.tracing.proofs.laws.Listing.{gather_one, gather_append, starts_suc, written_walk, written_lone, lone_yes, lone_no, alones_suc}
 use Rattle.tracing_walks.specs.laws.Stands.{Stands, stands_corner}
-use Rattle.tracing_walks.specs.laws.Along.{Walking, walking_none, walking_more, walking_all, walking_few}
+use Rattle.tracing_walks.specs.laws.Along.{Along, walk_most, along_none, along_more, along_all, along_stands}
 use Rattle.tracing_walks.specs.laws.Marks.{mark, mark_append, mark_length, mark_step, mark_reads, unmarked}
 
 -- the walk from s has n steps, and its corners have been marked
@@ -38,42 +41,34 @@ pub record Marked (t : List ℕ) (s : ℕ) (m : List ℕ) (n : ℕ) (m' : List �
   pub low : n ≤ 4096
 
 -- the loop that marks a walk
-pub record Marking (t : List ℕ) (s : ℕ) (m₀ : List ℕ) (n at : ℕ) (m : List ℕ) : Type 0 where
-  pub walking : Walking t s n at
-  pub marks : m ≡ mark m₀ (map (corner (rotation t)) (iterates (step (rotation t)) s n))
+pub record Marking (t : List ℕ) (s : ℕ) (m₀ gone left m : List ℕ) : Type 0 where
+  pub along : Along t s gone left
+  pub marks : m ≡ mark m₀ (map (corner (rotation t)) gone)
   pub size : length m ≡ darts
 
-pub marking_none : {t : List ℕ} {s : ℕ} {m : List ℕ} → Stands t s → length m ≡ darts → Marking t s m zero s m
-unfolding iterates mark
-marking_none h l = record { walking = walking_none h; marks = refl; size = l }
+pub marking_none : {t : List ℕ} {s : ℕ} {m left : List ℕ} → Stands t s → length m ≡ darts → left ≡ walk (rotation t) s → Marking t s m [] left m
+unfolding mark
+marking_none h l e = record { along = along_none h e; marks = refl; size = l }
 
-marks_more : {t : List ℕ} {s : ℕ} {m₀ : List ℕ} {n at : ℕ} {m : List ℕ} {c : ℕ} → Marking t s m₀ n at m → c ≡ corner (rotation t) at
-    → set m c 1 ≡ mark m₀ (map (corner (rotation t)) (iterates (step (rotation t)) s (n + 1)))
-marks_more {t} {s} {m₀} {n} {at} k e = rw (e, k.marks) (mark_step (rotation t) m₀ s n at k.walking.along.here)
+module _ {t : List ℕ} {s : ℕ} {m₀ gone left m : List ℕ} (k : Marking t s m₀ gone left m) where
+  pub marking_all : left ≡ [] → m ≡ mark m₀ (corners (rotation t) s)
+  unfolding corners
+  marking_all e = rw (← along_all k.along e) k.marks
 
-pub marking_more : {t : List ℕ} {s : ℕ} {m₀ : List ℕ} {n at : ℕ} {m : List ℕ} {c next : ℕ} → Marking t s m₀ n at m → c ≡ corner (rotation t) at
-    → next ≡ step (rotation t) at → next ≢ s → Marking t s m₀ (n + 1) next (set m c 1)
-marking_more {m = m} {c = c} k e f b = record {
-  walking = walking_more k.walking f b;
-  marks = marks_more k e;
-  size = length-set m c 1 ∙ k.size;
-}
+  pub marking_count : {n : ℕ} → left ≡ [] → n ≡ length gone → Marked t s m₀ n m
+  marking_count e f = let all = along_all k.along e in record { steps = rw (f, all) refl; marks = marking_all e; low = rw (f, all) (walk_most k.along.start) }
 
-pub marking_all : {t : List ℕ} {s : ℕ} {m₀ : List ℕ} {n at : ℕ} {m : List ℕ} {c next : ℕ} → Marking t s m₀ n at m → c ≡ corner (rotation t) at
-    → next ≡ step (rotation t) at → next ≡ s → Marked t s m₀ (n + 1) (set m c 1)
-unfolding corners
-marking_all {t} {s} {m₀} {n} k e f b =
-    let w = walking_all k.walking f b in
-    let few = walking_few k.walking in
-    record {
-      steps = rw w (sym (run_length (step (rotation t)) s (n + 1)));
-      marks = rw w (marks_more k e);
-      low = omega arith;
+  module _ {at : ℕ} {left' : List ℕ} (e : left ≡ at ∷ left') {c : ℕ} (f : c ≡ corner (rotation t) at) where
+    -- the corner of the present step has a mark
+    pub marking_corner : c < darts
+    marking_corner = rw f (stands_corner (along_stands k.along e))
+
+    pub marking_more : Marking t s m₀ (gone ++ at ∷ []) left' (set m c 1)
+    marking_more = record {
+      along = along_more k.along e;
+      marks = rw (f, k.marks, mark_step (rotation t) m₀ gone at) refl;
+      size = length-set m c 1 ∙ k.size;
     }
-
--- the corner of the present step has a mark
-pub marking_corner : {t : List ℕ} {s : ℕ} {m₀ : List ℕ} {n at : ℕ} {m : List ℕ} {c : ℕ} → Marking t s m₀ n at m → c ≡ corner (rotation t) at → c < darts
-marking_corner {at = at} k e = rw e (stands_corner k.walking.there)
 
 -- dart d of a good table, and marks
 pub record LookReady (t m : List ℕ) (d : ℕ) : Type 0 where
@@ -85,13 +80,10 @@ pub record LookReady (t m : List ℕ) (d : ℕ) : Type 0 where
 unfoldable pub unmet : List ℕ → List ℕ → ℕ → List ℕ
 unmet t m d = elim (live? t d) [ true ↦ only (eqb (get_or m d 0) 0) d | false ↦ [] ]
 
--- the walk that starts at d, if one does, has been counted and its corners marked
-pub record Looked (t : List ℕ) (d : ℕ) (m : List ℕ) (r : Size) (m' : List ℕ) : Type 0 where
-  pub walks : r.walks ≡ length (unmet t m d)
-  pub words : r.words ≡ length (gather (walk_text (rotation t)) (unmet t m d))
-  pub marks : m' ≡ mark m (met_by (rotation t) (unmet t m d))
-  pub few : r.walks ≤ 1
-  pub low : r.words ≤ 4097
+-- no walk starts at d; or one does, it has n steps, and its corners have been marked
+pub data Looked (t : List ℕ) (d : ℕ) (m : List ℕ) : Option ℕ → List ℕ → Type 0 where
+  no_walk : unmet t m d ≡ [] → Looked t d m None m
+  one_walk : {n : ℕ} {m' : List ℕ} → Stands t (2 * d) → unmet t m d ≡ d ∷ [] → Marked t (2 * d) m n m' → Looked t d m (Some n) m'
 
 edge_dead : (t : List ℕ) (d : ℕ) → edge_word t (edge_of d) ≡ 0 → live? t d ≡ false
 edge_dead t d e = elim (live_case t d) [ holds l p ↦ absurd (p.on e) | fails l p ↦ l ]
@@ -114,32 +106,14 @@ pub unmet_start : (t m : List ℕ) (d : ℕ) → live? t d ≡ true → get_or m
 unfolding unmet
 unmet_start t m d l e = rw (l, unmet, eq-eqb (get_or m d 0) 0 e)
 
--- either no walk starts at d, or one does
-pub data Unmet (t m : List ℕ) (d : ℕ) : Type 0 where
-  no_start : unmet t m d ≡ [] → Unmet t m d
-  begins : live? t d ≡ true → unmet t m d ≡ d ∷ [] → Unmet t m d
-
-pub unmet_case : (t m : List ℕ) (d : ℕ) → Unmet t m d
-unmet_case t m d = elim (truth (live? t d)) [
-  | yes-false l ↦ no_start (unmet_none t m d l)
-  | yes_true l ↦ elim (ℕ_discrete (get_or m d 0) 0) [
-    | yes e ↦ begins l (unmet_start t m d l e)
-    | no e ↦ no_start (unmet_marked t m d e)
-  ]
-]
-
 pub edge_live : {t m : List ℕ} {d : ℕ} → LookReady t m d → edge_word t (edge_of d) ≢ 0 → live? t d ≡ true
 edge_live {t} {m} {d} h e = yes_live t d (record { low = h.low; on = e })
 
-looked_none : (t : List ℕ) (d : ℕ) (m : List ℕ) → unmet t m d ≡ [] → Looked t d m (record { walks = 0; words = 0 }) m
-unfolding gather mark
-looked_none t d m e = record { walks = rw e; words = rw e; marks = rw e; few = omega arith; low = omega arith }
+pub looked_dead : (t : List ℕ) (d : ℕ) (m : List ℕ) → edge_word t (edge_of d) ≡ 0 → Looked t d m None m
+looked_dead t d m e = no_walk (unmet_dead t m d e)
 
-pub looked_dead : (t : List ℕ) (d : ℕ) (m : List ℕ) → edge_word t (edge_of d) ≡ 0 → Looked t d m (record { walks = 0; words = 0 }) m
-looked_dead t d m e = looked_none t d m (unmet_dead t m d e)
-
-pub looked_met : (t : List ℕ) (d : ℕ) (m : List ℕ) → get_or m d 0 ≢ 0 → Looked t d m (record { walks = 0; words = 0 }) m
-looked_met t d m e = looked_none t d m (unmet_marked t m d e)
+pub looked_met : (t : List ℕ) (d : ℕ) (m : List ℕ) → get_or m d 0 ≢ 0 → Looked t d m None m
+looked_met t d m e = no_walk (unmet_marked t m d e)
 
 -- the first step of the walk that starts at d
 pub start_stands : {t m : List ℕ} {d : ℕ} → LookReady t m d → edge_word t (edge_of d) ≢ 0 → Stands t (2 * d)
@@ -148,20 +122,33 @@ start_stands {t} {m} {d} h e =
     record { good = h.good; live = rw half (edge_live h e) }
 
 pub looked_walk : {t : List ℕ} {d : ℕ} {m : List ℕ} {n : ℕ} {m' : List ℕ} → LookReady t m d → edge_word t (edge_of d) ≢ 0 → get_or m d 0 ≡ 0
-    → Marked t (2 * d) m n m' → Looked t d m (record { walks = 1; words = n + 1 }) m'
-looked_walk {t} {d} {m} {n} h e f k =
-    let u = unmet_start t m d (edge_live h e) f in
-    let low : d < 32768 = let l = h.low in omega arith in
-    let text : gather (walk_text (rotation t)) (d ∷ []) ≡ length (walk (rotation t) (2 * d)) ∷ walk (rotation t) (2 * d) =
-    gather_one (walk_text (rotation t)) d ∙ written_walk (rotation t) d low in
-    let most = k.low in
-    record {
-      walks = rw u;
-      words = rw (u, text) (add-one n ∙ ap suc k.steps);
-      marks = rw (u, gather_one (λ a. corners (rotation t) (2 * a)) d) k.marks;
-      few = omega arith;
-      low = omega arith;
-    }
+    → Marked t (2 * d) m n m' → Looked t d m (Some n) m'
+looked_walk {t} {d} {m} h e f k = one_walk (start_stands h e) (unmet_start t m d (edge_live h e) f) k
+
+-- the marks that a look leaves
+pub looked_marks : {t : List ℕ} {d : ℕ} {m : List ℕ} {r : Option ℕ} {m' : List ℕ} → Looked t d m r m' → m' ≡ mark m (met_by (rotation t) (unmet t m d))
+unfolding gather mark
+looked_marks (no_walk u) = rw u refl
+looked_marks {t} {d} (one_walk h u k) = rw (u, gather_one (λ a. corners (rotation t) (2 * a))) k.marks
+
+pub looked_one : {t : List ℕ} {d : ℕ} {m : List ℕ} {n : ℕ} {m' : List ℕ} → Looked t d m (Some n) m' → unmet t m d ≡ d ∷ []
+looked_one (one_walk h u k) = u
+
+pub looked_stands : {t : List ℕ} {d : ℕ} {m : List ℕ} {n : ℕ} {m' : List ℕ} → Looked t d m (Some n) m' → Stands t (2 * d)
+looked_stands (one_walk h u k) = h
+
+pub looked_steps : {t : List ℕ} {d : ℕ} {m : List ℕ} {n : ℕ} {m' : List ℕ} → Looked t d m (Some n) m' → n ≡ length (walk (rotation t) (2 * d))
+looked_steps (one_walk h u k) = k.steps
+
+pub looked_low : {t : List ℕ} {d : ℕ} {m : List ℕ} {n : ℕ} {m' : List ℕ} → Looked t d m (Some n) m' → n ≤ 4096
+looked_low (one_walk h u k) = k.low
+
+-- the words of a walk of n steps that starts at d
+pub looked_text : {t : List ℕ} {d : ℕ} {m : List ℕ} {n : ℕ} {m' : List ℕ} → d < darts → unmet t m d ≡ d ∷ [] → Marked t (2 * d) m n m'
+    → gather (walk_text (rotation t)) (unmet t m d) ≡ n ∷ walk (rotation t) (2 * d)
+looked_text {t} {d} h u k =
+    let low : d < 32768 = omega arith in
+    rw (u, k.steps) (gather_one (walk_text (rotation t)) d ∙ written_walk (rotation t) d low)
 
 pub record Measured (t : List ℕ) (r : Size) : Type 0 where
   pub walks : r.walks ≡ face_count (rotation t)
@@ -220,28 +207,41 @@ pub counting_none : {t : List ℕ} → Good t → WalkCounting t 0 0 0 unmarked
 unfolding starts gather
 counting_none g = record { seen = seen_none g; count = refl; size = refl; few = omega arith; short = omega arith }
 
-pub counting_more : {t : List ℕ} {d walks words : ℕ} {m : List ℕ} {r : Size} {m' : List ℕ} → WalkCounting t d walks words m → d < darts → Looked t d m r m'
-    → WalkCounting t (d + 1) (walks + r.walks) (words + r.words) m'
-counting_more {t} {d} {walks} {words} {m} {r} {m'} k h v =
+-- a dart more: at which a walk of n steps starts, or none
+counting_on : {t : List ℕ} {d walks words : ℕ} {m : List ℕ} {r : Option ℕ} {m' : List ℕ} (w n : ℕ) → WalkCounting t d walks words m → d < darts → Looked t d m r m'
+    → w ≡ length (unmet t m d) → n ≡ length (gather (walk_text (rotation t)) (unmet t m d)) → w ≤ 1 → n ≤ 4097
+    → WalkCounting t (d + 1) (walks + w) (words + n) m'
+counting_on {t} {d} {walks} {words} {m} w n k h v e f one most =
     let u = unmet_fresh k.seen h in
     let R = rotation t in
     let few = k.few in
     let short = k.short in
-    let one = v.few in
-    let most = v.low in
     record {
-      seen = seen_more k.seen h v.marks;
-      count = rw (add-one, starts_suc R d, length-append) (ap₂ ◌+◌ k.count (v.walks ∙ ap length u));
-      size = rw (add-one, starts_suc R d, gather_append, length-append) (ap₂ ◌+◌ k.size (v.words ∙ ap (λ l. length (gather (walk_text R) l)) u));
+      seen = seen_more k.seen h (looked_marks v);
+      count = rw (add-one, starts_suc R d, length-append) (ap₂ ◌+◌ k.count (e ∙ ap length u));
+      size = rw (add-one, starts_suc R d, gather_append, length-append) (ap₂ ◌+◌ k.size (f ∙ ap (λ l. length (gather (walk_text R) l)) u));
       few = omega arith;
       short = omega arith;
     }
+
+pub counting_more : {t : List ℕ} {d walks words : ℕ} {m : List ℕ} {n : ℕ} {m' : List ℕ} → WalkCounting t d walks words m → d < darts → Looked t d m (Some n) m'
+    → WalkCounting t (d + 1) (walks + 1) (words + (n + 1)) m'
+counting_more {n = n} c h (one_walk st u k) =
+    let size = ap length (looked_text h u k) in
+    let low = k.low in
+    counting_on 1 (n + 1) c h (one_walk st u k) (rw u refl) (add-one n ∙ ap suc k.steps ∙ sym size) (omega arith) (omega arith)
+
+pub counting_skip : {t : List ℕ} {d walks words : ℕ} {m : List ℕ} {r : Option ℕ} {m' : List ℕ} → WalkCounting t d walks words m → d < darts → Looked t d m r m'
+    → ((n : ℕ) → r ≢ Some n) → WalkCounting t (d + 1) walks words m'
+unfolding gather
+counting_skip {walks = walks} {words = words} c h (no_walk u) q = rw (add-zero walks, add-zero words) at (counting_on 0 0 c h (no_walk u) (rw u refl) (rw u refl) (omega arith) (omega arith))
+counting_skip c h (one_walk st u k) q = absurd (q _ refl)
 
 -- no walk starts in a block without a live edge
 pub counting_dead : {t : List ℕ} (b : ℕ) {walks words : ℕ} {m : List ℕ} → b < edge_blocks → DeadBlock t b → WalkCounting t (64 * b) walks words m
     → WalkCounting t (64 * b + 64) walks words m
 counting_dead {t} b {walks} {words} {m} h k = block_on (λ d. WalkCounting t d walks words m) (64 * b) 64 (λ i l c.
-    rw (add-zero walks, add-zero words) at (counting_more c (omega arith) (looked_dead t (64 * b + i) m (dead_dart t b k i l))))
+    counting_skip c (omega arith) (looked_dead t (64 * b + i) m (dead_dart t b k i l)) none-some)
 
 -- the isolated vertices below v are n
 pub record Lone (t : List ℕ) (v n : ℕ) : Type 0 where
@@ -294,25 +294,3 @@ measured {t} {walks} {words} {n} k a =
       words = rw (gather_append, length-append, alone) (ap₂ (λ x y. x + 2 * y) k.size a.count);
       short = omega arith;
     }
-
--- a walk starts at d: its words are n and its steps
-pub record Begins (t m : List ℕ) (d n : ℕ) : Type 0 where
-  pub stands : Stands t (2 * d)
-  pub text : gather (walk_text (rotation t)) (unmet t m d) ≡ n ∷ walk (rotation t) (2 * d)
-
--- a count of words that is not 0 says that a walk starts at d
-pub looked_begins : {t : List ℕ} {d : ℕ} {m : List ℕ} {r : Size} {m' : List ℕ} → LookReady t m d → Looked t d m r m' → r.words ≢ 0 → Begins t m d (r.words - 1)
-unfolding gather
-looked_begins {t} {d} {m} {r} h k e = elim (unmet_case t m d) [
-  | no_start u ↦ absurd (e (k.words ∙ ap (λ l. length (gather (walk_text (rotation t)) l)) u))
-  | begins l u ↦
-      let half : 2 * d / 2 ≡ d = omega arith in
-      let low : d < 32768 = let b = h.low in omega arith in
-      let text : gather (walk_text (rotation t)) (unmet t m d) ≡ length (walk (rotation t) (2 * d)) ∷ walk (rotation t) (2 * d) =
-      rw u (gather_one (walk_text (rotation t)) d ∙ written_walk (rotation t) d low) in
-      let size : length (walk (rotation t) (2 * d)) ≡ r.words - 1 = let w = k.words in omega (arith, ap length text) in
-      record {
-        stands = record { good = h.good; live = rw half l };
-        text = text ∙ ap (λ n. n ∷ walk (rotation t) (2 * d)) size;
-      }
-]

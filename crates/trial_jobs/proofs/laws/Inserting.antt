@@ -2,7 +2,7 @@
 --     Planned, corner_there                          edge e is to go between two vertices; their corners are there
 --     insertion_passes, insertion_numbered           it goes through, and there is one edge more
 --     stays, takes_first, takes_second, untouched    the corner of a vertex after it: its own, or a dart of the new edge
-use Rattle.std.specs.Prelude.{ℕ, suc, ◌+◌, ◌*◌, ◌<◌, ◌≤◌, ◌≡◌, true, false, ◌&&◌, List, ◌≢◌, ltb, ℤ}
+use Rattle.std.specs.Prelude.{ℕ, suc, ◌+◌, ◌*◌, ◌<◌, ◌≤◌, ◌≡◌, true, false, ◌&&◌, List, ◌≢◌, ltb, ℤ, Ok}
 use Rattle.std.proofs.Common.{arith, sym, ◌∙◌, ap}
 use Rattle.std.proofs.Math.Decide.{ℕ_discrete}
 use Rattle.std.proofs.Math.Bool.{and-true}
@@ -26,7 +26,6 @@ use Rattle.edits.proofs.laws.WrittenGood.{written_good}
 use Rattle.edits.proofs.laws.Accepted.{insert_without, insert_sits}
 use Rattle.edits.specs.declared.edit.Edit.{Edit}
 use Rattle.edits.specs.declared.edit.Edit.TheVariants.{InsertEdge}
-use Rattle.edits.specs.declared.edit.Verdict.TheVariants.{Passes}
 use Rattle.records.specs.Records.{plain_length}
 use Rattle.trial_jobs.specs.Trial.{corner_at}
 use Rattle.trial_jobs.proofs.laws.Corners.{At, lone, first, corner_lone, corner_dart, corner_at_lem, at_present, present_yes, present_formed}
@@ -61,7 +60,7 @@ module _ {t : List ℕ} {e a b : ℕ} {k : ℤ} (r : Planned t e a b k) where
   two_there : Present (rotation t) (corner_at t b)
   two_there = there s b r.second_low
 
-  pub insertion_passes : verdict t E ≡ Passes
+  pub insertion_passes : verdict t E ≡ Ok tt
   unfolding new_edge
   insertion_passes = rw (
     ← good_yes t s.good,

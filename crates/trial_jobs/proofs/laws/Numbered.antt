@@ -3,7 +3,7 @@
 --     numbered_vertex, numbered_dart, free    its vertices are live; its darts are below 2e; the next edge is free
 --     vertex_passes, vertex_numbered          a vertex more is accepted, and leaves such a mesh
 --     numbered_vertices, numbered_edges       V and E
-use Rattle.std.specs.Prelude.{ℕ, suc, ◌*◌, ◌<◌, ◌≤◌, ◌≡◌, false, ◌&&◌, List, ◌≢◌, eqb}
+use Rattle.std.specs.Prelude.{ℕ, suc, ◌*◌, ◌<◌, ◌≤◌, ◌≡◌, false, ◌&&◌, List, ◌≢◌, eqb, Ok}
 use Rattle.std.proofs.Common.{arith, ◌∙◌}
 use Rattle.std.proofs.Math.Decide.{ℕ_discrete}
 use Rattle.std.proofs.Math.Path.{sym, ap}
@@ -27,7 +27,6 @@ use Rattle.edits.specs.Edits.{edited}
 use Rattle.edits.proofs.laws.Edits.{edited_passes}
 use Rattle.edits.proofs.laws.WrittenGood.{written_good}
 use Rattle.edits.specs.declared.edit.Edit.TheVariants.{AddVertex}
-use Rattle.edits.specs.declared.edit.Verdict.TheVariants.{Passes}
 use Rattle.surface.specs.Counts.{vertex_count}
 
 pub record Numbered (t : List ℕ) (v e : ℕ) : Type 0 where
@@ -68,7 +67,7 @@ module _ {t : List ℕ} {v e : ℕ} (s : Numbered t v e) where
 
   -- a vertex more
   module _ (h : v < vertices) where
-    pub vertex_passes : verdict t (AddVertex v) ≡ Passes
+    pub vertex_passes : verdict t (AddVertex v) ≡ Ok tt
     unfolding new_vertex
     vertex_passes = rw (← good_yes t s.good, lt-ltb v vertices h, eq-eqb (vertex_word t v) nothing (absent v h (omega arith)))
 

@@ -1,15 +1,9 @@
--- The draws, as the code makes them.
-use Rattle.std.specs.Prelude.{◌≡◌, ℕ, ◌-◌, ◌*◌, ◌^◌, ◌<◌, ◌≤◌, pos, ◌-ℤ◌, FitsSigned}
-use Rattle.std.proofs.Common.{arith, mul-le-mul, ◌∙◌, ap, to_z, of_z, to_z-of_z}
+-- The turns that are drawn, as the code makes them.
+use Rattle.std.specs.Prelude.{◌≡◌, ℕ, ◌<◌, pos, ◌-ℤ◌, FitsSigned}
+use Rattle.std.proofs.Common.{arith, ◌∙◌, ap, to_z, of_z, to_z-of_z}
 use Rattle.std.specs.Int.{w16}
 use Rattle.std.proofs.Math.Facts.{to_z_pos}
 use Rattle.table.specs.laws.Signed.{below, above, minus_difference}
-
--- a product of two 32-bit numbers is below 2^64
-pub product_fits : (x y : ℕ) → x < 2 ^ 32 → y < 2 ^ 32 → x * y < 2 ^ 64
-product_fits x y h l =
-    let most : x * y ≤ (2 ^ 32 - 1) * (2 ^ 32 - 1) = mul-le-mul {n₂ = 2 ^ 32 - 1} {m₂ = 2 ^ 32 - 1} (omega arith) (omega arith) in
-    omega arith
 
 -- turns, less 1 afterwards
 
@@ -20,7 +14,7 @@ module _ (n j : ℕ) (h : n < 3) (l : j < 3) where
     | above b e ↦ rw e (record { sfits = omega arith })
   ]
 
-  pub turns_fit : FitsSigned w16 (to_z w16 n -ℤ pos j)
+  turns_fit : FitsSigned w16 (to_z w16 n -ℤ pos j)
   turns_fit = rw (to_z_pos w16 {n = n} (omega arith)) small
 
   pub turns_are : to_z w16 (of_z w16 (to_z w16 n -ℤ pos j)) ≡ pos n -ℤ pos j

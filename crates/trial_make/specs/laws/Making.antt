@@ -1,11 +1,11 @@
 -- A trial job as the code writes it: what its two loops know.
 --     Vertices                                             the loop that writes the vertices
---     vertices_none, vertices_more, vertices_all           it begins, goes on, ends
+--     vertices_none, vertices_more                         it begins, goes on
 --     Begun, Underway                                      the vertices are written; the next loop, whatever was there before
 --     Making                                               the loop over the edges: records, state and corners
---     making_none, making_room, making_more, making_all    it begins, has room, goes on, ends
+--     making_none, making_more, making_all                 it begins, goes on, ends
 use Rattle.std.specs.Prelude.{◌≡◌, ℕ, suc, ◌+◌, ◌*◌, ◌<◌, ◌≤◌, List, length, slice_index, slice_set, refl}
-use Rattle.std.proofs.Common.{arith, add-one, sym, ◌∙◌, ap, subst, length-set, get_or-set_same, get_or-set_other}
+use Rattle.std.proofs.Common.{arith, add-one, sym, ◌∙◌, ap, length-set, get_or-set_same, get_or-set_other}
 use Rattle.std.proofs.Math.Decide.{ℕ_discrete}
 use mathlib.Core.List.{flat_map}
 use Rattle.std.proofs.lemmas.List.Edits.{sets}
@@ -49,12 +49,6 @@ vertices_more {out₀} {v} {out} {corners} {out'} k h w = rw (add-one v) (record
     | no n ↦ get_or-set_other corners v u (lone_at + v) 0 n ∙ k.lone u (omega arith)
   ];
 })
-
-pub vertices_all : {out₀ : List ℕ} {v : ℕ} {out corners : List ℕ} → Vertices out₀ v out corners → 8 ≤ v → Vertices out₀ 8 out corners
-vertices_all {out₀} {v} {out} {corners} k h =
-    let few = k.few in
-    let done : v ≡ 8 = omega arith in
-    subst (λ u. Vertices out₀ u out corners) done k
 
 -- the records of the first e edges, the state after their draws, and the corners of the vertices
 pub record Making (start n : ℕ) (out₀ : List ℕ) (e s : ℕ) (out corners : List ℕ) : Type 0 where
@@ -123,14 +117,6 @@ after_drawn start l e q =
     rw (q, one, two)
 
 module _ {start n : ℕ} {out₀ : List ℕ} {e s : ℕ} {out corners : List ℕ} (k : Making start n out₀ e s out corners) where
-  -- what the next edge asks
-  pub making_room : e < n → (e < edges) × (trial_size e + 10 ≤ length out) × (length corners ≡ 8)
-  making_room h =
-      let few = k.few in
-      let room = k.room in
-      let size = k.text.size in
-      (omega arith, omega arith, k.corners_are.eight)
-
   abbrev t : List ℕ
   t = run empty_table (trial_job start e)
 

@@ -6,7 +6,8 @@
 --     letters_refused, letters_short, letters_done             the ends of the call for the letters
 --     plain_torn, plain_done                                   the ends of the call that asks whether the weave is plain
 --     letters_accepted, alternates_accepted, plain_accepted    what the calls answered, where accepted
-use Rattle.std.specs.Prelude.{ℕ, ◌+◌, ◌*◌, ◌/◌, ◌%◌, ◌<◌, ◌≤◌, refl, Bool, true, false, ◌&&◌, List, leb, length}
+use Rattle.table.specs.Answers.{Answer}
+use Rattle.std.specs.Prelude.{ℕ, ◌+◌, ◌*◌, ◌/◌, ◌%◌, ◌<◌, ◌≤◌, refl, Bool, true, false, ◌&&◌, List, leb, length, Ok, Err}
 use native.Mathlib.Omega.{arith}
 use Rattle.std.proofs.Math.Path.{◌≡◌}
 use Rattle.std.proofs.Common.{sym, ◌∙◌, ap}
@@ -21,36 +22,33 @@ use Rattle.table.specs.Check.{good?}
 use Rattle.table.specs.laws.Check.{good_case, good_yes}
 use Rattle.table.specs.laws.Output.{sets_front, sized_accepted, declined_accepted, done_same, done_declined}
 use Rattle.table.specs.Output.{Accepted}
-use Rattle.table.specs.declared.answer.Answer.TheVariants.{Done, Declined}
 use Rattle.table.specs.declared.answer.Refusal.{Refusal}
 use Rattle.table.specs.declared.answer.Refusal.TheVariants.{Torn, NoSuchName, Absent, ShortSlice}
 use Rattle.tracing.specs.Listing.{bit}
 use Rattle.tracing_walks.specs.laws.Stands.{Stands, stands_low}
-use Rattle.weave.specs.declared.named.Named.{Named}
-use Rattle.weave.specs.declared.named.Named.TheVariants.{There, Refused}
 use Rattle.weave.specs.Letters.{letters, alternates, plain}
-use Rattle.weave.specs.Calls.{named_step, alternates_by, alternates_of, plain_of, letters_of, letters_out}
+use Rattle.weave.specs.Calls.{named_step, alternates_by, alternates_of, plain_of, letters_of, letters_out, Named}
 
 -- the ends of the naming
 
 module _ (t : List ℕ) (d k : ℕ) where
-  pub named_torn : good? t ≡ false → Refused Torn ≡ named_step t d k
+  pub named_torn : good? t ≡ false → Err Torn ≡ named_step t d k
   unfolding named_step
   named_torn g = rw g
 
-  pub named_past : good? t ≡ true → darts ≤ d → Refused NoSuchName ≡ named_step t d k
+  pub named_past : good? t ≡ true → darts ≤ d → Err NoSuchName ≡ named_step t d k
   unfolding named_step
   named_past g h = rw (g, le-ltb d darts h)
 
-  pub named_type : good? t ≡ true → d < darts → 1 < k → Refused NoSuchName ≡ named_step t d k
+  pub named_type : good? t ≡ true → d < darts → 1 < k → Err NoSuchName ≡ named_step t d k
   unfolding named_step
   named_type g h l = rw (g, lt-ltb d darts h, le-ltb k 2 (omega arith))
 
-  pub named_dead : good? t ≡ true → d < darts → k ≤ 1 → edge_word t (edge_of d) ≡ 0 → Refused Absent ≡ named_step t d k
+  pub named_dead : good? t ≡ true → d < darts → k ≤ 1 → edge_word t (edge_of d) ≡ 0 → Err Absent ≡ named_step t d k
   unfolding named_step
   named_dead g h l e = rw (g, lt-ltb d darts h, lt-ltb k 2 (omega arith), not_live t d (λ v. v.on e))
 
-  pub named_there : good? t ≡ true → d < darts → k ≤ 1 → (edge_word t (edge_of d) ≡ 0 → ⊥) → There (2 * d + k) ≡ named_step t d k
+  pub named_there : good? t ≡ true → d < darts → k ≤ 1 → (edge_word t (edge_of d) ≡ 0 → ⊥) → Ok (2 * d + k) ≡ named_step t d k
   unfolding named_step
   named_there g h l e = rw (g, lt-ltb d darts h, lt-ltb k 2 (omega arith), yes_live t d (record { low = h; on = e }))
 
@@ -60,7 +58,7 @@ module _ (t : List ℕ) (d k : ℕ) where
     pub word : s ≡ 2 * d + k
     pub type : k < 2
 
-  pub there_steps : {s : ℕ} → There s ≡ named_step t d k → NamedThere s
+  pub there_steps : {s : ℕ} → Ok s ≡ named_step t d k → NamedThere s
   unfolding named_step
   there_steps {s} e = elim (truth (good? t)) [
     | fails g ↦ absurd (other (rw g at e))
@@ -70,7 +68,7 @@ module _ (t : List ℕ) (d k : ℕ) where
         | fails l ↦ absurd (other (rw (g, n, l) at e))
         | holds l ↦
             let low = ltb-true k 2 (both_right (ltb d darts) (ltb k 2) n) in
-            let f : There s ≡ There (2 * d + k) = rw (g, n, l) at e in
+            let f : ◌≡◌ {A = Named} (Ok s) (Ok (2 * d + k)) = rw (g, n, l) at e in
             let word : s ≡ 2 * d + k = cc in
             let half : s / 2 ≡ d = omega arith in
             record { stands = record { good = case_yes (good_case t) g; live = rw half l }; word = word; type = low }
@@ -78,11 +76,11 @@ module _ (t : List ℕ) (d k : ℕ) where
     ]
   ]
     where
-      other : {r : Refusal} → There s ≡ Refused r → ⊥
+      other : {r : Refusal} → ◌≡◌ {A = Named} (Ok s) (Err r) → ⊥
       other f = let z : ◌≡◌ {A = ℕ} 0 1 = cc in omega arith
 
 -- and every step on a live dart is there
-pub named_live : {t : List ℕ} {s : ℕ} → Stands t s → There s ≡ named_step t (s / 2) (s % 2)
+pub named_live : {t : List ℕ} {s : ℕ} → Stands t s → Ok s ≡ named_step t (s / 2) (s % 2)
 named_live {t} {s} h =
     let low = stands_low h in
     let whole : 2 * (s / 2) + s % 2 ≡ s = omega arith in
@@ -91,44 +89,44 @@ named_live {t} {s} h =
 -- the ends of the calls
 
 module _ (t : List ℕ) (d k : ℕ) {n : Named} (e : n ≡ named_step t d k) where
-  pub alternates_refused : {r : Refusal} → n ≡ Refused r → Declined r ≡ alternates_of t d k
+  pub alternates_refused : {r : Refusal} → n ≡ Err r → Err r ≡ alternates_of t d k
   alternates_refused {r} f = sym (ap (alternates_by t) (sym e ∙ f))
 
-  pub alternates_done : {s : ℕ} {b : Bool} → n ≡ There s → b ≡ alternates t s → Done (bit b) ≡ alternates_of t d k
-  alternates_done f g = ap (λ x. Done (bit x)) g ∙ sym (ap (alternates_by t) (sym e ∙ f))
+  pub alternates_done : {s : ℕ} {b : Bool} → n ≡ Ok s → b ≡ alternates t s → Ok (bit b) ≡ alternates_of t d k
+  alternates_done f g = ap (λ x. Ok (bit x)) g ∙ sym (ap (alternates_by t) (sym e ∙ f))
 
-  pub letters_refused : {r : Refusal} (out : List ℕ) → n ≡ Refused r → (Declined r ≡ letters_of t d k (length out)) × (out ≡ letters_out t d k out)
+  pub letters_refused : {r : Refusal} (out : List ℕ) → n ≡ Err r → (Err r ≡ letters_of t d k (length out)) × (out ≡ letters_out t d k out)
   letters_refused out f = rw (← e, f) (refl, refl)
 
-  pub letters_short : {s size : ℕ} (out : List ℕ) → n ≡ There s → size ≡ length (letters t s) → length out < size
-      → (Declined ShortSlice ≡ letters_of t d k (length out)) × (out ≡ letters_out t d k out)
+  pub letters_short : {s size : ℕ} (out : List ℕ) → n ≡ Ok s → size ≡ length (letters t s) → length out < size
+      → (Err ShortSlice ≡ letters_of t d k (length out)) × (out ≡ letters_out t d k out)
   letters_short {s} out f count h =
       rw (← e, f, lt-leb (length (letters t s)) (length out) (omega arith)) (refl, refl)
 
-  pub letters_done : {s size : ℕ} (out : List ℕ) {out' : List ℕ} → n ≡ There s → size ≡ length (letters t s) → size ≤ length out → out' ≡ sets out 0 (letters t s)
-      → (Done size ≡ letters_of t d k (length out)) × (out' ≡ letters_out t d k out)
+  pub letters_done : {s size : ℕ} (out : List ℕ) {out' : List ℕ} → n ≡ Ok s → size ≡ length (letters t s) → size ≤ length out → out' ≡ sets out 0 (letters t s)
+      → (Ok size ≡ letters_of t d k (length out)) × (out' ≡ letters_out t d k out)
   letters_done {s} {size} out f count h w =
       let word = (there_steps t d k (sym f ∙ e)).word in
       let room : length (letters t s) ≤ length out = omega arith in
       rw (← e, f, le-leb (length (letters t s)) (length out) room, ← word)
-      (ap Done count, w ∙ sets_front (letters t s) out room)
+      (ap Ok count, w ∙ sets_front (letters t s) out room)
 
 module _ (t : List ℕ) where
-  pub plain_torn : good? t ≡ false → Declined Torn ≡ plain_of t
+  pub plain_torn : good? t ≡ false → Err Torn ≡ plain_of t
   plain_torn g = rw g
 
-  pub plain_done : {b : Bool} → good? t ≡ true → b ≡ plain t → Done (bit b) ≡ plain_of t
+  pub plain_done : {b : Bool} → good? t ≡ true → b ≡ plain t → Ok (bit b) ≡ plain_of t
   plain_done g e = rw (g, ← e)
 
 -- what accepted calls answered
 
 data Naming (n : Named) : Type 0 where
-  there : (s : ℕ) → n ≡ There s → Naming n
-  refused : (r : Refusal) → n ≡ Refused r → Naming n
+  there : (s : ℕ) → n ≡ Ok s → Naming n
+  refused : (r : Refusal) → n ≡ Err r → Naming n
 
 naming : (n : Named) → Naming n
-naming (There s) = there s refl
-naming (Refused r) = refused r refl
+naming (Ok s) = there s refl
+naming (Err r) = refused r refl
 
 module _ (t : List ℕ) (d k : ℕ) where
   pub letters_accepted : (out : List ℕ) → Accepted (letters_of t d k (length out)) (letters t (2 * d + k)) out (letters_out t d k out)
@@ -139,17 +137,17 @@ module _ (t : List ℕ) (d k : ℕ) where
     | refused r e ↦ rw e (declined_accepted r (letters t (2 * d + k)) out)
   ]
 
-  pub alternates_accepted : (n : ℕ) → alternates_of t d k ≡ Done n → n ≡ bit (alternates t (2 * d + k))
+  pub alternates_accepted : (n : ℕ) → alternates_of t d k ≡ Ok n → n ≡ bit (alternates t (2 * d + k))
   alternates_accepted n a = elim (naming (named_step t d k)) [
     | there s e ↦
         let word = (there_steps t d k (sym e)).word in
-        let same : Done (bit (alternates t s)) ≡ Done n = rw e at a in
+        let same : ◌≡◌ {A = Answer} (Ok (bit (alternates t s))) (Ok n) = rw e at a in
         rw (← word) (done_same same)
     | refused r e ↦ absurd (done_declined (rw e at a))
   ]
 
-pub plain_accepted : (t : List ℕ) (n : ℕ) → plain_of t ≡ Done n → n ≡ bit (plain t)
+pub plain_accepted : (t : List ℕ) (n : ℕ) → plain_of t ≡ Ok n → n ≡ bit (plain t)
 plain_accepted t n a = elim (truth (good? t)) [
-  | holds g ↦ let same : Done (bit (plain t)) ≡ Done n = rw g at a in done_same same
+  | holds g ↦ let same : ◌≡◌ {A = Answer} (Ok (bit (plain t))) (Ok n) = rw g at a in done_same same
   | fails g ↦ absurd (done_declined (rw g at a))
 ]

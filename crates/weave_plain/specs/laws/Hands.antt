@@ -4,16 +4,14 @@
 --     Seeing                                         the loop over the walk
 --     seeing_none, seeing_more, seeing_all           it begins, goes on, ends
 --     tell_positive, tell_none                       what the hands tell: whether the ribbon alternates
-use Rattle.std.specs.Prelude.{ℕ, zero, ◌+◌, ◌<◌, ◌≤◌, ◌≡◌, refl, Bool, true, false, not, ◌&&◌, ◌||◌, List, [], ◌∷◌, ◌++◌, ◌≢◌}
-use Rattle.std.proofs.Common.{arith, add-one, sym, ◌∙◌, ap, ap₂}
+use Rattle.std.specs.Prelude.{ℕ, ◌<◌, ◌≤◌, ◌≡◌, refl, Bool, true, false, not, ◌&&◌, ◌||◌, List, [], ◌∷◌, ◌++◌}
+use Rattle.std.proofs.Common.{arith, sym, ◌∙◌, ap, ap₂}
 use Rattle.std.proofs.Math.Bool.{or-false, or-true}
 use borrow.Author.Tests.{lt-ltb, le-ltb}
 use Rattle.table.specs.Rotation.{rotation}
-use Rattle.tracing.specs.Step.{step}
 use Rattle.tracing.specs.Walk.{walk}
-use Rattle.tracing.proofs.laws.Walk.{iterates, run_suc}
 use Rattle.tracing_walks.specs.laws.Stands.{Stands, stands_low}
-use Rattle.tracing_walks.specs.laws.Along.{Walking, walking_none, walking_more, walking_all}
+use Rattle.tracing_walks.specs.laws.Along.{Along, along_none, along_more, along_all}
 use Rattle.weave_plain.specs.declared.hands.Hands.{Hands}
 use Rattle.weave.specs.Letters.{unturned, positive, negative, word_of, alternates}
 use Rattle.weave.specs.Ribbon.{some, some_positive, some_negative}
@@ -52,28 +50,20 @@ among_more t l x =
     (ap (λ b. some_negative t l || b) (sym (or-false (negative (word_of t x)))) ∙ sym (some_append (λ y. negative (word_of t y)) l (x ∷ [])))
 
 -- the loop over the walk
-pub record Seeing (t : List ℕ) (s at : ℕ) (h : Hands) : Type 0 where
-  pub so_far : ℕ
-  pub walking : Walking t s so_far at
-  pub seen : h ≡ hands_among t (iterates (step (rotation t)) s so_far)
+pub record Seeing (t : List ℕ) (s : ℕ) (gone left : List ℕ) (h : Hands) : Type 0 where
+  pub along : Along t s gone left
+  pub seen : h ≡ hands_among t gone
 
-pub seeing_none : {t : List ℕ} {s : ℕ} → Stands t s → Seeing t s s (record { positive = false; negative = false })
-unfolding iterates hands_among some
-seeing_none h = record { so_far = zero; walking = walking_none h; seen = refl }
+pub seeing_none : {t : List ℕ} {s : ℕ} {left : List ℕ} → Stands t s → left ≡ walk (rotation t) s → Seeing t s [] left (record { positive = false; negative = false })
+unfolding hands_among some
+seeing_none h e = record { along = along_none h e; seen = refl }
 
-seen_more : {t : List ℕ} {s at : ℕ} {h : Hands} {w : ℕ} {h' : Hands} (k : Seeing t s at h) → EdgeWord t at w → h' ≡ hands_with h w
-    → h' ≡ hands_among t (iterates (step (rotation t)) s (k.so_far + 1))
-seen_more {t} {s} {at} k e f =
-    let l = iterates (step (rotation t)) s k.so_far in
-    f ∙ ap₂ hands_with k.seen e.word ∙ among_more t l at ∙ ap (hands_among t) (rw (add-one, run_suc, k.walking.along.here))
+module _ {t : List ℕ} {s : ℕ} {gone left : List ℕ} {h : Hands} (k : Seeing t s gone left h) where
+  pub seeing_more : {at : ℕ} {left' : List ℕ} {w : ℕ} {h' : Hands} → left ≡ at ∷ left' → EdgeWord t at w → h' ≡ hands_with h w → Seeing t s (gone ++ at ∷ []) left' h'
+  seeing_more {at} e f g = record { along = along_more k.along e; seen = g ∙ ap₂ hands_with k.seen f.word ∙ among_more t gone at }
 
-pub seeing_more : {t : List ℕ} {s at : ℕ} {h : Hands} {w : ℕ} {h' : Hands} {next : ℕ} → Seeing t s at h → EdgeWord t at w → h' ≡ hands_with h w
-    → next ≡ step (rotation t) at → next ≢ s → Seeing t s next h'
-seeing_more k e f g b = record { so_far = k.so_far + 1; walking = walking_more k.walking g b; seen = seen_more k e f }
-
-pub seeing_all : {t : List ℕ} {s at : ℕ} {h : Hands} {w : ℕ} {h' : Hands} {next : ℕ} → Seeing t s at h → EdgeWord t at w → h' ≡ hands_with h w
-    → next ≡ step (rotation t) at → next ≡ s → h' ≡ hands_among t (walk (rotation t) s)
-seeing_all k e f g b = rw (walking_all k.walking g b) (seen_more k e f)
+  pub seeing_all : left ≡ [] → h ≡ hands_among t (walk (rotation t) s)
+  seeing_all e = rw (← along_all k.along e) k.seen
 
 -- what the hands tell
 hands_tell : {t : List ℕ} {s : ℕ} {h : Hands} → Stands t s → h ≡ hands_among t (walk (rotation t) s) → alternates t s ≡ not (h.positive && h.negative)

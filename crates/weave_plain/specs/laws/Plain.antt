@@ -3,20 +3,22 @@
 --     Judged, judged_none, judged_one    the ribbon listed from dart d on is judged: there is none, or one
 --     Judging                            the loop over the darts: the ribbons listed so far alternate
 --     judging_none, judging_more         it begins, goes on
+--     judging_dead                       a block without a live edge is passed over
 --     judging_no, judging_all            it ends with a mixed weave; with a plain one
-use Rattle.std.specs.Prelude.{ℕ, zero, suc, ◌+◌, ◌*◌, ◌<◌, ◌≤◌, ◌≡◌, refl, Bool, true, false, ◌&&◌, List, [], ◌∷◌, ◌++◌, ◌≢◌, length}
+--     JudgedTo                           what a block of darts ends with: a mixed weave, or the loop goes on behind it
+use Rattle.std.specs.Prelude.{ℕ, zero, suc, ◌+◌, ◌*◌, ◌<◌, ◌≤◌, ◌≡◌, refl, Bool, true, false, ◌&&◌, Some, None, List, [], ◌∷◌, ◌++◌}
 use Rattle.std.proofs.Common.{arith, add-one, sym, ◌∙◌, ap}
 use Rattle.std.proofs.Math.Decide.{ℕ_discrete}
 use Rattle.std.proofs.Math.Bool.{and-true, and_assoc}
 use Rattle.orbits.proofs.laws.Truth.{clash, false_unless, both_left}
 use Rattle.table.specs.Layout.{darts}
+use Rattle.table.specs.laws.Blocks.{edge_blocks, DeadBlock, dead_dart, block_on}
 use Rattle.table.specs.Good.{Good}
 use Rattle.table.specs.Rotation.{rotation}
-use Rattle.tracing_walks.specs.declared.count.Size.{Size}
-use Rattle.tracing.specs.Listing.{gather, starts, fresh, met_by, walk_text}
-use Rattle.tracing.proofs.laws.Listing.{starts_suc, written_some, gather_one, gather_none}
+use Rattle.tracing.specs.Listing.{starts, fresh, met_by}
+use Rattle.tracing.proofs.laws.Listing.{starts_suc}
 use Rattle.tracing_walks.specs.laws.Marks.{mark, unmarked}
-use Rattle.tracing_walks.specs.laws.Size.{LookReady, Looked, unmet, unmet_case, no_start, begins, Seen, seen_none, seen_more, unmet_fresh}
+use Rattle.tracing_walks.specs.laws.Size.{Looked, unmet, looked_marks, looked_dead, no_walk, one_walk, Seen, seen_none, seen_more, unmet_fresh}
 use Rattle.weave.specs.Letters.{alternates, every, plain}
 
 -- do the ribbons from these darts on alternate
@@ -33,24 +35,13 @@ pub record Judged (t : List ℕ) (d : ℕ) (m : List ℕ) (r : Bool) (m' : List 
   pub marks : m' ≡ mark m (met_by (rotation t) (unmet t m d))
   pub verdict : r ≡ all_alternate t (unmet t m d)
 
-pub judged_none : {t : List ℕ} {d : ℕ} {m : List ℕ} {r : Size} {m' : List ℕ} → LookReady t m d → Looked t d m r m' → r.words ≡ 0 → Judged t d m true m'
+pub judged_none : {t : List ℕ} {d : ℕ} {m : List ℕ} {m' : List ℕ} → Looked t d m None m' → Judged t d m true m'
 unfolding every
-judged_none {t} {d} {m} h k e = elim (unmet_case t m d) [
-  | no_start u ↦ record { marks = k.marks; verdict = rw u }
-  | begins l u ↦
-      let some = written_some (rotation t) d in
-      let none : length (gather (walk_text (rotation t)) (d ∷ [])) ≡ 0 = ap (λ a. length (gather (walk_text (rotation t)) a)) (sym u) ∙ sym k.words ∙ e in
-      let one = ap length (gather_one (walk_text (rotation t)) d) in
-      absurd (omega arith)
-]
+judged_none (no_walk u) = record { marks = looked_marks (no_walk u); verdict = rw u refl }
 
-pub judged_one : {t : List ℕ} {d : ℕ} {m : List ℕ} {r : Size} {m' : List ℕ} {b : Bool} → LookReady t m d → Looked t d m r m' → r.words ≢ 0 → b ≡ alternates t (2 * d)
-    → Judged t d m b m'
+pub judged_one : {t : List ℕ} {d : ℕ} {m : List ℕ} {n : ℕ} {m' : List ℕ} {b : Bool} → Looked t d m (Some n) m' → b ≡ alternates t (2 * d) → Judged t d m b m'
 unfolding every
-judged_one {t} {d} {m} h k e f = elim (unmet_case t m d) [
-  | no_start u ↦ absurd (e (k.words ∙ ap (λ a. length (gather (walk_text (rotation t)) a)) u ∙ ap length (gather_none (walk_text (rotation t)))))
-  | begins l u ↦ record { marks = k.marks; verdict = rw u (f ∙ sym (and-true (alternates t (2 * d)))) }
-]
+judged_one {t} {d} (one_walk h u k) f = record { marks = looked_marks (one_walk h u k); verdict = rw u (f ∙ sym (and-true (alternates t (2 * d)))) }
 
 -- the loop over the darts: the ribbons listed below d alternate
 pub record Judging (t : List ℕ) (d : ℕ) (m : List ℕ) : Type 0 where
@@ -85,6 +76,16 @@ pub judging_no : {t : List ℕ} {d : ℕ} {m : List ℕ} {b : Bool} {m' : List �
 unfolding plain
 judging_no {t} {d} k h j e =
     sym (false_unless (plain t) (λ p. clash (starts_below t (suc d) darts h p) (judged_starts k h j ∙ e)))
+
+-- no ribbon is listed from a block without a live edge on
+pub judging_dead : {t : List ℕ} (b : ℕ) {m : List ℕ} → b < edge_blocks → DeadBlock t b → Judging t (64 * b) m → Judging t (64 * b + 64) m
+judging_dead {t} b {m} h k = block_on (λ d. Judging t d m) (64 * b) 64 (λ i l c.
+    judging_more c (omega arith) (judged_none (looked_dead t (64 * b + i) m (dead_dart t b k i l))) refl)
+
+-- the ribbons listed below d alternate, or the weave is mixed
+pub record JudgedTo (t : List ℕ) (d : ℕ) (r : Bool) (m : List ℕ) : Type 0 where
+  pub goes_on : r ≡ true → Judging t d m
+  pub mixed : r ≡ false → false ≡ plain t
 
 pub judging_all : {t : List ℕ} {m : List ℕ} → Judging t 2048 m → true ≡ plain t
 unfolding plain

@@ -3,15 +3,13 @@
 --     whole_mirror                and either sense may
 --     along_sized, along_alike    the answer, by the number of pieces and whether a word is far
 --     far_back, spots_back        the way back along an edge is far alike, and has as many pieces
-use Rattle.std.specs.Prelude.{ℕ, ◌+◌, ◌*◌, ◌≡◌, Bool, true, not, List, ltb, leb, ℤ}
+use Rattle.std.specs.Prelude.{ℕ, ◌+◌, ◌*◌, ◌≡◌, Bool, true, not, List, ltb, leb, ℤ, Ok, Err}
 use Rattle.std.proofs.Common.{sym, ◌∙◌, ap₂}
 use Rattle.std.proofs.Math.Path.{ap}
 use Rattle.std.proofs.Math.ListN.{length}
 use Rattle.table.specs.Rotation.{Lawful, rotation}
-use Rattle.table.specs.Answers.{unless}
+use Rattle.table.specs.Answers.{unless, Answer}
 use Rattle.table.specs.laws.Lawful.{good_lawful}
-use Rattle.table.specs.declared.answer.Answer.{Answer}
-use Rattle.table.specs.declared.answer.Answer.TheVariants.{Done, Declined}
 use Rattle.table.specs.declared.answer.Refusal.TheVariants.{ShortSlice, Far}
 use Rattle.tracing.specs.Step.{mirror, back}
 use Rattle.tracing.specs.Walk.{walk}
@@ -20,7 +18,6 @@ use Rattle.tracing.specs.Met.{total}
 use Rattle.tracing.proofs.laws.Totals.{total_named, total_mirror}
 use Rattle.tracing_walks.specs.laws.Stands.{Stands, stands_low}
 use Rattle.weave.specs.Ribbon.{some}
-use Rattle.weave.specs.declared.named.Named.TheVariants.{There}
 use Rattle.weave.specs.Calls.{named_step}
 use Rattle.weave.proofs.laws.Calls.{there_steps}
 use Rattle.weave.proofs.laws.Tests.{some_total}
@@ -36,13 +33,13 @@ module _ (t : List ℕ) (points lifts : List ℤ) (k c r : ℕ) where
   -- what the call answers, once the number of pieces is known, and whether a word is far
   abbrev sized : ℕ → Bool → Answer
   sized p far =
-      unless (leb point_words (length points)) (Declined ShortSlice)
-      (unless (leb lift_words (length lifts)) (Declined ShortSlice)
-      (unless (leb p k) (Declined ShortSlice)
-      (unless (leb (3 * p) c) (Declined ShortSlice)
-      (unless (leb (3 * p) r) (Declined ShortSlice)
-      (unless (not far) (Declined Far)
-      (Done p))))))
+      unless (leb point_words (length points)) (Err ShortSlice)
+      (unless (leb lift_words (length lifts)) (Err ShortSlice)
+      (unless (leb p k) (Err ShortSlice)
+      (unless (leb (3 * p) c) (Err ShortSlice)
+      (unless (leb (3 * p) r) (Err ShortSlice)
+      (unless (not far) (Err Far)
+      (Ok p))))))
 
   along_sized : (s : ℕ) → whole_along t points lifts k c r s ≡ sized (total (spots_of t) (walk (rotation t) s) + 1) (some (far_step t points lifts) (walk (rotation t) s))
   unfolding whole_along pieces_along
@@ -67,7 +64,7 @@ far_back t points lifts x = rw (same_edge (rotation t) x)
 spots_back : (t : List ℕ) (x : ℕ) → spots_of t (back (rotation t) x) ≡ spots_of t x
 spots_back t x = rw (same_edge (rotation t) x)
 
-module _ (t : List ℕ) (points lifts : List ℤ) (d y d' y' : ℕ) {s x : ℕ} (a : named_step t d y ≡ There s) (b : named_step t d' y' ≡ There x) (k c r : ℕ) where
+module _ (t : List ℕ) (points lifts : List ℤ) (d y d' y' : ℕ) {s x : ℕ} (a : named_step t d y ≡ Ok s) (b : named_step t d' y' ≡ Ok x) (k c r : ℕ) where
   stands : Stands t s
   stands = (there_steps t d y (sym a)).stands
 

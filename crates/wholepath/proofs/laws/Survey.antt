@@ -5,18 +5,16 @@
 --     Surveying                                        the loop over the walk
 --     surveying_none, surveying_more, surveying_all    it begins, goes on, ends
 --     surveying_lent, surveying_most                   the present step's words are there; there are few pieces
-use Rattle.std.specs.Prelude.{[], ℕ, zero, ◌+◌, ◌*◌, ◌≤◌, ◌≡◌, refl, Bool, true, false, List, ◌∷◌, ◌++◌, ◌≢◌, ℤ, length}
+use Rattle.std.specs.Prelude.{[], ℕ, ◌+◌, ◌*◌, ◌≤◌, ◌≡◌, refl, Bool, true, false, List, ◌∷◌, ◌++◌, ℤ, length}
 use native.Mathlib.Omega.{arith}
-use Rattle.std.proofs.Common.{add-one, ◌∙◌}
+use Rattle.std.proofs.Common.{◌∙◌, length-append}
 use Rattle.std.proofs.Math.Path.{ap}
 use Rattle.std.proofs.Math.Bool.{or-true, or-false}
 use Rattle.table.specs.Rotation.{rotation}
-use Rattle.tracing.specs.Step.{step}
 use Rattle.tracing.specs.Walk.{walk}
 use Rattle.tracing.specs.Met.{total}
 use Rattle.tracing.proofs.laws.Totals.{total_append}
-use Rattle.tracing.proofs.laws.Walk.{iterates, run_suc}
-use Rattle.tracing_walks.specs.laws.Along.{Walking, walking_none, walking_more, walking_all, walking_few}
+use Rattle.tracing_walks.specs.laws.Along.{Along, along_none, along_more, along_all, along_stands, along_low}
 use Rattle.weave_letters.specs.laws.Crossing.{EdgeWord}
 use Rattle.weave.specs.Ribbon.{some}
 use Rattle.weave.proofs.laws.Ribbon.{some_append}
@@ -44,53 +42,42 @@ module _ (t : List ℕ) (points lifts : List ℤ) (l : List ℕ) (x : ℕ) where
       rw (← pieces, some_append (far_step t points lifts) l (x ∷ []), or-false (far_step t points lifts x))
 
 -- the loop over the walk
-pub record Surveying (t : List ℕ) (points lifts : List ℤ) (s at : ℕ) (v : Survey) : Type 0 where
-  pub so_far : ℕ
-  pub walking : Walking t s so_far at
+pub record Surveying (t : List ℕ) (points lifts : List ℤ) (s : ℕ) (gone left : List ℕ) (v : Survey) : Type 0 where
+  pub along : Along t s gone left
   pub points_size : point_words ≤ length points
   pub lifts_size : lift_words ≤ length lifts
-  pub seen : v ≡ survey_of t points lifts (iterates (step (rotation t)) s so_far)
-  pub few : v.pieces ≤ 99 * so_far
+  pub seen : v ≡ survey_of t points lifts gone
+  pub few : v.pieces ≤ 99 * length gone
 
-pub surveying_none : {t : List ℕ} {points lifts : List ℤ} {s : ℕ} → Lent t points lifts s → Surveying t points lifts s s (record { pieces = 0; far = false })
-unfolding iterates survey_of some total
-surveying_none k = record { so_far = zero; walking = walking_none k.stands; points_size = k.points_size; lifts_size = k.lifts_size; seen = refl; few = omega arith }
+pub surveying_none : {t : List ℕ} {points lifts : List ℤ} {s : ℕ} {left : List ℕ} → Lent t points lifts s → left ≡ walk (rotation t) s
+    → Surveying t points lifts s [] left (record { pieces = 0; far = false })
+unfolding survey_of some total
+surveying_none k e = record { along = along_none k.stands e; points_size = k.points_size; lifts_size = k.lifts_size; seen = refl; few = omega arith }
 
-module _ {t : List ℕ} {points lifts : List ℤ} {s at : ℕ} {v : Survey} (k : Surveying t points lifts s at v) where
-  pub surveying_lent : Lent t points lifts at
-  surveying_lent = record { stands = k.walking.there; points_size = k.points_size; lifts_size = k.lifts_size }
+module _ {t : List ℕ} {points lifts : List ℤ} {s : ℕ} {gone left : List ℕ} {v : Survey} (k : Surveying t points lifts s gone left v) where
+  pub surveying_all : left ≡ [] → v ≡ survey_of t points lifts (walk (rotation t) s)
+  surveying_all e = rw (← along_all k.along e) k.seen
 
-  pub surveying_most : v.pieces ≤ most_before
-  surveying_most = let few = k.few in let low = walking_few k.walking in omega arith
+  module _ {at : ℕ} {left' : List ℕ} (e : left ≡ at ∷ left') where
+    pub surveying_lent : Lent t points lifts at
+    surveying_lent = record { stands = along_stands k.along e; points_size = k.points_size; lifts_size = k.lifts_size }
 
-  module _ {w n : ℕ} {f : Bool} {v' : Survey} (e : EdgeWord t at w) (a : n ≡ spots_on w) (b : f ≡ far_step t points lifts at) (c : v' ≡ survey_with v n f) where
-    spots_are : n ≡ spots_of t at
-    spots_are = a ∙ ap spots_on e.word
+    pub surveying_most : v.pieces ≤ most_before
+    surveying_most = let few = k.few in let low = along_low k.along e in omega arith
 
-    seen_more : v' ≡ survey_of t points lifts (iterates (step (rotation t)) s (k.so_far + 1))
-    seen_more =
-        let l = iterates (step (rotation t)) s k.so_far in
-        let seen : survey_with v n f ≡ survey_of t points lifts (l ++ (at ∷ [])) = rw (spots_are, b, k.seen) (survey_more t points lifts l at) in
-        rw (add-one, run_suc, k.walking.along.here) (c ∙ seen)
-
-    few_more : v'.pieces ≤ 99 * (k.so_far + 1)
+    pub surveying_more : {w n : ℕ} {f : Bool} {v' : Survey} → EdgeWord t at w → n ≡ spots_on w → f ≡ far_step t points lifts at → v' ≡ survey_with v n f
+        → Surveying t points lifts s (gone ++ at ∷ []) left' v'
     unfolding survey_with
-    few_more =
+    surveying_more {w} {n} {f} {v'} g a b c =
+        let same : n ≡ spots_of t at = a ∙ ap spots_on g.word in
         let few = k.few in
-        let here = spots_few_lem k.walking.there in
-        let same = spots_are in
+        let here = spots_few_lem (along_stands k.along e) in
         let sum : v'.pieces ≡ v.pieces + n = ap (λ u. u.pieces) c in
-        omega arith
-
-    pub surveying_more : {next : ℕ} → next ≡ step (rotation t) at → next ≢ s → Surveying t points lifts s next v'
-    surveying_more g m = record {
-      so_far = k.so_far + 1;
-      walking = walking_more k.walking g m;
-      points_size = k.points_size;
-      lifts_size = k.lifts_size;
-      seen = seen_more;
-      few = few_more;
-    }
-
-    pub surveying_all : {next : ℕ} → next ≡ step (rotation t) at → next ≡ s → v' ≡ survey_of t points lifts (walk (rotation t) s)
-    surveying_all g m = rw (walking_all k.walking g m) seen_more
+        let size = length-append gone (at ∷ []) in
+        record {
+          along = along_more k.along e;
+          points_size = k.points_size;
+          lifts_size = k.lifts_size;
+          seen = c ∙ rw (same, b, k.seen) (survey_more t points lifts gone at);
+          few = omega arith;
+        }

@@ -6,7 +6,7 @@
 --     FloatAccepted, float_accepted    the same of the float path
 --     one_spot, spot_is, step_tied     an edge of at most one turn: one piece, at the float path's point
 --     as_many, whole_along_lem         then both paths have as many pieces
-use Rattle.std.specs.Prelude.{ℕ, ◌+◌, ◌*◌, ◌/◌, ◌%◌, ◌≤◌, ◌<◌, ◌≡◌, refl, Bool, true, false, cond, not, ◌&&◌, ◌≢◌, eqb, leb, ltb, ℤ, length, get_or}
+use Rattle.std.specs.Prelude.{ℕ, ◌+◌, ◌*◌, ◌/◌, ◌%◌, ◌≤◌, ◌<◌, ◌≡◌, refl, Bool, true, false, cond, not, ◌&&◌, ◌≢◌, eqb, leb, ltb, ℤ, length, get_or, Ok, Err}
 use native.Mathlib.Omega.{arith}
 use Rattle.std.proofs.Math.Decide.{ℕ_discrete}
 use Rattle.std.proofs.Common.{◌∙◌}
@@ -17,11 +17,9 @@ use Rattle.orbits.proofs.laws.Truth.{truth, holds, fails}
 use Rattle.table.specs.Layout.{darts}
 use Rattle.table.specs.Check.{good?}
 use Rattle.table.specs.Rotation.{rotation, live?}
-use Rattle.table.specs.Answers.{number_of}
+use Rattle.table.specs.Answers.{number_of, Answer}
 use Rattle.table.specs.laws.Answers.{let_through}
 use Rattle.table.specs.laws.Output.{done_declined, done_same}
-use Rattle.table.specs.declared.answer.Answer.{Answer}
-use Rattle.table.specs.declared.answer.Answer.TheVariants.{Done, Declined}
 use Rattle.table.specs.declared.answer.Refusal.TheVariants.{ShortSlice, ManyTurns}
 use Rattle.tracing.specs.Listing.{has}
 use Rattle.tracing.specs.Met.{total}
@@ -30,9 +28,7 @@ use Rattle.tracing.proofs.laws.Listing.{has_here}
 use Rattle.tracing.proofs.laws.Has.{has_tail}
 use Rattle.tracing_walks.specs.laws.Along.{walk_stands}
 use Rattle.tracing_walks.specs.laws.Stands.{Stands}
-use Rattle.weave.specs.declared.named.Named.{Named}
-use Rattle.weave.specs.declared.named.Named.TheVariants.{There, Refused}
-use Rattle.weave.specs.Calls.{named_step}
+use Rattle.weave.specs.Calls.{named_step, Named}
 use Rattle.weave.proofs.laws.Calls.{there_steps}
 use Rattle.weave.specs.Letters.{over, under, unturned, crossings, word_of, step_letters}
 use Rattle.weave.specs.Ribbon.{some}
@@ -66,13 +62,13 @@ record Accepted (t : List ℕ) (points lifts : List ℤ) (s n : ℕ) : Type 0 wh
   near : some (far_step t points lifts) (walk (rotation t) s) ≡ false
   count : n ≡ length (whole_path t points lifts s)
 
-accepted : (t : List ℕ) (d y : ℕ) (points lifts : List ℤ) (k c r n : ℕ) → whole_answer t d y points lifts k c r ≡ Done n → Accepted t points lifts (2 * d + y) n
+accepted : (t : List ℕ) (d y : ℕ) (points lifts : List ℤ) (k c r n : ℕ) → whole_answer t d y points lifts k c r ≡ Ok n → Accepted t points lifts (2 * d + y) n
 unfolding whole_along
 accepted t d y points lifts k c r n a = by (named_step t d y) refl a
   where
-    by : (m : Named) → m ≡ named_step t d y → whole_by t points lifts k c r m ≡ Done n → Accepted t points lifts (2 * d + y) n
-    by (Refused x) e f = absurd (done_declined f)
-    by (There s) e f =
+    by : (m : Named) → m ≡ named_step t d y → whole_by t points lifts k c r m ≡ Ok n → Accepted t points lifts (2 * d + y) n
+    by (Err x) e f = absurd (done_declined f)
+    by (Ok s) e f =
         let there = there_steps t d y e in
         let p = let_through (leb point_words (length points)) done_declined f in
         let l = let_through (leb lift_words (length lifts)) done_declined p.rest in
@@ -104,7 +100,7 @@ spot_near t points lifts s i h f l =
     crossing : {a b e : ℤ} → NearEnds a b e → Crossing (spots_of t s) (crossing_number (spots_of t s) (s / 2) i) a b e
     crossing k = record { between = record { few = spots_few_lem h; among = number_low (spots_of t s) (s / 2) i l; first = k.first; second = k.second }; lift = k.lift }
 
-module _ (t : List ℕ) (d y : ℕ) (points lifts : List ℤ) (k c r n : ℕ) (a : whole_answer t d y points lifts k c r ≡ Done n) where
+module _ (t : List ℕ) (d y : ℕ) (points lifts : List ℤ) (k c r n : ℕ) (a : whole_answer t d y points lifts k c r ≡ Ok n) where
   pub whole_near : (s i : ℕ) → has s (walk (rotation t) (2 * d + y)) ≡ true → i < spots_of t s → SpotNear (spot_of (piece_at t points lifts s i))
   whole_near s i e l =
       let q = accepted t d y points lifts k c r n a in
@@ -188,7 +184,7 @@ record FloatAccepted (t : List ℕ) (points lifts : List ℤ) (s n : ℕ) : Type
   near : some (far_step t points lifts) (walk (rotation t) s) ≡ false
   count : n ≡ length (walk (rotation t) s) + 1
 
-float_accepted : (t : List ℕ) (points lifts : List ℤ) (m c s n : ℕ) → path_along t points lifts m c s ≡ Done n → FloatAccepted t points lifts s n
+float_accepted : (t : List ℕ) (points lifts : List ℤ) (m c s n : ℕ) → path_along t points lifts m c s ≡ Ok n → FloatAccepted t points lifts s n
 unfolding path_along
 float_accepted t points lifts m c s n f =
     let path = float.path_from t points lifts s in
@@ -223,7 +219,7 @@ module _ (t : List ℕ) (points lifts : List ℤ) (s n : ℕ) (f : FloatAccepted
       let count = f.count in
       omega arith
 
-  whole_along_lem : (k c r : ℕ) → n ≤ k → 3 * n ≤ c → 3 * n ≤ r → whole_along t points lifts k c r s ≡ Done n
+  whole_along_lem : (k c r : ℕ) → n ≤ k → 3 * n ≤ c → 3 * n ≤ r → whole_along t points lifts k c r s ≡ Ok n
   unfolding whole_along
   whole_along_lem k c r hk hc hr =
       let path = whole_path t points lifts s in
@@ -240,22 +236,22 @@ module _ (t : List ℕ) (points lifts : List ℤ) (s n : ℕ) (f : FloatAccepted
         f.near,
       )
 
-module _ (t : List ℕ) (d y : ℕ) (points lifts : List ℤ) (m c n : ℕ) (a : path_answer t d y points lifts m c ≡ Done n) where
+module _ (t : List ℕ) (d y : ℕ) (points lifts : List ℤ) (m c n : ℕ) (a : path_answer t d y points lifts m c ≡ Ok n) where
   -- so is the whole path, with as many pieces
-  pub float_whole : (k e r : ℕ) → n ≤ k → 3 * n ≤ e → 3 * n ≤ r → whole_answer t d y points lifts k e r ≡ Done n
+  pub float_whole : (k e r : ℕ) → n ≤ k → 3 * n ≤ e → 3 * n ≤ r → whole_answer t d y points lifts k e r ≡ Ok n
   float_whole k e r hk he hr = by (named_step t d y) a
     where
-      by : (x : Named) → path_by t points lifts m c x ≡ Done n → whole_by t points lifts k e r x ≡ Done n
-      by (Refused x) f = absurd (done_declined f)
-      by (There s) f = whole_along_lem t points lifts s n (float_accepted t points lifts m c s n f) k e r hk he hr
+      by : (x : Named) → path_by t points lifts m c x ≡ Ok n → whole_by t points lifts k e r x ≡ Ok n
+      by (Err x) f = absurd (done_declined f)
+      by (Ok s) f = whole_along_lem t points lifts s n (float_accepted t points lifts m c s n f) k e r hk he hr
 
   -- and the two agree
   pub float_tied : (s : ℕ) → has s (walk (rotation t) (2 * d + y)) ≡ true → Tied t points lifts s
   float_tied s h = by (named_step t d y) refl a
     where
-      by : (x : Named) → x ≡ named_step t d y → path_by t points lifts m c x ≡ Done n → Tied t points lifts s
-      by (Refused x) e f = absurd (done_declined f)
-      by (There start) e f =
+      by : (x : Named) → x ≡ named_step t d y → path_by t points lifts m c x ≡ Ok n → Tied t points lifts s
+      by (Err x) e f = absurd (done_declined f)
+      by (Ok start) e f =
           let word = (there_steps t d y e).word in
           let q = float_accepted t points lifts m c start n f in
           step_tied t points lifts s (none_passes (many_turns t) (walk (rotation t) start) s q.few (rw word h)) (path_unrounded t d y points lifts m c n a s h)
@@ -264,12 +260,12 @@ module _ (t : List ℕ) (d y : ℕ) (points lifts : List ℤ) (m c n : ℕ) (a :
 
 -- the number of the refusal of a declined answer, or of a name that is refused; 0 of others
 abbrev declined_by : Answer → ℕ
-declined_by (Done n) = 0
-declined_by (Declined r) = number_of r
+declined_by (Ok n) = 0
+declined_by (Err r) = number_of r
 
 abbrev refused_by : Named → ℕ
-refused_by (There s) = 0
-refused_by (Refused r) = number_of r
+refused_by (Ok s) = 0
+refused_by (Err r) = number_of r
 
 other_answer : {a b : Answer} → declined_by a < declined_by b → a ≡ b → ⊥
 other_answer h e = let same = ap declined_by e in omega arith
@@ -287,14 +283,14 @@ named_few t d y = elim (truth (good? t)) [
   ]
 ]
 
-pub never_eight : (t : List ℕ) (d y : ℕ) (points lifts : List ℤ) (k c r : ℕ) → whole_answer t d y points lifts k c r ≢ Declined ManyTurns
+pub never_eight : (t : List ℕ) (d y : ℕ) (points lifts : List ℤ) (k c r : ℕ) → whole_answer t d y points lifts k c r ≢ Err ManyTurns
 unfolding whole_along
 never_eight t d y points lifts k c r = by (named_step t d y) (named_few t d y)
   where
-    by : (m : Named) → refused_by m ≤ 4 → whole_by t points lifts k c r m ≢ Declined ManyTurns
-    by (Refused x) h f = let same = ap declined_by f in omega arith
-    by (There s) h f =
-        let short = other_answer {a = Declined ShortSlice} {b = Declined ManyTurns} (omega arith) in
+    by : (m : Named) → refused_by m ≤ 4 → whole_by t points lifts k c r m ≢ Err ManyTurns
+    by (Err x) h f = let same = ap declined_by f in omega arith
+    by (Ok s) h f =
+        let short = other_answer {a = Err ShortSlice} {b = Err ManyTurns} (omega arith) in
         let p = let_through (leb point_words (length points)) short f in
         let l = let_through (leb lift_words (length lifts)) short p.rest in
         let g = let_through (leb (length (flat_map _ (whole_path t points lifts s))) k) short l.rest in

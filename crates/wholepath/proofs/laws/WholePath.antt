@@ -5,7 +5,8 @@
 --     survey_few, along_room                    there are few pieces; an accepted path has room, and words in range
 --     Left, left_declined, left_done            what is answered and left for the path from a step
 --     path_refused, path_left, Ended            the two ends of the call
-use Rattle.std.specs.Prelude.{ℕ, ◌+◌, ◌*◌, ◌<◌, ◌≤◌, ◌≡◌, refl, true, false, not, leb, ℤ, length}
+use Rattle.table.specs.Answers.{Answer}
+use Rattle.std.specs.Prelude.{ℕ, ◌+◌, ◌*◌, ◌<◌, ◌≤◌, ◌≡◌, refl, true, false, not, leb, ℤ, length, Ok, Err}
 use native.Mathlib.Omega.{arith}
 use Rattle.std.proofs.Math.Path.{sym, ap}
 use Rattle.std.proofs.Common.{◌∙◌}
@@ -15,15 +16,11 @@ use Rattle.table.specs.Rotation.{rotation}
 use Rattle.table.specs.laws.Answers.{let_through}
 use Rattle.table.specs.Output.{front}
 use Rattle.table.specs.laws.Output.{done_declined}
-use Rattle.table.specs.declared.answer.Answer.{Answer}
-use Rattle.table.specs.declared.answer.Answer.TheVariants.{Done, Declined}
 use Rattle.table.specs.declared.answer.Refusal.{Refusal}
 use Rattle.table.specs.declared.answer.Refusal.TheVariants.{ShortSlice, Far}
 use Rattle.tracing.specs.Walk.{walk}
 use Rattle.tracing_walks.specs.laws.Stands.{Stands}
-use Rattle.weave.specs.declared.named.Named.{Named}
-use Rattle.weave.specs.declared.named.Named.TheVariants.{There, Refused}
-use Rattle.weave.specs.Calls.{named_step}
+use Rattle.weave.specs.Calls.{named_step, Named}
 use Rattle.weave.proofs.laws.Calls.{there_steps}
 use Rattle.weave.specs.Ribbon.{some}
 use Rattle.floatpath_pieces.specs.Path.{point_words, lift_words, far_step}
@@ -38,12 +35,12 @@ use Rattle.wholepath.specs.laws.WholePath.{Left}
 
 -- the ends of the measuring
 module _ (t : List ℕ) (points lifts : List ℤ) (k c r s : ℕ) where
-  pub short_points : length points < point_words → Declined ShortSlice ≡ whole_along t points lifts k c r s
+  pub short_points : length points < point_words → Err ShortSlice ≡ whole_along t points lifts k c r s
   unfolding whole_along
   short_points h = rw (lt-leb point_words (length points) h)
 
   module _ (p : point_words ≤ length points) where
-    pub short_lifts : length lifts < lift_words → Declined ShortSlice ≡ whole_along t points lifts k c r s
+    pub short_lifts : length lifts < lift_words → Err ShortSlice ≡ whole_along t points lifts k c r s
     unfolding whole_along
     short_lifts h = rw (le-leb point_words (length points) p, lt-leb lift_words (length lifts) h)
 
@@ -65,18 +62,18 @@ module _ (t : List ℕ) (points lifts : List ℤ) (k c r s : ℕ) where
       unfolding survey_of
       far_is = sym (ap (λ u. u.far) e)
 
-      pub short_forms : k < v.pieces + 1 → Declined ShortSlice ≡ whole_along t points lifts k c r s
+      pub short_forms : k < v.pieces + 1 → Err ShortSlice ≡ whole_along t points lifts k c r s
       unfolding whole_along
       short_forms h = rw (le-leb point_words (length points) p, le-leb lift_words (length lifts) l, forms_are, lt-leb (v.pieces + 1) k h)
 
       module _ (a : v.pieces + 1 ≤ k) where
-        pub short_coords : c < 3 * (v.pieces + 1) → Declined ShortSlice ≡ whole_along t points lifts k c r s
+        pub short_coords : c < 3 * (v.pieces + 1) → Err ShortSlice ≡ whole_along t points lifts k c r s
         unfolding whole_along
         short_coords h =
             rw (le-leb point_words (length points) p, le-leb lift_words (length lifts) l, forms_are, le-leb (v.pieces + 1) k a, words_are, lt-leb (3 * (v.pieces + 1)) c h)
 
         module _ (b : 3 * (v.pieces + 1) ≤ c) where
-          pub short_rests : r < 3 * (v.pieces + 1) → Declined ShortSlice ≡ whole_along t points lifts k c r s
+          pub short_rests : r < 3 * (v.pieces + 1) → Err ShortSlice ≡ whole_along t points lifts k c r s
           unfolding whole_along
           short_rests h =
               rw (
@@ -91,7 +88,7 @@ module _ (t : List ℕ) (points lifts : List ℤ) (k c r s : ℕ) where
               )
 
           module _ (d : 3 * (v.pieces + 1) ≤ r) where
-            pub far_away : v.far ≡ true → Declined Far ≡ whole_along t points lifts k c r s
+            pub far_away : v.far ≡ true → Err Far ≡ whole_along t points lifts k c r s
             unfolding whole_along
             far_away h =
                 rw (
@@ -107,7 +104,7 @@ module _ (t : List ℕ) (points lifts : List ℤ) (k c r s : ℕ) where
                   h,
                 )
 
-            pub path_sized : v.far ≡ false → Done (v.pieces + 1) ≡ whole_along t points lifts k c r s
+            pub path_sized : v.far ≡ false → Ok (v.pieces + 1) ≡ whole_along t points lifts k c r s
             unfolding whole_along
             path_sized h =
                 rw (
@@ -122,7 +119,7 @@ module _ (t : List ℕ) (points lifts : List ℤ) (k c r s : ℕ) where
                   far_is,
                   h,
                 )
-                (ap Done (sym pieces_are))
+                (ap Ok (sym pieces_are))
 
 -- 202,752 pieces, and Close
 pub survey_few : {t : List ℕ} (points lifts : List ℤ) {s : ℕ} {v : Survey} → Stands t s → v ≡ survey_of t points lifts (walk (rotation t) s) → v.pieces ≤ 202752
@@ -131,7 +128,7 @@ survey_few points lifts h e = rw e (pieces_most h)
 
 -- an accepted path has room, and words in range
 module _ {t : List ℕ} {s : ℕ} (h : Stands t s) (points lifts : List ℤ) (o : Out) {n : ℕ} where
-  pub along_room : Done n ≡ whole_along t points lifts (length o.forms) (length o.coords) (length o.rests) s → PathRoom t points lifts s o
+  pub along_room : Ok n ≡ whole_along t points lifts (length o.forms) (length o.coords) (length o.rests) s → PathRoom t points lifts s o
   unfolding whole_along
   along_room e =
       let path = whole_path t points lifts s in
@@ -155,12 +152,12 @@ module _ {t : List ℕ} {s : ℕ} (h : Stands t s) (points lifts : List ℤ) (o 
       }
 
 module _ {t : List ℕ} {points lifts : List ℤ} {s : ℕ} {o : Out} {a : Answer} (e : a ≡ whole_along t points lifts (length o.forms) (length o.coords) (length o.rests) s) where
-  pub left_declined : {r : Refusal} → a ≡ Declined r → Left t points lifts s o (Declined r) o
+  pub left_declined : {r : Refusal} → a ≡ Err r → Left t points lifts s o (Err r) o
   left_declined f = record { answer = sym f ∙ e; forms = refl; coords = refl; rests = refl }
 
-  pub left_done : {n : ℕ} {o' : Out} → a ≡ Done n → o'.forms ≡ front (flat_map whole_forms_of (whole_path t points lifts s)) o.forms
+  pub left_done : {n : ℕ} {o' : Out} → a ≡ Ok n → o'.forms ≡ front (flat_map whole_forms_of (whole_path t points lifts s)) o.forms
       → o'.coords ≡ front (flat_map words_of (whole_path t points lifts s)) o.coords → o'.rests ≡ front (flat_map rests_of (whole_path t points lifts s)) o.rests
-      → Left t points lifts s o (Done n) o'
+      → Left t points lifts s o (Ok n) o'
   left_done f x y z = record { answer = sym f ∙ e; forms = x; coords = y; rests = z }
 
 -- the ends of the call
@@ -172,10 +169,10 @@ module _ (t : List ℕ) (d y : ℕ) (points lifts : List ℤ) (o : Out) {n : Nam
       × (o'.coords ≡ whole_coords_out t d y points lifts o.forms o.coords o.rests)
       × (o'.rests ≡ whole_remainders_out t d y points lifts o.forms o.coords o.rests)
 
-  pub path_refused : {r : Refusal} → n ≡ Refused r → Ended (Declined r) o
+  pub path_refused : {r : Refusal} → n ≡ Err r → Ended (Err r) o
   path_refused f = rw (← e, f) (refl, refl, refl, refl)
 
-  pub path_left : {s : ℕ} {a : Answer} {o' : Out} → n ≡ There s → Left t points lifts s o a o' → Ended a o'
+  pub path_left : {s : ℕ} {a : Answer} {o' : Out} → n ≡ Ok s → Left t points lifts s o a o' → Ended a o'
   path_left f l =
       let word = (there_steps t d y (sym f ∙ e)).word in
       rw (← e, f, ← word, ← l.answer) (refl, l.forms, l.coords, l.rests)

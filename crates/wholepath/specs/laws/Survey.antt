@@ -1,6 +1,5 @@
 -- What a survey of steps gives.
 use Rattle.std.specs.Prelude.{ℕ, ◌+◌, Bool, ◌||◌, List, ℤ}
-use Rattle.tracing.specs.Step.{step}
 use Rattle.tracing.specs.Met.{total}
 use Rattle.weave.specs.Ribbon.{some}
 use Rattle.floatpath_pieces.specs.Path.{far_step}

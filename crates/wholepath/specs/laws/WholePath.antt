@@ -1,9 +1,8 @@
 -- What the call leaves once its step is there.
 use Rattle.std.specs.Prelude.{ℕ, ◌≡◌, ℤ, length}
 use mathlib.Core.List.{List, flat_map}
-use Rattle.table.specs.Answers.{if_done}
+use Rattle.table.specs.Answers.{if_done, Answer}
 use Rattle.table.specs.Output.{front}
-use Rattle.table.specs.declared.answer.Answer.{Answer}
 use Rattle.wholepath_pieces.specs.Pieces.{whole_path, whole_forms_of, words_of, rests_of}
 use Rattle.wholepath.specs.WholePath.{whole_along}
 use Rattle.wholepath_writing.specs.laws.Written.{Out}

@@ -9,37 +9,30 @@
 --     laying_sizes                                                   the slices keep their sizes
 --     closing_room, closed                                           then Close: the whole path is written
 --     path_length, path_room                                         how many pieces it has; there is room for them
-use Rattle.std.specs.Prelude.{ℕ, zero, suc, ◌+◌, ◌<◌, ◌≤◌, ◌≡◌, refl, false, ◌≢◌, ℤ}
+use Rattle.std.specs.Prelude.{ℕ, ◌+◌, ◌<◌, ◌≤◌, ◌≡◌, refl, false, ℤ}
 use native.Mathlib.Omega.{arith}
 use Rattle.std.proofs.Math.Numerals.{add-one}
 use Rattle.std.proofs.Common.{◌∙◌, length-append}
 use Rattle.std.proofs.Math.Path.{ap}
 use mathlib.Core.List.{List, [], ◌∷◌, ◌++◌, flat_map}
 use Rattle.std.proofs.Math.ListN.{length}
-use Rattle.orbits.specs.Iterate.{iter}
-use Rattle.orbits.proofs.laws.Truth.{false_unless, clash}
 use Rattle.table.specs.Rotation.{rotation}
-use Rattle.table.specs.laws.Lawful.{good_lawful}
-use Rattle.table.specs.laws.Front.{next_room}
-use Rattle.tracing.specs.Step.{step}
 use Rattle.tracing.specs.Walk.{walk}
-use Rattle.tracing.proofs.laws.Walk.{iterates, run_suc, walk_run, walk_period, walk_period_le}
-use Rattle.tracing_walks.specs.laws.Stands.{stands_low}
-use Rattle.tracing_walks.specs.laws.Along.{Walking, walking_none, walking_more, walking_all, along_few}
+use Rattle.tracing_walks.specs.laws.Along.{Along, along_none, along_more, along_all, along_has, along_stands}
 use Rattle.weave.specs.Letters.{word_of}
 use Rattle.weave.specs.Ribbon.{some}
 use Rattle.weave_letters.specs.laws.Crossing.{EdgeWord}
-use Rattle.weave.proofs.laws.Tests.{walk_some}
+use Rattle.weave.proofs.laws.Ribbon.{none_passes}
 use Rattle.floatpath_pieces.specs.declared.place.Places.{Places}
 use Rattle.floatpath_pieces.specs.Path.{far_step}
 use Rattle.floatpath_pieces.specs.laws.Places.{places_of, Lent}
 use Rattle.floatpath_pieces.specs.laws.Pieces.{piece_readable}
 use Rattle.wholepath_pieces.specs.declared.piece.Piece.{Piece}
 use Rattle.wholepath_pieces.specs.declared.piece.Piece.TheVariants.{Close}
-use Rattle.wholepath_pieces.specs.Pieces.{spots_on, spots_of, whole_piece_on, piece_at, up_to, step_pieces, pieces_along, whole_forms_of, whole_path}
+use Rattle.wholepath_pieces.specs.Pieces.{spots_on, spots_of, whole_piece_on, piece_at, up_to, step_pieces, pieces_along, whole_path}
 use Rattle.table.specs.laws.Flat.{flat_append, flat_one}
 use Rattle.wholepath_pieces.specs.laws.Pieces.{PieceRead, up_length, step_length_lem, spots_few_lem}
-use Rattle.wholepath_writing.specs.laws.Written.{Out, forms_length, Room, Written, written_none, written_join, SameSizes, written_sizes, room_kept}
+use Rattle.wholepath_writing.specs.laws.Written.{Out, Room, Written, written_none, written_join, SameSizes, written_sizes, room_kept}
 
 -- one step
 
@@ -131,79 +124,65 @@ pub record Laid (t : List ℕ) (points lifts : List ℤ) (s : ℕ) (o : Out) (r 
   pub count : r ≡ length (pieces_along t points lifts s)
   pub written : Written (pieces_along t points lifts s) 0 o o'
 
--- the pieces of the first n steps from s
-abbrev pieces_before : List ℕ → List ℤ → List ℤ → ℕ → ℕ → List Piece
-pieces_before t points lifts s n = flat_map (step_pieces t points lifts) (iterates (step (rotation t)) s n)
-
-before_suc : (t : List ℕ) (points lifts : List ℤ) (s n : ℕ)
-    → pieces_before t points lifts s (suc n) ≡ pieces_before t points lifts s n ++ step_pieces t points lifts (iter (step (rotation t)) n s)
-before_suc t points lifts s n =
-    let f = step (rotation t) in
-    rw (run_suc f s n, flat_append (step_pieces t points lifts) (iterates f s n) (iter f n s ∷ []), flat_one (step_pieces t points lifts) (iter f n s))
+-- the pieces of these steps
+abbrev pieces_of : List ℕ → List ℤ → List ℤ → List ℕ → List Piece
+pieces_of t points lifts l = flat_map (step_pieces t points lifts) l
 
 -- the loop over the walk
-pub record Laying (t : List ℕ) (points lifts : List ℤ) (s at n : ℕ) (o₀ o : Out) : Type 0 where
-  pub so_far : ℕ
-  pub walking : Walking t s so_far at
+pub record Laying (t : List ℕ) (points lifts : List ℤ) (s : ℕ) (gone left : List ℕ) (n : ℕ) (o₀ o : Out) : Type 0 where
+  pub along : Along t s gone left
   pub room : PathRoom t points lifts s o₀
-  pub count : n ≡ length (pieces_before t points lifts s so_far)
-  pub written : Written (pieces_before t points lifts s so_far) 0 o₀ o
+  pub count : n ≡ length (pieces_of t points lifts gone)
+  pub written : Written (pieces_of t points lifts gone) 0 o₀ o
 
-pub laying_none : {t : List ℕ} {points lifts : List ℤ} {s : ℕ} {o : Out} → PathRoom t points lifts s o → Laying t points lifts s s 0 o o
-unfolding iterates flat_map
-laying_none {o = o} k = record { so_far = zero; walking = walking_none k.lent.stands; room = k; count = refl; written = written_none 0 o }
+pub laying_none : {t : List ℕ} {points lifts : List ℤ} {s : ℕ} {left : List ℕ} {o : Out} → PathRoom t points lifts s o → left ≡ walk (rotation t) s
+    → Laying t points lifts s [] left 0 o o
+unfolding flat_map
+laying_none {o = o} k e = record { along = along_none k.lent.stands e; room = k; count = refl; written = written_none 0 o }
 
-module _ {t : List ℕ} {points lifts : List ℤ} {s at n : ℕ} {o₀ o : Out} (k : Laying t points lifts s at n o₀ o) where
-  -- the pieces of the present step are among those of the ribbon
-  laying_within : n + spots_of t at ≤ length (pieces_along t points lifts s)
+module _ {t : List ℕ} {points lifts : List ℤ} {s : ℕ} {gone left : List ℕ} {n : ℕ} {o₀ o : Out} (k : Laying t points lifts s gone left n o₀ o) where
+  pub laying_sizes : SameSizes o₀ o
+  laying_sizes = written_sizes k.written
+
+  pub laying_all : left ≡ [] → Laid t points lifts s o₀ n o
   unfolding pieces_along
-  laying_within =
-      let R = rotation t in
-      let L = good_lawful t k.walking.start.good in
-      let low = stands_low k.walking.start in
-      let p = walk_period R L s low in
-      let steps = step_pieces t points lifts in
-      let before = pieces_before t points lifts s in
-      let forms : (m : ℕ) → flat_map whole_forms_of (before (suc m)) ≡ flat_map whole_forms_of (before m) ++ flat_map whole_forms_of (steps (iter (step R) m s)) =
-      λ m. ap (flat_map whole_forms_of) (before_suc t points lifts s m) ∙ flat_append whole_forms_of (before m) (steps (iter (step R) m s)) in
-      let next = next_room (λ m. flat_map whole_forms_of (before m)) (λ m. flat_map whole_forms_of (steps (iter (step R) m s))) forms p.steps k.so_far (along_few k.walking.along p) in
-      let here : length (steps (iter (step R) k.so_far s)) ≡ spots_of t at = ap (λ x. length (steps x)) k.walking.along.here ∙ step_length_lem t points lifts at in
-      let whole : length (flat_map steps (walk R s)) ≡ length (before p.steps) = ap (λ l. length (flat_map steps l)) (walk_run R s p (walk_period_le R L s low p)) in
-      let count = k.count in
-      let a = forms_length (before k.so_far) in
-      let b = forms_length (steps (iter (step R) k.so_far s)) in
-      let c = forms_length (before p.steps) in
-      omega arith
+  laying_all e = let all = along_all k.along e in record { count = rw (← all) k.count; written = rw (← all) k.written }
 
-  pub laying_step : StepRoom t points lifts at n o
-  laying_step =
-      let within = laying_within in
-      record {
-        lent = record { stands = k.walking.there; points_size = k.room.lent.points_size; lifts_size = k.room.lent.lifts_size };
-        near = false_unless (far_step t points lifts at) (λ e. clash (walk_some k.walking (far_step t points lifts) e) k.room.near);
-        room = room_kept k.room.room (written_sizes k.written) (omega arith);
-      }
+  module _ {at : ℕ} {left' : List ℕ} (e : left ≡ at ∷ left') where
+    -- the pieces of the present step are among those of the ribbon
+    laying_within : n + spots_of t at ≤ length (pieces_along t points lifts s)
+    unfolding pieces_along flat_map
+    laying_within =
+        let steps = step_pieces t points lifts in
+        let whole = ap (λ l. length (flat_map steps l)) (k.along.whole ∙ ap (λ l. gone ++ l) e) in
+        let parts = ap length (flat_append steps gone (at ∷ left')) ∙ length-append (flat_map steps gone) (steps at ++ flat_map steps left') in
+        let rest = length-append (steps at) (flat_map steps left') in
+        let here = step_length_lem t points lifts at in
+        let count = k.count in
+        omega arith
 
-  -- a step more
-  module _ {r : ℕ} {o' : Out} (w : Stepped t points lifts at n o r o') where
-    before_more : pieces_before t points lifts s (k.so_far + 1) ≡ pieces_before t points lifts s k.so_far ++ step_pieces t points lifts at
-    before_more = rw add-one (before_suc t points lifts s k.so_far ∙ ap (λ x. pieces_before t points lifts s k.so_far ++ step_pieces t points lifts x) k.walking.along.here)
+    pub laying_step : StepRoom t points lifts at n o
+    laying_step =
+        let within = laying_within in
+        record {
+          lent = record { stands = along_stands k.along e; points_size = k.room.lent.points_size; lifts_size = k.room.lent.lifts_size };
+          near = none_passes (far_step t points lifts) (walk (rotation t) s) at k.room.near (along_has k.along e);
+          room = room_kept k.room.room (written_sizes k.written) (omega arith);
+        }
 
-    count_more : r ≡ length (pieces_before t points lifts s (k.so_far + 1))
-    count_more = let end = w.end in let count = k.count in rw (before_more, length-append) (omega arith)
-
-    written_more : Written (pieces_before t points lifts s (k.so_far + 1)) 0 o₀ o'
-    written_more = let count = k.count in rw before_more (written_join k.written (omega arith) w.written)
-
-    pub laying_more : {next : ℕ} → next ≡ step (rotation t) at → next ≢ s → Laying t points lifts s next r o₀ o'
-    laying_more e b = record { so_far = k.so_far + 1; walking = walking_more k.walking e b; room = k.room; count = count_more; written = written_more }
-
-    pub laying_all : {next : ℕ} → next ≡ step (rotation t) at → next ≡ s → Laid t points lifts s o₀ r o'
-    unfolding pieces_along
-    laying_all e b = let whole = walking_all k.walking e b in record { count = rw whole count_more; written = rw whole written_more }
-
-    pub laying_sizes : SameSizes o₀ o'
-    laying_sizes = written_sizes written_more
+    -- a step more
+    pub laying_more : {r : ℕ} {o' : Out} → Stepped t points lifts at n o r o' → Laying t points lifts s (gone ++ at ∷ []) left' r o₀ o'
+    laying_more w =
+        let steps = step_pieces t points lifts in
+        let more : pieces_of t points lifts (gone ++ at ∷ []) ≡ pieces_of t points lifts gone ++ steps at = flat_append steps gone (at ∷ []) ∙ ap (λ l. flat_map steps gone ++ l) (flat_one steps at) in
+        let count = k.count in
+        let end = w.end in
+        record {
+          along = along_more k.along e;
+          room = k.room;
+          count = rw (more, length-append) (omega arith);
+          written = rw more (written_join k.written (omega arith) w.written);
+        }
 
 -- "then Close"
 module _ {t : List ℕ} {points lifts : List ℤ} {s r : ℕ} {o o' : Out} (h : PathRoom t points lifts s o) (k : Laid t points lifts s o r o') where

@@ -1,7 +1,7 @@
 //! Checks the citations of docs/CLAIMS.md and docs/claims/, the README's tables of calls and crates, that what is believed names no law, that what is
-//! total asks nothing of its caller, that a wrong program of every public function is tried, that the copy of the check that counts its reads has the
-//! check's shape, that the specs begin with what they hold, that a definition's name stands in one crate, and that all definitions are in the order of
-//! reading. A line for each fault; the status is 1 if there is one.
+//! total asks nothing of its caller, that a wrong program of every public function is tried, that the check counts each word that it reads, that the
+//! specs begin with what they hold, that a definition's name stands in one crate, and that all definitions are in the order of reading. A line for
+//! each fault; the status is 1 if there is one.
 
 use std::process::ExitCode;
 
@@ -12,7 +12,7 @@ fn main() -> ExitCode {
     faults.extend(ties::rooms::faults(&tree));
     faults.extend(ties::total::faults(&tree));
     faults.extend(ties::tried::faults(&tree));
-    faults.extend(ties::copied::faults(&tree));
+    faults.extend(ties::counted::faults(&tree));
     faults.extend(ties::heads::faults(&tree));
     faults.extend(ties::once::faults(&tree));
     faults.extend(ties::order::faults(&tree));

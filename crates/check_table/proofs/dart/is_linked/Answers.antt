@@ -1,33 +1,29 @@
--- `dart::is_linked` meets its contract. Does a live dart leave a vertex, and does "previous" undo "next" at it, at one vertex.
-use mathlib.Core.Path.{refl}
+-- `dart::is_linked` meets its contract, a return for each word that is read.
+use Rattle.check_reads.proofs.laws.Tests.{told_all, told_differs, told_same, told_past, told_low}
+use Rattle.table.specs.Layout.{prev_word, leaves}
+use mathlib.Core.Path.{sym, ap, ◌∙◌}
 use native.Mathlib.Omega.{arith}
-use Rattle.table.specs.laws.Rotation.{holds, fails}
-use mir.Facts.{Fits-16_64}
 use Rattle.check_table.proofs.dart.is_linked.Goals as goal
 
-pub overflow_cast-v : goal.overflow_cast-v
-overflow_cast-v c = Fits-16_64 (c.type_inv.t _)
-
 pub returns-then-v-ge-VERTICES : goal.returns-then-v-ge-VERTICES
-returns-then-v-ge-VERTICES c = fails refl (λ l. omega (arith, l.at))
-
-pub overflow_cast-n : goal.overflow_cast-n
-overflow_cast-n c = Fits-16_64 (c.type_inv.t _)
+returns-then-v-ge-VERTICES g c = told_past c.read-v.ensures (omega arith)
 
 pub returns-then-n-ge-DARTS : goal.returns-then-n-ge-DARTS
-returns-then-n-ge-DARTS c = fails refl (λ l. omega (arith, l.next_low))
+returns-then-n-ge-DARTS g c = told_low c.read-v.ensures (omega arith) (told_past c.read-n.ensures (omega arith))
 
-pub overflow_cast-t : goal.overflow_cast-t
-overflow_cast-t c = Fits-16_64 (c.type_inv.t _)
+pub returns-then-read-d : goal.returns-then-read-d
+returns-then-read-d g c = told_low c.read-v.ensures (omega arith)
+    (told_low c.read-n.ensures (omega arith)
+    (told_differs (c.read.ensures.0 ∙ ap (prev_word c.args.t.now) c.read-n.ensures.0, c.read.ensures.1) c.if-read-d.true))
 
-pub returns-then-t-n : goal.returns-then-t-n
-returns-then-t-n c = fails refl (λ l. c.if-t-n.true l.prev_next)
-
-pub overflow_cast-t-2 : goal.overflow_cast-t-2
-overflow_cast-t-2 c = Fits-16_64 (c.type_inv.t _)
-
-pub returns-then-t-n-2 : goal.returns-then-t-n-2
-returns-then-t-n-2 c = fails refl (λ l. c.if-t-n-2.true l.next_leaves)
+pub returns-then-read-v : goal.returns-then-read-v
+returns-then-read-v g c = told_low c.read-v.ensures (omega arith)
+    (told_low c.read-n.ensures (omega arith)
+    (told_same (c.read.ensures.0 ∙ ap (prev_word c.args.t.now) c.read-n.ensures.0, c.read.ensures.1) c.if-read-d.false
+    (told_differs (c.read-2.ensures.0 ∙ ap (leaves c.args.t.now) c.read-n.ensures.0, c.read-2.ensures.1) (λ q. c.if-read-v.true (q ∙ sym c.read-v.ensures.0)))))
 
 pub returns : goal.returns
-returns c = holds refl (record { at = omega arith; next_low = omega arith; prev_next = c.if-t-n.false; next_leaves = c.if-t-n-2.false })
+returns g c = told_low c.read-v.ensures (omega arith)
+    (told_low c.read-n.ensures (omega arith)
+    (told_same (c.read.ensures.0 ∙ ap (prev_word c.args.t.now) c.read-n.ensures.0, c.read.ensures.1) c.if-read-d.false
+    (told_same (c.read-2.ensures.0 ∙ ap (leaves c.args.t.now) c.read-n.ensures.0, c.read-2.ensures.1) (c.if-read-v.false ∙ c.read-v.ensures.0) told_all)))

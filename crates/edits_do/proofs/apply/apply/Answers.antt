@@ -10,14 +10,3 @@ returns-in-AddVertex c = same_edit _ _ _ _ _ c.in-AddVertex.is (faces_alone _ _ 
 
 pub returns-in-RemoveVertex : goal.returns-in-RemoveVertex
 returns-in-RemoveVertex c = same_edit _ _ _ _ _ c.in-RemoveVertex.is (faces_alone _ _ refl c.remove_vertex.ensures.0 c.without_rule-in-RemoveVertex.ensures, c.remove_vertex.ensures.1)
-
-pub returns-in-InsertEdge : goal.returns-in-InsertEdge
-returns-in-InsertEdge c = same_insertion _ _ _ _ c.in-InsertEdge.edge c.in-InsertEdge.first c.in-InsertEdge.second c.in-InsertEdge.turns c.in-InsertEdge.length
-    (record { sfits = search rules }) c.in-InsertEdge.is c.insert_edge.ensures
-
-pub returns-in-DeleteEdge : goal.returns-in-DeleteEdge
-returns-in-DeleteEdge c = same_edit _ _ _ _ _ c.in-DeleteEdge.is c.delete_edge.ensures
-
-pub returns-in-TurnEdge : goal.returns-in-TurnEdge
-returns-in-TurnEdge c = same_turn _ _ _ _ c.in-TurnEdge.edge c.in-TurnEdge.amount (record { sfits = search rules }) c.in-TurnEdge.is
-    c.turn_edge.ensures

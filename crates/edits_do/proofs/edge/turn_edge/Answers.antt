@@ -1,4 +1,5 @@
 -- `edge::turn_edge` meets its contract. Turns edge e by an amount. Answers the new face count and the rule met.
+use Rattle.std.proofs.lemmas.Result.{err_from_is_err_and}
 use Rattle.edits.specs.declared.edit.Edit.TheVariants.{TurnEdge}
 use Rattle.edits.proofs.laws.Rules.{turn_met, was_refused}
 use Rattle.edits_rule.specs.laws.Rule.{turn_edge, rule_allows, ruled_reply}
@@ -11,31 +12,32 @@ use mathlib.Core.Path.{ap}
 use Rattle.edits_do.proofs.edge.turn_edge.Goals as goal
 
 pub bounds-t-e : goal.bounds-t-e
-bounds-t-e c = let m = may_turn _ _ c.args.amount (turn_on c.args.t.now _ c.args.amount c.ranges.amount c.turn_verdict.ensures c.in-Passes.is) in
+bounds-t-e c = let m = may_turn _ _ c.args.amount (turn_on c.args.t.now _ c.args.amount c.ranges.amount c.turn_verdict.ensures c.in_ok-turn_verdict.was) in
     let size = m.good.size in
     let low = m.low in
     omega arith
 
 pub turn_rule-ruling-requires : goal.turn_rule-ruling-requires
-turn_rule-ruling-requires c = turn_edge (may_turn c.args.t.now _ c.args.amount (turn_on c.args.t.now _ c.args.amount c.ranges.amount c.turn_verdict.ensures c.in-Passes.is))
+turn_rule-ruling-requires c = turn_edge (may_turn c.args.t.now _ c.args.amount (turn_on c.args.t.now _ c.args.amount c.ranges.amount c.turn_verdict.ensures c.in_ok-turn_verdict.was))
 
-pub bounds-t-e-in-Passes : goal.bounds-t-e-in-Passes
-bounds-t-e-in-Passes c = let m = may_turn _ _ c.args.amount (turn_on c.args.t.now _ c.args.amount c.ranges.amount c.turn_verdict.ensures c.in-Passes.is) in
+pub bounds-t-e-2 : goal.bounds-t-e-2
+bounds-t-e-2 c = let m = may_turn _ _ c.args.amount (turn_on c.args.t.now _ c.args.amount c.ranges.amount c.turn_verdict.ensures c.in_ok-turn_verdict.was) in
     let size = m.good.size in
     let low = m.low in
     omega arith
 
 pub by_rule-requires : goal.by_rule-requires
-by_rule-requires c = let passes = turn_on c.args.t.now _ c.args.amount c.ranges.amount c.turn_verdict.ensures c.in-Passes.is in
+by_rule-requires c = let passes = turn_on c.args.t.now _ c.args.amount c.ranges.amount c.turn_verdict.ensures c.in_ok-turn_verdict.was in
     let m = may_turn c.args.t.now _ c.args.amount passes in
     rule_allows c.args.t.now (TurnEdge c.args.e c.args.amount) passes
     (turn_met m (amount_on (edge_word c.args.t.now c.args.e) c.args.amount c.ranges.amount c.turned_word-w.ensures) c.turn_rule-ruling.ensures.1) c.turn_rule-ruling.ensures.0 m.good
 
-pub returns-in-Declines : goal.returns-in-Declines
-returns-in-Declines c = was_refused c.args.t.now (TurnEdge c.args.e c.args.amount) _ (turn_on c.args.t.now _ c.args.amount c.ranges.amount c.turn_verdict.ensures c.in-Declines.is)
+pub returns-in_err-turn_verdict : goal.returns-in_err-turn_verdict
+returns-in_err-turn_verdict c = let p = err_from_is_err_and c.from_residual.result c.from_residual.ensures.1 in
+    rw (p.1, p.2) (was_refused c.args.t.now (TurnEdge c.args.e c.args.amount) _ (turn_on c.args.t.now _ c.args.amount c.ranges.amount c.turn_verdict.ensures c.in_err-turn_verdict.was))
 
-pub returns-in-Passes : goal.returns-in-Passes
-returns-in-Passes c = let w = amount_on (edge_word c.args.t.now c.args.e) c.args.amount c.ranges.amount c.turned_word-w.ensures in
-    let passes = turn_on c.args.t.now _ c.args.amount c.ranges.amount c.turn_verdict.ensures c.in-Passes.is in
+pub returns : goal.returns
+returns c = let w = amount_on (edge_word c.args.t.now c.args.e) c.args.amount c.ranges.amount c.turned_word-w.ensures in
+    let passes = turn_on c.args.t.now _ c.args.amount c.ranges.amount c.turn_verdict.ensures c.in_ok-turn_verdict.was in
     ruled_reply c.args.t.now (TurnEdge c.args.e c.args.amount) passes
     (turn_met (may_turn c.args.t.now _ c.args.amount passes) w c.turn_rule-ruling.ensures.1) c.turn_rule-ruling.ensures.0 (ap (set_edge c.args.t.now c.args.e) w) c.by_rule.ensures

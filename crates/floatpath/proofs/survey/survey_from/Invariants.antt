@@ -1,10 +1,7 @@
--- `survey::survey_from` meets its contract. The invariant: the walk is under way, and its steps so far are surveyed.
+-- `survey::survey_from` meets its contract. The invariant: the steps so far are surveyed.
+use Rattle.tracing_walks.specs.laws.Steps.{steps_left}
 use Rattle.floatpath.specs.laws.Survey.{Surveying}
-use Rattle.tracing_walks.specs.laws.Along.{left}
 use Rattle.floatpath.proofs.survey.survey_from.Given as goal
 
 abbrev pub invariant-loop-at : goal.invariant-loop-at
-invariant-loop-at l = Surveying l.t l.points l.lifts l.s l.at l.seen
-
-abbrev pub decreases-loop-at : goal.decreases-loop-at
-decreases-loop-at l = left l.t l.s l.at
+invariant-loop-at l = Surveying l.t l.points l.lifts l.s l.yielded (steps_left l.at-iterator) l.seen

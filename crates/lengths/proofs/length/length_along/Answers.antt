@@ -1,29 +1,42 @@
--- `length::length_along` meets its contract. The invariant: the walk is under way, and what its steps so far take up is summed.
-use Rattle.lengths.specs.laws.Summing.{summing_none, summing_room, summing_more, summing_all}
-use native.Mathlib.Omega.{arith}
-use Rattle.tracing_walks.specs.laws.Along.{walking_less}
+-- `length::length_along` meets its contract: what the steps of the walk take up, summed, and the lap.
+use Rattle.std.proofs.Common.{◌∙◌, ◌+◌, sym, ◌≡◌, ap, arith, rules}
+use Rattle.std.proofs.lemmas.Iterator.{YieldsList-from_map}
+use Rattle.std.proofs.lemmas.Iterator.Adapters.{serves_from_places}
+use Rattle.std.proofs.lemmas.Iterator.Consumers.{sum_by_from_yields_List, fits_by_from_yields_list}
+use Rattle.table.specs.Rotation.{rotation}
+use Rattle.tracing.specs.Walk.{walk}
+use Rattle.tracing_walks.specs.laws.Steps.{steps_left, walk_road, walk_item, sum_total}
+use Rattle.tracing.specs.Met.{total}
+use Rattle.lengths.specs.CutLength.{taken_by}
+use Rattle.lengths.specs.laws.Summing.{cut_total, walk_taken}
 use Rattle.lengths.proofs.length.length_along.Goals as goal
+use Rattle.lengths.proofs.length.length_along.Goals.{After-sum}
 
-pub loop-at-init : goal.loop-at-init
-loop-at-init c = summing_none c.requires
+pub sum-requires-clause-can : goal.sum-requires-clause-can
+sum-requires-clause-can c =
+    let road = walk_road c.args.t.now c.args.s (ap steps_left c.map.ensures.source ∙ c.walk.ensures) in
+    (tt, rw c.map.ensures.closure (serves_from_places road (λ x q k. search rules) (λ x k l e. let stands = walk_item c.requires x k l e in search rules)))
 
-pub taken_by-sum-requires : goal.taken_by-sum-requires
-taken_by-sum-requires c = c.loop-at.invariant.walking.there
+pub sum-requires-clause-fits : goal.sum-requires-clause-fits
+sum-requires-clause-fits c =
+    let t = c.args.t.now in
+    let steps = walk (rotation t) c.args.s in
+    let road = walk_road t c.args.s (ap steps_left c.map.ensures.source ∙ c.walk.ensures) in
+    let most = walk_taken c.requires in
+    let same = sum_total (taken_by t) steps in
+    fits_by_from_yields_list (taken_by t) steps c.map.result _ (YieldsList-from_map _ (taken_by t) road c.map.ensures.closure (λ x r q k. search rules)) (omega arith)
 
-pub overflow_add-sum : goal.overflow_add-sum
-overflow_add-sum c = let room = summing_room c.loop-at.invariant c.taken_by-sum.ensures in omega arith
-
-pub step-at-requires : goal.step-at-requires
-step-at-requires c = c.loop-at.invariant.walking.there
+-- what the chain sums
+taken : (c : After-sum) → c.sum.result ≡ total (taken_by c.args.t.now) (walk (rotation c.args.t.now) c.args.s)
+taken c =
+    let t = c.args.t.now in
+    let steps = walk (rotation t) c.args.s in
+    let road = walk_road t c.args.s (ap steps_left c.map.ensures.source ∙ c.walk.ensures) in
+    sum_by_from_yields_List (taken_by t) steps c.map.result c.sum.result c.sum.ensures.ran
+    (YieldsList-from_map _ (taken_by t) road c.map.ensures.closure (λ x r q k. search rules)) ∙ sum_total (taken_by t) steps
 
 pub overflow_add-result : goal.overflow_add-result
-overflow_add-result c = let room = summing_room c.loop-at.invariant c.taken_by-sum.ensures in omega arith
+overflow_add-result c = let most = walk_taken c.requires in let all = taken (goal.at.overflow_add-result c).After-sum in omega arith
 
-pub returns-then-at-s : goal.returns-then-at-s
-returns-then-at-s c = summing_all c.loop-at.invariant c.taken_by-sum.ensures c.step-at.ensures c.if-at-s.true
-
-pub loop-at-smaller : goal.loop-at-smaller
-loop-at-smaller c = walking_less c.loop-at.invariant.walking c.step-at.ensures c.if-at-s.false
-
-pub loop-at-preserved : goal.loop-at-preserved
-loop-at-preserved c = summing_more c.loop-at.invariant c.taken_by-sum.ensures c.step-at.ensures c.if-at-s.false
+pub returns : goal.returns
+returns c = ap (λ n. n + 320) (taken (goal.at.returns c).After-sum) ∙ sym (cut_total c.args.t.now c.args.s)

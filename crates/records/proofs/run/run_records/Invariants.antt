@@ -4,8 +4,8 @@ use lib.ListN.{length}
 use Prim.Native.Nat.{◌-◌}
 use Rattle.records.proofs.run.run_records.Given as goal
 
-abbrev pub invariant-loop-edit : goal.invariant-loop-edit
-invariant-loop-edit l = Running l.initial.t l.bytes l.number l.initial.out l.t l.at l.next l.end l.out
+abbrev pub invariant-loop-record : goal.invariant-loop-record
+invariant-loop-record l = Running l.initial.t l.bytes l.number l.initial.out l.t l.at l.next l.end l.out
 
-abbrev pub decreases-loop-edit : goal.decreases-loop-edit
-decreases-loop-edit l = length l.bytes - l.at
+abbrev pub decreases-loop-record : goal.decreases-loop-record
+decreases-loop-record l = length l.bytes - l.at

@@ -1,16 +1,10 @@
 -- `marked::encode_long` meets its contract: the record at the front, or 7.
-use mathlib.Core.Path.{refl, ◌∙◌, ap}
-use lib.Seq.{sets}
-use mir.Syntax.{w16}
-use mir.Facts.{to_z-of_z}
+use mathlib.Core.Path.{refl}
 use Rattle.records.specs.declared.records.Mark.TheVariants.{IL}
 use Rattle.records_write.specs.Encoding.{record_by}
-use Rattle.records_write.proofs.laws.Writing.{record_short, record_done}
+use Rattle.records_write.proofs.laws.Writing.{record_done}
 use Rattle.records_write.proofs.marked.encode_long.Goals as goal
 
-pub returns-then-out-lt-LONG_BYTES : goal.returns-then-out-lt-LONG_BYTES
-returns-then-out-lt-LONG_BYTES c = record_short (record_by IL c.args.edge c.args.first c.args.second c.args.turns c.args.strip) c.args.out.now c.if-out-lt-LONG_BYTES.true
-
 pub returns : goal.returns
-returns c = record_done (record_by IL c.args.edge c.args.first c.args.second c.args.turns c.args.strip) c.args.out.now refl c.if-out-lt-LONG_BYTES.false
-    (c.write_long.ensures ∙ ap (λ k. sets c.args.out.now 0 (record_by IL c.args.edge c.args.first c.args.second k c.args.strip)) (to_z-of_z {w = w16} c.ranges.turns))
+returns c = record_done (record_by IL c.args.w.name c.args.w.first c.args.w.second c.args.w.turns c.args.w.strip) c.args.out.now refl
+    c.if-out-lt-LONG_BYTES.false c.write_long.ensures

@@ -1,6 +1,6 @@
 -- `line::weave_line` meets its contract, a return for each word.
 use mathlib.Core.Path.{sym, ◌∙◌}
-use Rattle.report.specs.laws.Mesh.{weave_plain, weave_mixed}
+use Rattle.report.specs.laws.Weave.{weave_plain, weave_mixed}
 use Rattle.report.proofs.line.weave_line.Goals as goal
 
 pub returns-then-is_plain : goal.returns-then-is_plain

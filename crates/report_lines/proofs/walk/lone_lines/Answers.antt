@@ -1,7 +1,6 @@
 -- `walk::lone_lines` meets its contract. The invariant: the lines of the isolated vertices below v are written.
 use Rattle.report_lines.specs.laws.Walks.{ending_none, ending_at, ending_more, ending_all}
 use Rattle.report_lines.specs.laws.Wrote.{wrote_length}
-use Prim.Native.Nat.{◌-◌}
 use Rattle.report_lines.proofs.walk.lone_lines.Goals as goal
 
 pub loop-v-init : goal.loop-v-init

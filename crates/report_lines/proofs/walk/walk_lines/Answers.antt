@@ -1,7 +1,6 @@
 -- `walk::walk_lines` meets its contract. The invariant: the lines of the walks that start below d are written, and their corners are marked.
 use Rattle.report_lines.specs.laws.Walks.{numbering_none, numbering_at, numbering_more, numbering_all}
 use Rattle.report_lines.specs.laws.Wrote.{wrote_length}
-use Prim.Native.Nat.{◌-◌}
 use Rattle.report_lines.proofs.walk.walk_lines.Goals as goal
 
 pub loop-d-init : goal.loop-d-init

@@ -1,10 +1,6 @@
 -- `walk::walk_lines` meets its contract. The invariant: the lines of the walks that start below d are written, and their corners are marked.
 use Rattle.report_lines.specs.laws.Walks.{Numbering}
-use Prim.Native.Nat.{◌-◌}
 use Rattle.report_lines.proofs.walk.walk_lines.Given as goal
 
 abbrev pub invariant-loop-d : goal.invariant-loop-d
 invariant-loop-d l = Numbering l.t l.from l.at l.d l.i l.end l.met l.initial.out l.out
-
-abbrev pub decreases-loop-d : goal.decreases-loop-d
-decreases-loop-d l = 2048 - l.d

@@ -1,13 +1,9 @@
 -- `mesh::one_root` meets its contract, a return for each case: no vertex, a larger one of its part, the smallest.
 use Rattle.surface_calls.specs.laws.Mesh.{root_none, root_other, root_yes}
-use native.Mathlib.Omega.{arith}
 use Rattle.surface_calls.proofs.mesh.one_root.Goals as goal
 
 pub returns-then-t-v : goal.returns-then-t-v
 returns-then-t-v c = root_none c.args.t.now c.requires.0 c.args.v c.requires.1 c.if-t-v.true
-
-pub overflow_cast-up : goal.overflow_cast-up
-overflow_cast-up c = let n = c.requires.0.low _ c.requires.1 in omega arith
 
 pub returns-then-up-v : goal.returns-then-up-v
 returns-then-up-v c = root_other c.args.t.now c.requires.0 c.args.v c.requires.1 c.if-up-v.true

@@ -1,13 +1,9 @@
 -- `rows::write_root` meets its contract, a return for each case: no vertex, no root, a part.
 use Rattle.surface_calls.specs.laws.Rowing.{turned_none, turned_other, turned_root, is_root}
-use native.Mathlib.Omega.{arith}
 use Rattle.surface_calls.proofs.rows.write_root.Goals as goal
 
 pub returns-then-t-r : goal.returns-then-t-r
 returns-then-t-r c = turned_none c.requires c.if-t-r.true
-
-pub overflow_cast-up : goal.overflow_cast-up
-overflow_cast-up c = let n = c.requires.keyed.low _ c.requires.low in omega arith
 
 pub returns-then-up-r : goal.returns-then-up-r
 returns-then-up-r c = turned_other c.requires c.if-up-r.true

@@ -6,41 +6,14 @@ use Rattle.surface_counts.proofs.tally.count_vertex.Goals as goal
 pub returns-then-w : goal.returns-then-w
 returns-then-w c = vertex_none c.requires.0 c.requires.1 c.if-w.true
 
-pub overflow_cast-k : goal.overflow_cast-k
-overflow_cast-k c = let n = c.requires.0.keyed.low _ c.requires.1 in omega arith
-
-pub offset_bounds-vs-k : goal.offset_bounds-vs-k
-offset_bounds-vs-k c = let n = c.requires.0.keyed.low _ c.requires.1 in omega arith
-
-pub bounds-vs-k : goal.bounds-vs-k
-bounds-vs-k c = c.requires.0.keyed.low _ c.requires.1
-
 pub overflow_add-vs : goal.overflow_add-vs
 overflow_add-vs c = let n = vertex_low c.requires.0 c.requires.1 in omega arith
-
-pub offset_bounds-vs-k-2 : goal.offset_bounds-vs-k-2
-offset_bounds-vs-k-2 c = let n = c.requires.0.keyed.low _ c.requires.1 in omega arith
-
-pub bounds-vs-k-2 : goal.bounds-vs-k-2
-bounds-vs-k-2 c = c.requires.0.keyed.low _ c.requires.1
 
 pub returns-then-w-2 : goal.returns-then-w-2
 returns-then-w-2 c = vertex_joined c.requires.0 c.requires.1 c.if-w.false c.if-w-2.true
 
-pub offset_bounds-fs-k : goal.offset_bounds-fs-k
-offset_bounds-fs-k c = let n = c.requires.0.keyed.low _ c.requires.1 in omega arith
-
-pub bounds-fs-k : goal.bounds-fs-k
-bounds-fs-k c = c.requires.0.keyed.low _ c.requires.1
-
 pub overflow_add-fs : goal.overflow_add-fs
 overflow_add-fs c = let n = lone_low c.requires.0 c.requires.1 in omega arith
-
-pub offset_bounds-fs-k-2 : goal.offset_bounds-fs-k-2
-offset_bounds-fs-k-2 c = let n = c.requires.0.keyed.low _ c.requires.1 in omega arith
-
-pub bounds-fs-k-2 : goal.bounds-fs-k-2
-bounds-fs-k-2 c = c.requires.0.keyed.low _ c.requires.1
 
 pub returns : goal.returns
 returns c = vertex_alone c.requires.0 c.requires.1 c.if-w.false c.if-w-2.false

@@ -1,22 +1,10 @@
 -- `forest::take_edge` meets its contract, a return for each case: an edge that is not live, in one tree, between two.
-use Rattle.surface_parts.specs.laws.Linking.{taken_dead, taken_same, taken_up, taken_down, first_low, second_low}
+use Rattle.surface_parts.specs.laws.Linking.{taken_dead, taken_same, taken_up, taken_down}
 use native.Mathlib.Omega.{arith}
 use Rattle.surface_parts.proofs.forest.take_edge.Goals as goal
 
 pub returns-then-t-e-eq0 : goal.returns-then-t-e-eq0
 returns-then-t-e-eq0 c = taken_dead c.requires c.if-t-e-eq0.true
-
-pub overflow_cast-t : goal.overflow_cast-t
-overflow_cast-t c = let n = first_low c.requires c.if-t-e-eq0.false in omega arith
-
-pub find-a-requires : goal.find-a-requires
-find-a-requires c = (c.requires.shape, first_low c.requires c.if-t-e-eq0.false)
-
-pub overflow_cast-t-2 : goal.overflow_cast-t-2
-overflow_cast-t-2 c = let n = second_low c.requires c.if-t-e-eq0.false in omega arith
-
-pub find-b-requires : goal.find-b-requires
-find-b-requires c = (c.find-a.ensures.shape, second_low c.requires c.if-t-e-eq0.false)
 
 pub returns-then-x-y : goal.returns-then-x-y
 returns-then-x-y c = taken_same c.requires c.if-t-e-eq0.false c.find-a.ensures c.find-b.ensures c.if-x-y.true

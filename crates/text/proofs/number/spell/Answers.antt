@@ -7,17 +7,11 @@ use Rattle.text.proofs.number.spell.Goals as goal
 pub loop-rest-init : goal.loop-rest-init
 loop-rest-init c = spelling_none (omega arith) c.requires
 
-pub bounds-digits-i : goal.bounds-digits-i
-bounds-digits-i c = c.loop-rest.invariant.low
-
 pub overflow_sub-i : goal.overflow_sub-i
 overflow_sub-i c = spelling_room c.loop-rest.invariant c.loop-rest-test.true
 
 pub loop-rest-preserved : goal.loop-rest-preserved
 loop-rest-preserved c = spelling_more c.loop-rest.invariant c.loop-rest-test.true refl
-
-pub bounds-digits-i-2 : goal.bounds-digits-i-2
-bounds-digits-i-2 c = c.loop-rest.invariant.low
 
 pub returns : goal.returns
 returns c = spelling_all c.loop-rest.invariant (omega arith) refl

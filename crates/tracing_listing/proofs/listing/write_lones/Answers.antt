@@ -2,7 +2,6 @@
 use Rattle.tracing_listing.specs.laws.Writing.{ending_none, ending_room, ending_more}
 use mathlib.Core.Path.{◌≡◌}
 use native.Mathlib.Omega.{arith}
-use Prim.Native.Nat.{◌-◌}
 use Rattle.tracing_listing.proofs.listing.write_lones.Goals as goal
 
 pub loop-v-init : goal.loop-v-init

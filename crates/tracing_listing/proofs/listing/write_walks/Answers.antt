@@ -2,7 +2,6 @@
 use Rattle.tracing_listing.specs.laws.Writing.{writing_none, writing_room, writing_more, writing_all}
 use mathlib.Core.Path.{◌≡◌}
 use native.Mathlib.Omega.{arith}
-use Prim.Native.Nat.{◌-◌}
 use Rattle.tracing_listing.proofs.listing.write_walks.Goals as goal
 
 pub loop-d-init : goal.loop-d-init

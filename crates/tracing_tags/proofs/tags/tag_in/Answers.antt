@@ -2,20 +2,14 @@
 use Rattle.tracing_tags.specs.laws.Tags.{counting_more}
 use mathlib.Core.Path.{◌≡◌}
 use native.Mathlib.Omega.{arith}
-use Prim.Native.Nat.{◌+◌, ◌*◌, ◌-◌}
+use Prim.Native.Nat.{◌+◌, ◌*◌}
 use Rattle.tracing_tags.proofs.tags.tag_in.Goals as goal
 
-pub loop-d-init : goal.loop-d-init
-loop-d-init c = (omega arith, c.requires.1)
-
 pub tag_from-walks-requires : goal.tag_from-walks-requires
-tag_from-walks-requires c = (c.loop-d.invariant.1.tagged, omega arith)
-
-pub overflow_add-walks : goal.overflow_add-walks
-overflow_add-walks c = omega arith
+tag_from-walks-requires c = (c.loop-d.invariant.tagged, omega arith)
 
 pub loop-d-preserved : goal.loop-d-preserved
-loop-d-preserved c = (omega arith, counting_more c.loop-d.invariant.1 c.tag_from-walks.ensures)
+loop-d-preserved c = counting_more c.loop-d.invariant c.tag_from-walks.ensures
 
 pub returns : goal.returns
-returns c = let end : c.loop-d.d ≡ 64 * c.args.b + 64 = omega arith in rw end at c.loop-d.invariant.1
+returns c = let end : c.loop-d.d ≡ 64 * c.args.b + 64 = omega arith in rw end at c.loop-d.invariant

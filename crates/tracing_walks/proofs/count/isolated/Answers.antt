@@ -2,7 +2,6 @@
 use Rattle.tracing_walks.specs.laws.Size.{lone_none, lone_more, lone_skip}
 use mathlib.Core.Path.{◌≡◌}
 use native.Mathlib.Omega.{arith}
-use Prim.Native.Nat.{◌-◌}
 use Rattle.tracing_walks.proofs.count.isolated.Goals as goal
 use Rattle.tracing_walks.proofs.count.isolated.Goals.{then-t-v, else-t-v}
 

@@ -2,16 +2,10 @@
 use Rattle.trial_jobs.specs.Trial.{trial_size}
 use Rattle.records_write.specs.Encoding.{record_of}
 use lib.Seq.{sets}
-use Rattle.std.proofs.Common.{length, refl, ap, ◌∙◌, arith}
-use Rattle.trial_make.specs.laws.Edge.{give_length, Drawn, drawn_state, drawn_edge, drawn_corners}
-use Rattle.trial_make.specs.laws.Draws.{turns_fit, turns_are}
+use Rattle.std.proofs.Common.{refl, ap, ◌∙◌, arith}
+use Rattle.trial_make.specs.laws.Edge.{Drawn, drawn_state, drawn_edge, drawn_corners}
+use Rattle.trial_make.specs.laws.Draws.{turns_are}
 use Rattle.trial_make.proofs.edge.write_edge.Goals as goal
-
-pub overflow_sub-turns : goal.overflow_sub-turns
-overflow_sub-turns c = turns_fit c.draw.result 1 (omega arith) (omega arith)
-
-pub give_dart-requires-2 : goal.give_dart-requires-2
-give_dart-requires-2 c = (omega arith, ap length c.give_dart.ensures ∙ give_length _ _ _ ∙ c.requires.2)
 
 pub returns : goal.returns
 returns c = let q : Drawn c.args.s c.after_draw-once.result c.after_draw-twice.result c.after_draw-thrice.result c.draw-a.result c.draw-b.result =

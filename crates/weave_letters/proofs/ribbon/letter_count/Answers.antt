@@ -1,29 +1,34 @@
--- `ribbon::letter_count` meets its contract. The invariant: the walk is under way, and the letters of its steps so far are counted, at most 99 for each.
-use native.Mathlib.Omega.{arith}
-use Rattle.weave_letters.specs.laws.Passing.{counting_none, counting_more, counting_all, count_few}
-use Rattle.tracing_walks.specs.laws.Along.{walking_less}
+-- `ribbon::letter_count` meets its contract: the crossings of the steps of the walk, summed.
+use Rattle.std.proofs.Common.{◌∙◌, refl, ap, arith, rules}
+use Rattle.std.proofs.lemmas.Iterator.{YieldsList-from_map}
+use Rattle.std.proofs.lemmas.Iterator.Adapters.{serves_from_places}
+use Rattle.std.proofs.lemmas.Iterator.Consumers.{sum_by_from_yields_List, fits_by_from_yields_list}
+use Rattle.table.specs.Rotation.{rotation}
+use Rattle.tracing.specs.Walk.{walk}
+use Rattle.tracing_walks.specs.laws.Steps.{steps_left, walk_road, walk_item, sum_total}
+use Rattle.weave.specs.Letters.{crossings, word_of}
+use Rattle.weave_letters.specs.laws.Passing.{letters_count}
 use Rattle.weave_letters.proofs.ribbon.letter_count.Goals as goal
 
-pub loop-at-init : goal.loop-at-init
-loop-at-init c = counting_none c.requires
+pub sum-requires-clause-can : goal.sum-requires-clause-can
+sum-requires-clause-can c =
+    let road = walk_road c.args.t.now c.args.s (ap steps_left c.map.ensures.source ∙ c.walk.ensures) in
+    (tt, rw c.map.ensures.closure (serves_from_places road (λ x q k. search rules) (λ x k l e. let stands = walk_item c.requires x k l e in search rules)))
 
-pub edge_word-w-requires : goal.edge_word-w-requires
-edge_word-w-requires c = c.loop-at.invariant.walking.there
+pub sum-requires-clause-fits : goal.sum-requires-clause-fits
+sum-requires-clause-fits c =
+    let t = c.args.t.now in
+    let steps = walk (rotation t) c.args.s in
+    let road = walk_road t c.args.s (ap steps_left c.map.ensures.source ∙ c.walk.ensures) in
+    let most = (letters_count c.requires refl).low in
+    let same = sum_total (λ x. crossings (word_of t x)) steps in
+    fits_by_from_yields_list (λ x. crossings (word_of t x)) steps c.map.result _ (YieldsList-from_map _ (λ x. crossings (word_of t x)) road c.map.ensures.closure (λ x r q k. search rules)) (omega arith)
 
-pub overflow_cast-n : goal.overflow_cast-n
-overflow_cast-n c = let few = count_few c.loop-at.invariant c.edge_word-w.ensures c.crossings.ensures in omega arith
-
-pub overflow_add-n : goal.overflow_add-n
-overflow_add-n c = let few = count_few c.loop-at.invariant c.edge_word-w.ensures c.crossings.ensures in omega arith
-
-pub step-at-requires : goal.step-at-requires
-step-at-requires c = c.loop-at.invariant.walking.there
-
-pub returns-then-at-s : goal.returns-then-at-s
-returns-then-at-s c = counting_all c.loop-at.invariant c.edge_word-w.ensures c.crossings.ensures c.step-at.ensures c.if-at-s.true
-
-pub loop-at-smaller : goal.loop-at-smaller
-loop-at-smaller c = walking_less c.loop-at.invariant.walking c.step-at.ensures c.if-at-s.false
-
-pub loop-at-preserved : goal.loop-at-preserved
-loop-at-preserved c = counting_more c.loop-at.invariant c.edge_word-w.ensures c.crossings.ensures c.step-at.ensures c.if-at-s.false
+pub returns : goal.returns
+returns c =
+    let t = c.args.t.now in
+    let steps = walk (rotation t) c.args.s in
+    let road = walk_road t c.args.s (ap steps_left c.map.ensures.source ∙ c.walk.ensures) in
+    letters_count c.requires
+    (sum_by_from_yields_List (λ x. crossings (word_of t x)) steps c.map.result c.sum.result c.sum.ensures.ran
+    (YieldsList-from_map _ (λ x. crossings (word_of t x)) road c.map.ensures.closure (λ x r q k. search rules)) ∙ sum_total (λ x. crossings (word_of t x)) steps)

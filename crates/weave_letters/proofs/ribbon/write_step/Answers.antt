@@ -1,32 +1,15 @@
 -- `ribbon::write_step` meets its contract. The invariant: the letters of the first j crossings are written.
-use Prim.Native.Nat.{◌-◌}
-use native.Mathlib.Omega.{arith}
 use Rattle.weave_letters.specs.laws.Crossing.{crossing_none, crossing_more, crossing_within, crossing_all}
 use Rattle.weave_letters.proofs.ribbon.write_step.Goals as goal
 
 pub loop-j-init : goal.loop-j-init
 loop-j-init c = crossing_none c.requires c.crossings-n.ensures
 
-pub overflow_cast-out : goal.overflow_cast-out
-overflow_cast-out c = let within = crossing_within c.loop-j.invariant c.loop-j-test.true in omega arith
-
-pub overflow_add-out : goal.overflow_add-out
-overflow_add-out c = let within = crossing_within c.loop-j.invariant c.loop-j-test.true in omega arith
-
 pub bounds-out-start : goal.bounds-out-start
 bounds-out-start c = crossing_within c.loop-j.invariant c.loop-j-test.true
 
-pub overflow_add-j : goal.overflow_add-j
-overflow_add-j c = omega arith
-
 pub loop-j-preserved : goal.loop-j-preserved
 loop-j-preserved c = crossing_more c.loop-j.invariant c.loop-j-test.true c.letter.ensures
-
-pub overflow_cast-result : goal.overflow_cast-result
-overflow_cast-result c = omega arith
-
-pub overflow_add-result : goal.overflow_add-result
-overflow_add-result c = omega arith
 
 pub shape_of-out : goal.shape_of-out
 shape_of-out c = c.loop-j.invariant.front.size

@@ -1,10 +1,7 @@
--- `hands::hands_along` meets its contract. The invariant: the walk is under way, and the hands of its edges so far are seen; the measure is what is left of it.
+-- `hands::hands_along` meets its contract. The invariant: the hands of the edges so far are seen.
+use Rattle.tracing_walks.specs.laws.Steps.{steps_left}
 use Rattle.weave_plain.specs.laws.Hands.{Seeing}
-use Rattle.tracing_walks.specs.laws.Along.{left}
 use Rattle.weave_plain.proofs.hands.hands_along.Given as goal
 
 abbrev pub invariant-loop-at : goal.invariant-loop-at
-invariant-loop-at l = Seeing l.t l.s l.at l.seen
-
-abbrev pub decreases-loop-at : goal.decreases-loop-at
-decreases-loop-at l = left l.t l.s l.at
+invariant-loop-at l = Seeing l.t l.s l.yielded (steps_left l.at-iterator) l.seen

@@ -1,7 +1,0 @@
--- `verdict::delete_verdict` meets its contract: nothing is tested but what it names.
-use Rattle.edits.proofs.laws.Verdicts.{then_none}
-use mathlib.Core.Path.{◌∙◌}
-use Rattle.edits_verdict.proofs.verdict.delete_verdict.Goals as goal
-
-pub returns : goal.returns
-returns c = c.old_edge.ensures ∙ then_none _

@@ -26,7 +26,7 @@ impl Counter for usize {
     ghost shows = { λ s n. s ≡ n };
 
     fn count(&mut self) {
-        *self = self.saturating_add(1);
+        *self = self.wrapping_add(1);
     }
 }
 

@@ -1,9 +1,10 @@
 //! The check counts each word that it reads. No function of crates/check_table, nor the one below it that it calls, indexes a slice: a word comes
-//! from `read` (crates/table/src/read.rt) alone, which indexes once and counts once; and whoever lends the table lends with it the count that was
-//! lent to him. So what is proved of the count is so of the words that are read. No body but that of `read` has a bracket, so no array stands in the
-//! check either. No function calls others than these, nor do their files bring in anything but them and the constants and types that are listed here
-//! by name; the table is told to be of its size and lent on, the count lent on, and nothing else is done with either. The check that keeps no count,
-//! and `counted_check`, are a call of the check that is lent one.
+//! from `read` (crates/table/src/read.rt) alone, which indexes once and counts once; and each call of one of these functions lends the table that was
+//! lent to the caller, first, and the count that was lent to him, last. Table and count stand nowhere else in a body, so neither is another one, a copy,
+//! or used in another way. So what is proved of the count is so of the words that are read. No body but that of `read` has a bracket, so no array stands
+//! in the check either. No function calls others than these, nor do their files bring in anything but them and the constants and types that are listed
+//! here by name. The one function that tells the table to be of its size has a body that is known. The check that keeps no count, and `counted_check`, are
+//! a call of the check that is lent one.
 
 use crate::rattle::{self, Function};
 use crate::tree::Tree;
@@ -15,6 +16,12 @@ const BELOW: (&str, &str) = ("crates/table/src/block.rt", "is_dead_with");
 /// The function that reads, and its body.
 const READ: (&str, &str) = ("crates/table/src/read.rt", "read");
 const READS: &str = "reads.count();\nt[i]";
+/// The function that tells the table to be of its size, and its body.
+const SIZED: (&str, &str, &str) = (
+    "crates/check_table/src/whole.rt",
+    "is_good_with",
+    "match t.as_array() {\nSome(t) => keeps_rules(t, reads),\nNone => false,\n}",
+);
 /// The functions that are one call of another, which is lent a count, and their bodies.
 const WITHOUT: [(&str, &str, &str); 3] = [
     ("crates/check_table/src/whole.rt", "is_good", "is_good_with(t, &mut Uncounted)"),
@@ -69,8 +76,11 @@ pub fn faults(tree: &Tree) -> Vec<String> {
         None => faults.push(format!("{file_below} has no function {below}")),
     }
     for function in &counting {
-        let below_it: &[String] = if function.name == below { &[] } else { &own };
-        faults.extend(of_counting(function, below_it));
+        faults.extend(signature(function));
+        let (_, sized, _) = SIZED;
+        if function.name != sized {
+            faults.extend(body(function, if function.name == below { &[] } else { &own }));
+        }
     }
     faults.extend(own_constants(tree));
     faults.extend(imports(tree));
@@ -88,11 +98,11 @@ fn named_twice(check: &[Function]) -> Vec<String> {
     twice.map(|(_, function)| format!("two functions of the check are named {}", function.name)).collect()
 }
 
-/// The functions whose bodies are known: `read`, and those that are one call.
+/// The functions whose bodies are known: `read`, the one that tells the table's size, and those that are one call.
 fn bodies(tree: &Tree) -> Vec<String> {
     let (file, read) = READ;
     let mut faults = Vec::new();
-    for (file, name, body) in WITHOUT.into_iter().chain([(file, read, READS)]) {
+    for (file, name, body) in WITHOUT.into_iter().chain([(file, read, READS), SIZED]) {
         match function_of(tree, file, name) {
             None => faults.push(format!("{file} has no function {name}")),
             Some(function) if lines(&function.body) != body => {
@@ -109,8 +119,8 @@ fn lines(body: &str) -> String {
     body.lines().map(str::trim).filter(|line| !line.is_empty()).collect::<Vec<_>>().join("\n")
 }
 
-/// What is amiss with a function that is lent a count.
-fn of_counting(function: &Function, own: &[String]) -> Vec<String> {
+/// What a function of the check has to be lent: a table and a count, and no other slice.
+fn signature(function: &Function) -> Vec<String> {
     let name = &function.name;
     let mut faults = Vec::new();
     for (word, kinds) in [(TABLE, &TABLES[..]), (COUNT.0, &[COUNT.1])] {
@@ -120,26 +130,74 @@ fn of_counting(function: &Function, own: &[String]) -> Vec<String> {
     }
     let slices = function.arguments.iter().filter(|(argument, of)| of.contains('[') && argument != TABLE);
     faults.extend(slices.map(|(argument, of)| format!("{name} is lent `{argument}: {of}`")));
-    if function.body.contains('[') {
+    faults
+}
+
+/// What is amiss with the body of a function that is lent a count, which may call those of `own` and the ones below the check.
+fn body(function: &Function, own: &[String]) -> Vec<String> {
+    let (name, body) = (&function.name, &function.body);
+    let mut faults = Vec::new();
+    if body.contains('[') {
         faults.push(format!("{name} has a bracket"));
     }
-    let others = callees(&function.body).into_iter().filter(|callee| !may_call(callee, own));
-    faults.extend(others.map(|callee| format!("{name} calls `{callee}`, which is not looked at")));
-    faults.extend(
-        alone(&function.body).into_iter().map(|call| format!("{name} lends the table without its count in `{call}`")),
-    );
-    for (word, uses) in [(TABLE, &[",", ")", ".as_array()"][..]), (COUNT.0, &[",", ")"])] {
-        let used = |line: &&str| line.match_indices(word).any(|(at, _)| is_other_use(line, at, word, uses));
-        faults.extend(
-            function.body.lines().filter(used).map(|line| format!("{name} uses `{word}` in `{}`", line.trim())),
-        );
+    let calls = calls(body);
+    let others: BTreeSet<&str> = calls.iter().map(|call| call.callee).filter(|callee| !may_call(callee, own)).collect();
+    faults.extend(others.into_iter().map(|callee| format!("{name} calls `{callee}`, which is not looked at")));
+    // Where the table and the count may stand.
+    let mut places = BTreeSet::new();
+    for call in calls.iter().filter(|call| is_looked_at(call.callee, own)) {
+        match (call.arguments.first(), call.arguments.last()) {
+            (Some((table, TABLE)), Some((count, word))) if *word == COUNT.0 => places.extend([*table, *count]),
+            _ => faults.push(format!("{name} does not lend its table first and its count last in `{}`", call.text)),
+        }
+    }
+    for word in [TABLE, COUNT.0] {
+        let elsewhere = words(body, word).filter(|at| !places.contains(at));
+        faults.extend(elsewhere.map(|at| format!("{name} uses `{word}` in `{}`", line_at(body, at))));
     }
     faults
 }
 
-/// What stands before each opening parenthesis: the names that a body calls, with their paths; a macro's with its mark.
-fn callees(body: &str) -> BTreeSet<&str> {
-    body.match_indices('(').map(|(at, _)| called(&body[..at])).filter(|name| !matches!(*name, "" | "!")).collect()
+/// A call in a body: what stands before the opening parenthesis, the arguments, each with its place, and the whole text.
+struct Call<'a> {
+    callee: &'a str,
+    arguments: Vec<(usize, &'a str)>,
+    text: &'a str,
+}
+
+/// The calls in a body, with a macro's name and mark for its callee. A parenthesis after no name is none.
+fn calls(body: &str) -> Vec<Call<'_>> {
+    let mut calls = Vec::new();
+    // Where each parenthesis that is open stands, and where each of its arguments begins.
+    let mut open: Vec<(usize, Vec<usize>)> = Vec::new();
+    for (at, c) in body.char_indices() {
+        match c {
+            '(' => open.push((at, vec![at + 1])),
+            ',' => {
+                if let Some((_, begins)) = open.last_mut() {
+                    begins.push(at + 1);
+                }
+            }
+            ')' => {
+                let Some((begin, begins)) = open.pop() else { continue };
+                let callee = called(&body[..begin]);
+                let ends = begins.iter().skip(1).map(|next| next - 1).chain([at]);
+                let arguments = begins.iter().zip(ends).map(|(from, to)| trimmed(body, *from, to));
+                let arguments = arguments.filter(|(_, text)| !text.is_empty()).collect();
+                if !matches!(callee, "" | "!") {
+                    calls.push(Call { callee, arguments, text: &body[begin - callee.len()..=at] });
+                }
+            }
+            _ => {}
+        }
+    }
+    calls
+}
+
+/// A part of a text without the white space around it, and where it begins.
+fn trimmed(text: &str, from: usize, to: usize) -> (usize, &str) {
+    let part = text[from..to].trim_start();
+    (to - part.len(), part.trim_end())
 }
 
 /// The name that ends a text, with its path; a macro's with its mark.
@@ -149,56 +207,28 @@ fn called(before: &str) -> &str {
     &before[name.trim_end_matches(of_a_path).len()..]
 }
 
-/// A function that is looked at, the table as one of its size, or a case of one of the types, of an Option or of a Result.
+/// A function that is looked at, or a case of an Option or of a Result.
 fn may_call(name: &str, own: &[String]) -> bool {
-    let case_of = |of: &str| TYPES.iter().any(|kind| kind.ends_with(&format!("::{of}")));
-    let below_it = BELOW_IT.iter().any(|below| below.ends_with(&format!("::{name}")));
-    let is_own = own.iter().any(|function| function == name);
-    is_own
-        || below_it
-        || name == format!("{TABLE}.as_array")
-        || ["Some", "Ok", "Err"].contains(&name)
-        || name.split_once("::").is_some_and(|(of, _)| case_of(of))
+    is_looked_at(name, own) || ["Some", "Ok", "Err"].contains(&name)
 }
 
-/// The calls to which a body lends the table, and not the count that was lent to it.
-fn alone(body: &str) -> Vec<String> {
-    let mut found = Vec::new();
-    // An arm that takes the table as one of its size is no call.
-    let body = body.replace(&format!("Some({TABLE}) =>"), "");
-    // Where each parenthesis that is open begins its arguments, and what each of these is so far.
-    let mut open: Vec<(usize, Vec<String>)> = Vec::new();
-    for (at, c) in body.char_indices() {
-        match c {
-            '(' => open.push((at, vec![String::new()])),
-            ')' => {
-                let Some((begin, arguments)) = open.pop() else { continue };
-                let lent = |word: &str| arguments.iter().any(|argument| argument.trim() == word);
-                if lent(TABLE) && !lent(COUNT.0) {
-                    found.push(format!("{}{}", called(&body[..begin]), &body[begin..=at]));
-                }
-            }
-            ',' => {
-                if let Some((_, arguments)) = open.last_mut() {
-                    arguments.push(String::new());
-                }
-            }
-            _ => {
-                if let Some(argument) = open.last_mut().and_then(|(_, arguments)| arguments.last_mut()) {
-                    argument.push(c);
-                }
-            }
-        }
-    }
-    found
+/// A function of the check that a body may call, or one below it.
+fn is_looked_at(name: &str, own: &[String]) -> bool {
+    own.iter().any(|function| function == name) || BELOW_IT.iter().any(|below| below.ends_with(&format!("::{name}")))
 }
 
-/// Does the word stand here, and is it not used as it may be.
-fn is_other_use(line: &str, at: usize, word: &str, uses: &[&str]) -> bool {
-    let (before, after) = (&line[..at], &line[at + word.len()..]);
+/// Where a whole word stands in a text.
+fn words<'a>(text: &'a str, word: &'a str) -> impl Iterator<Item = usize> + 'a {
     let part_of_word = |c: char| c.is_alphanumeric() || c == '_';
-    let whole = !before.ends_with(part_of_word) && !after.starts_with(part_of_word);
-    whole && !uses.iter().any(|use_of_it| after.starts_with(use_of_it))
+    text.match_indices(word)
+        .map(|(at, _)| at)
+        .filter(move |at| !text[..*at].ends_with(part_of_word) && !text[at + word.len()..].starts_with(part_of_word))
+}
+
+/// The line of a text in which a place is.
+fn line_at(text: &str, at: usize) -> &str {
+    let begin = text[..at].rfind('\n').map_or(0, |end| end + 1);
+    text[begin..].lines().next().unwrap_or("").trim()
 }
 
 /// The source files of the check, each with its path.

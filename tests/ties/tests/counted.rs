@@ -34,8 +34,8 @@ const FILES: [(&str, &str); 5] = [
          pub fn is_good(t: &[u16]) -> bool\n    ensures { result ≡ good t }\n{\n    is_good_with(t, &mut Uncounted)\n}\n\n\
          pub fn check(t: &[u16]) -> Result<u32, Refusal>\n    ensures { result ≡ check_of t }\n{\n    check_with(t, &mut Uncounted)\n}\n\n\
          fn is_good_with<C: Counter>(t: &[u16], reads: &mut C) -> bool\n    ensures { result ≡ good t }\n{\n\
-         \x20   match t.as_array() {\n        Some(t) => keeps(t, reads),\n        None => false,\n    }\n}\n\n\
-         fn keeps<C: Counter>(t: &[u16; WORDS], reads: &mut C) -> bool\n    ensures { result ≡ good t }\n{\n\
+         \x20   match t.as_array() {\n        Some(t) => keeps_rules(t, reads),\n        None => false,\n    }\n}\n\n\
+         fn keeps_rules<C: Counter>(t: &[u16; WORDS], reads: &mut C) -> bool\n    ensures { result ≡ good t }\n{\n\
          \x20   if is_dead_with(t, 1, reads) {\n        return true;\n    }\n\
          \x20   linked(t, 2 * (63 + 1), reads)\n}\n\n\
          pub fn check_with<C: Counter>(t: &[u16], reads: &mut C) -> Result<u32, Refusal>\n    ensures { result ≡ check_of t }\n{\n\
@@ -53,7 +53,7 @@ const TRIAL: Trial = Trial { files: &FILES, faults };
 
 #[test]
 fn nothing_where_all_is_well() {
-    TRIAL.well("counted");
+    TRIAL.well("well");
 }
 
 #[test]
@@ -75,18 +75,23 @@ fn a_read_past_the_count() {
         WHOLE,
         "linked(t, 2 * (63 + 1), reads)",
         "[linked(t, 128, reads); 1] == [true]",
-        &["keeps has a bracket"],
+        &["keeps_rules has a bracket"],
     );
 }
 
 #[test]
-fn the_table_lent_without_the_count() {
+fn a_call_without_the_table_or_its_count() {
+    let not_lent =
+        |function: &str, call: &str| format!("{function} does not lend its table first and its count last in `{call}`");
     TRIAL.after(
         "no-count",
         PARTS,
         "read(t, d, reads)",
         "read(t, d, &mut Uncounted)",
-        &["linked lends the table without its count in `read(t, d, &mut Uncounted)`"],
+        &[
+            &not_lent("linked", "read(t, d, &mut Uncounted)"),
+            "linked uses `t` in `read(t, read(t, d, &mut Uncounted) as usize, reads)",
+        ],
     );
     TRIAL.after(
         "another-count",
@@ -94,16 +99,49 @@ fn the_table_lent_without_the_count() {
         "is_dead_with(t, 1, reads)",
         "is_dead_with(t, 1, &mut (*reads).clone())",
         &[
-            "keeps calls `.clone`",
-            "keeps lends the table without its count in `is_dead_with(t, 1, &mut (*reads).clone())`",
+            "keeps_rules calls `.clone`",
+            &not_lent("keeps_rules", "is_dead_with(t, 1, &mut (*reads).clone())"),
+            "keeps_rules uses `t` in",
+            "keeps_rules uses `reads` in",
         ],
+    );
+    // The table by another reference to it.
+    TRIAL.after(
+        "borrowed",
+        WHOLE,
+        "    linked(t, 2 *",
+        "    read(&*t, 0, &mut Uncounted);\n    linked(t, 2 *",
+        &[
+            &not_lent("keeps_rules", "read(&*t, 0, &mut Uncounted)"),
+            "keeps_rules uses `t` in `read(&*t, 0, &mut Uncounted);`",
+        ],
+    );
+    // A copy of it.
+    TRIAL.after(
+        "copy",
+        WHOLE,
+        "    linked(t, 2 * (63 + 1), reads)",
+        "    let Some(u) = Some(*t) else {\n        return false;\n    };\n    linked(&u, 128, reads)",
+        &[
+            &not_lent("keeps_rules", "linked(&u, 128, reads)"),
+            "keeps_rules uses `t` in `let Some(u) = Some(*t) else {`",
+            "keeps_rules uses `reads` in `linked(&u, 128, reads)`",
+        ],
+    );
+    // Under another name, before its size is told.
+    TRIAL.after(
+        "sized",
+        WHOLE,
+        "Some(t) => keeps_rules(t, reads)",
+        "Some(u) => linked(u, 0, &mut Uncounted) && keeps_rules(u, reads)",
+        &["is_good_with is not `match t.as_array() {"],
     );
     TRIAL.after(
         "own",
         WHOLE,
         "if is_good_with(t, reads)",
         "if is_good(t)",
-        &["check_with calls `is_good`", "check_with lends the table without its count in `is_good(t)`"],
+        &["check_with calls `is_good`", "check_with uses `t` in `if is_good(t) {`"],
     );
     // The function for those that keep no count.
     TRIAL.after(
@@ -111,7 +149,7 @@ fn the_table_lent_without_the_count() {
         WHOLE,
         "is_dead_with(t, 1, reads)",
         "is_dead(t, 1)",
-        &["keeps calls `is_dead`", "keeps lends the table without its count in `is_dead(t, 1)`"],
+        &["keeps_rules calls `is_dead`", "keeps_rules uses `t` in `if is_dead(t, 1) {`"],
     );
     TRIAL.after(
         "less",
@@ -126,6 +164,37 @@ fn the_table_lent_without_the_count() {
         "    read(t, read",
         "    reads.reset();\n    read(t, read",
         &["linked calls `reads.reset`", "linked uses `reads` in `reads.reset();`"],
+    );
+    // A count without a read.
+    TRIAL.after(
+        "count",
+        PARTS,
+        "    read(t, read",
+        "    Counter::count(reads);\n    read(t, read",
+        &["linked calls `Counter::count`", "linked uses `reads` in `Counter::count(reads);`"],
+    );
+    TRIAL.after(
+        "hidden",
+        WHOLE,
+        "    if is_dead_with",
+        "    let (reads, _n) = (&mut Uncounted, 0u8);\n    if is_dead_with",
+        &["keeps_rules uses `reads` in `let (reads, _n) = (&mut Uncounted, 0u8);`"],
+    );
+    // Another count of the same name.
+    TRIAL.after(
+        "shadow",
+        PARTS,
+        "    read(t, read",
+        "    let reads = &mut Uncounted;\n    read(t, read",
+        &["linked uses `reads` in `let reads = &mut Uncounted;`"],
+    );
+    // A call that is laid out over several lines is one all the same.
+    TRIAL.after(
+        "lines-of-a-call",
+        WHOLE,
+        "is_dead_with(t, 1, reads)",
+        "is_dead_with(\n        t,\n        1,\n        reads,\n    )",
+        &[],
     );
 }
 
@@ -165,6 +234,7 @@ fn a_missing_function() {
             "crates/check_table/src has no function",
             "has no function is_good",
             "has no function check",
+            "has no function is_good_with",
             "uses `check_table::whole::check_with`",
         ],
     );
@@ -174,23 +244,24 @@ fn a_missing_function() {
 fn another_callee() {
     // A helper beside is_dead_with that marks in an array of its own, or reads.
     TRIAL.after("helper", BELOW, "reads) == 0", "reads) == mark(b)", &["is_dead_with calls `mark`"]);
-    TRIAL.after("upward", BELOW, "reads) == 0", "reads) == linked(t, b, reads)", &["is_dead_with calls `linked`"]);
-    TRIAL.after(
-        "by-path",
-        WHOLE,
-        "is_dead_with(t, 1, reads)",
-        "table::block::peek(t, reads)",
-        &["keeps calls `table::block::peek`"],
-    );
+    let used = |function: &str, line: &str| ["t", "reads"].map(|word| format!("{function} uses `{word}` in `{line}`"));
+    let [table, count] = used("is_dead_with", "read(t, EDGE + BLOCK * b, reads) == linked(t, b, reads)");
+    let upward = ["is_dead_with calls `linked`", &table, &count];
+    TRIAL.after("upward", BELOW, "reads) == 0", "reads) == linked(t, b, reads)", &upward);
+    let [table, count] = used("keeps_rules", "if table::block::peek(t, reads) {");
+    let by_path = ["keeps_rules calls `table::block::peek`", &table, &count];
+    TRIAL.after("by-path", WHOLE, "is_dead_with(t, 1, reads)", "table::block::peek(t, reads)", &by_path);
     TRIAL.after(
         "method",
         WHOLE,
         "if is_dead_with(t, 1, reads)",
         "if t.first() == 1",
-        &["keeps calls `t.first`", "keeps uses `t` in `if t.first() == 1 {`"],
+        &["keeps_rules calls `t.first`", "keeps_rules uses `t` in `if t.first() == 1 {`"],
     );
-    TRIAL.after("kind", WHOLE, "is_dead_with(t, 1, reads)", "peek::<C>(t, reads)", &["keeps calls `peek::<C>`"]);
-    TRIAL.after("macro", WHOLE, "if is_dead_with(t, 1, reads)", "if !seen!(1)", &["keeps calls `seen!`"]);
+    let [table, count] = used("keeps_rules", "if peek::<C>(t, reads) {");
+    let of_a_kind = ["keeps_rules calls `peek::<C>`", &table, &count];
+    TRIAL.after("kind", WHOLE, "is_dead_with(t, 1, reads)", "peek::<C>(t, reads)", &of_a_kind);
+    TRIAL.after("macro", WHOLE, "if is_dead_with(t, 1, reads)", "if !seen!(1)", &["keeps_rules calls `seen!`"]);
 }
 
 #[test]
@@ -198,7 +269,7 @@ fn a_name_twice() {
     // The one that is not looked at could be the one that is called.
     let other = "crates/check_table/src/other.rt";
     let again = "fn linked<C: Counter>(t: &[u16], d: usize, reads: &mut C) -> bool {\n    read(t, d, reads) == 0\n}\n";
-    TRIAL.found(&TRIAL.whole("twice").add(other, again), &["two functions of the check are named linked"]);
+    TRIAL.found(&TRIAL.whole("named-twice").add(other, again), &["two functions of the check are named linked"]);
 }
 
 #[test]
@@ -264,26 +335,20 @@ fn another_import() {
 
 #[test]
 fn another_use_of_the_table() {
-    TRIAL.after(
-        "length",
-        WHOLE,
-        "t.as_array()",
-        "t.first_chunk()",
-        &["is_good_with calls `t.first_chunk`", "is_good_with uses `t` in `match t.first_chunk() {`"],
-    );
+    TRIAL.after("length", WHOLE, "t.as_array()", "t.first_chunk()", &["is_good_with is not `match t.as_array() {"]);
     TRIAL.after(
         "kept",
         WHOLE,
         "    if is_dead_with",
         "    let u = Some(t);\n    if is_dead_with",
-        &["keeps lends the table without its count in `Some(t)`"],
+        &["keeps_rules uses `t` in `let u = Some(t);`"],
     );
     TRIAL.after(
         "taken",
         WHOLE,
         "    if is_dead_with",
         "    let u = t;\n    if is_dead_with",
-        &["keeps uses `t` in `let u = t;`"],
+        &["keeps_rules uses `t` in `let u = t;`"],
     );
     TRIAL.after("slice", PARTS, "d: usize,", "d: &[u8],", &["linked is lent `d: &[u8]`"]);
 }

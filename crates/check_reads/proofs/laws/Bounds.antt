@@ -2,6 +2,7 @@
 -- and one for each dart on a cycle.
 --     reads_most                                     a check reads at most 15,872 words
 --     dart_most, edge_most, idle_most, block_most    the bounds for a dart, an edge, a blank block, any block of edges
+--     vertex_crude, vertex_block_crude               rough bounds for a vertex and a block of them, of any table
 --     leaving_below, leaving_at                        the live darts that leave the vertices below v; that leave v
 --     cycle_most, vertex_most, blocks_most           what cycles, vertices and their blocks read, by these
 use Prim.Native.Nat.{ℕ, zero, suc, ◌+◌, ◌-◌, ◌*◌, ◌≤◌, ◌<◌}
@@ -26,13 +27,13 @@ use Rattle.table.specs.laws.Cycle.{next_inj, iter_live, iter_leaves, iter_word, 
 use Rattle.table.specs.laws.Vertices.{leaving_live, one_more, spread}
 use Rattle.table.specs.laws.Blocks.{dead_dart}
 use Rattle.check_reads.specs.Reads.{test_of, reads_of, pass_all, all_below, reads_below, bare_tests, dart_tests, edge_tests, edge_in, dead_block, idle_tests, edge_block}
-use Rattle.check_reads.specs.Reads.{length_fits, cycle_test, leads_none, vertex_tests, vertex_in, vertex_block, check_reads}
+use Rattle.check_reads.specs.Reads.{length_fits, cycle_test, leads_none, lead_tests, vertex_tests, vertex_in, vertex_block, check_reads}
 use Rattle.check_reads.proofs.laws.Tests.{total, reads_total, below_most, below_passed, below_any, below_until}
 use Rattle.check_reads.proofs.laws.Darts.{tests_dead, tests_live, dead_case, idle_case, block_case, by_darts, blocks_case}
 use Rattle.check_reads.proofs.laws.Vertices.{tests_none, tests_leads}
 
 module _ (t : List ℕ) where
-  dart_most : (d : ℕ) → reads_of (dart_tests t d) ≤ 4
+  pub dart_most : (d : ℕ) → reads_of (dart_tests t d) ≤ 4
   unfolding total
   dart_most d = elim (ℕ_discrete (edge_word t (edge_of d)) 0) [
     | yes off ↦ rw (tests_dead t d off) (let k = reads_total (bare_tests t d) in omega arith)
@@ -43,7 +44,7 @@ module _ (t : List ℕ) where
   unfolding total
   dead_most d off = rw (tests_dead t d off) (reads_total (bare_tests t d))
 
-  edge_most : (e : ℕ) → reads_of (edge_tests t e) ≤ 9
+  pub edge_most : (e : ℕ) → reads_of (edge_tests t e) ≤ 9
   unfolding total
   edge_most e = let k = reads_total (edge_tests t e) in let a = dart_most (2 * e) in let b = dart_most (2 * e + 1) in omega arith
 
@@ -57,7 +58,7 @@ module _ (t : List ℕ) where
       let b = dead_most (2 * e + 1) (rw q off) in
       omega arith
 
-  idle_most : (b : ℕ) → reads_of (idle_tests t b) ≤ 224
+  pub idle_most : (b : ℕ) → reads_of (idle_tests t b) ≤ 224
   unfolding total
   idle_most b = reads_total (idle_tests t b)
 
@@ -81,7 +82,7 @@ module _ (t : List ℕ) where
         | yes-false p ↦ rw p (omega arith)
       ]
 
-  block_most : (b : ℕ) → (edge_block t b).reads ≤ 448
+  pub block_most : (b : ℕ) → (edge_block t b).reads ≤ 448
   block_most b = elim (truth (dead_block t b)) [
     | yes_true e ↦ dead_block_most b e
     | yes-false e ↦ let k = live_block b e in omega arith
@@ -100,6 +101,26 @@ module _ (t : List ℕ) where
         let k = idle_most b in
         rw idle (omega arith)
   ]
+
+  -- crude bounds, of any table
+  cycle_crude : (w : ℕ) → (cycle_test t w).reads ≤ 2048
+  cycle_crude w = below_most (λ k. test_of 1 (ltb w (iter (next_word t) (suc k) w))) 1 darts (λ k h. omega arith)
+
+  pub vertex_crude : (v : ℕ) → reads_of (vertex_tests t v) ≤ 2050
+  unfolding total
+  vertex_crude v = elim (truth (leads_none t v)) [
+    | yes_true e ↦ rw (tests_none t v e) (let k = reads_total (test_of 1 true ∷ []) in omega arith)
+    | yes-false e ↦ rw (tests_leads t v e) (let c = cycle_crude (vertex_word t v) in let k = reads_total (lead_tests t v) in omega (arith, c, k))
+  ]
+
+  pub vertex_block_crude : (b : ℕ) → (vertex_block t b).reads ≤ 65632
+  unfolding vertex_block
+  vertex_block_crude b =
+      let k = below_most (vertex_in t b) 2050 32 (λ i h. vertex_crude (32 * b + i)) in
+      elim (truth (all_below (λ i. leads_none t (32 * b + i)) 32)) [
+        | yes_true e ↦ rw e (omega arith)
+        | yes-false e ↦ rw e (omega arith)
+      ]
 
   -- the live darts that leave the vertices below v
   abbrev leaving_below : ℕ → ℕ

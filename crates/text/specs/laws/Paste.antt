@@ -19,11 +19,11 @@ use Rattle.text.specs.Paste.{put, paste, Pasted}
 -- one byte
 
 module _ (from at : ℕ) (out : List ℕ) (b : ℕ) where
-  put_before : at < from → put from at out b ≡ out
+  pub put_before : at < from → put from at out b ≡ out
   unfolding put
   put_before h = rw (lt-leb from at h)
 
-  put_in : from ≤ at → put from at out b ≡ set out (at - from) b
+  pub put_in : from ≤ at → put from at out b ≡ set out (at - from) b
   unfolding put
   put_in h = rw (le-leb from at h)
 

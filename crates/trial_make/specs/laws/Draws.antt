@@ -14,7 +14,7 @@ module _ (n j : ℕ) (h : n < 3) (l : j < 3) where
     | above b e ↦ rw e (record { sfits = omega arith })
   ]
 
-  turns_fit : FitsSigned w16 (to_z w16 n -ℤ pos j)
+  pub turns_fit : FitsSigned w16 (to_z w16 n -ℤ pos j)
   turns_fit = rw (to_z_pos w16 {n = n} (omega arith)) small
 
   pub turns_are : to_z w16 (of_z w16 (to_z w16 n -ℤ pos j)) ≡ pos n -ℤ pos j

@@ -1,16 +1,19 @@
 //! The check counts each word that it reads. No function of crates/check_table, nor the one below it that it calls, indexes a slice: a word comes
 //! from `read` (crates/table/src/read.rt) alone, which indexes once and counts once; and each call of one of these functions lends the table that was
-//! lent to the caller, first, and the count that was lent to him, last. Table and count stand nowhere else in a body, so neither is another one, a copy,
-//! or used in another way. So what is proved of the count is so of the words that are read. No body but that of `read` has a bracket, so no array stands
-//! in the check either. No function calls others than these, nor do their files bring in anything but them and the constants and types that are listed
-//! here by name. The one function that tells the table to be of its size has a body that is known. The check that keeps no count, and `counted_check`, are
-//! a call of the check that is lent one.
+//! lent to the caller, first, and the count that was lent to him, last. What is lent besides are numbers, and table and count stand nowhere else in a
+//! body, so neither is another one, a copy, or used in another way. So what is proved of the count is so of the words that are read. No body but that of
+//! `read` has a bracket, so no array stands in the check either; nor a string, a closure or an item of its own, behind which one could hide what this
+//! look goes by. No function calls others than these, of which each name is declared once, nor do their files bring in anything but them and the constants
+//! and types that are listed here by name. The one function that tells the table to be of its size has a body that is known. The check that keeps no
+//! count, and `counted_check`, are a call of the check that is lent one.
 
 use crate::rattle::{self, Function};
 use crate::tree::Tree;
 use std::collections::BTreeSet;
 
 const CHECK: &str = "check_table";
+/// Where the check is lent a number to count in.
+const COUNTED: &str = "check_counted";
 /// A function of the check that stands below it, since others use it as well.
 const BELOW: (&str, &str) = ("crates/table/src/block.rt", "is_dead_with");
 /// The function that reads, and its body.
@@ -57,6 +60,31 @@ const BELOW_IT: [&str; 2] = ["table::block::is_dead_with", "table::read::read"];
 const TABLE: &str = "t";
 const TABLES: [&str; 2] = ["&[u16]", "&[u16; WORDS]"];
 const COUNT: (&str, &str) = ("reads", "&mut C");
+/// What may be lent besides.
+const NUMBERS: [&str; 2] = ["usize", "u16"];
+/// What may not stand in a body.
+const BARRED: [(&str, &str); 4] = [
+    ("[", "a bracket"),
+    ("\"", "a string"),
+    ("'", "a character or a lifetime"),
+    ("/*", "a comment that does not end a line"),
+];
+/// What the check declares nothing by.
+const ITEMS: [&str; 13] = [
+    "const",
+    "static",
+    "type",
+    "struct",
+    "enum",
+    "union",
+    "trait",
+    "impl",
+    "extern",
+    "unsafe",
+    "macro",
+    "macro_rules",
+    "dyn",
+];
 
 /// One line for each fault.
 pub fn faults(tree: &Tree) -> Vec<String> {
@@ -65,7 +93,6 @@ pub fn faults(tree: &Tree) -> Vec<String> {
     if check.is_empty() {
         faults.push(format!("crates/{CHECK}/src has no function"));
     }
-    faults.extend(named_twice(&check));
     faults.extend(bodies(tree));
     let mut counting: Vec<Function> =
         check.into_iter().filter(|function| !WITHOUT.iter().any(|(_, name, _)| *name == function.name)).collect();
@@ -82,7 +109,9 @@ pub fn faults(tree: &Tree) -> Vec<String> {
             faults.extend(body(function, if function.name == below { &[] } else { &own }));
         }
     }
-    faults.extend(own_constants(tree));
+    faults.extend(declared_twice(tree, &own));
+    faults.extend(hidden(tree));
+    faults.extend(own_items(tree));
     faults.extend(imports(tree));
     faults
 }
@@ -92,10 +121,52 @@ fn function_of(tree: &Tree, file: &str, name: &str) -> Option<Function> {
 }
 
 /// The one that is looked at here could be another than the one that is called.
-fn named_twice(check: &[Function]) -> Vec<String> {
-    let twice =
-        check.iter().enumerate().filter(|(i, function)| check[..*i].iter().any(|other| other.name == function.name));
-    twice.map(|(_, function)| format!("two functions of the check are named {}", function.name)).collect()
+fn declared_twice(tree: &Tree, own: &[String]) -> Vec<String> {
+    let known = WITHOUT.iter().map(|(_, name, _)| *name).chain([BELOW.1, READ.1]);
+    let declared = |name: &str| -> usize {
+        let times = |path: &String| functions_in(&code(tree, path)).filter(|declared| *declared == name).count();
+        looked_at(tree).iter().map(times).sum()
+    };
+    let twice = own.iter().map(String::as_str).chain(known).filter(|name| declared(name) > 1);
+    twice
+        .collect::<BTreeSet<_>>()
+        .into_iter()
+        .map(|name| format!("two functions of the check are named {name}"))
+        .collect()
+}
+
+/// Functions that are not looked at: within another, or on a single line. And `counted_check` stands in its crate alone.
+fn hidden(tree: &Tree) -> Vec<String> {
+    let mut faults = Vec::new();
+    for path in files(tree) {
+        let (all, seen) = (functions_in(&code(tree, &path)).count(), tree.functions(&path).unwrap_or_default().len());
+        if all != seen {
+            faults.push(format!("{path} has {all} functions, of which {seen} are looked at"));
+        }
+    }
+    for file in tree.source_files(COUNTED) {
+        let code = code(tree, &format!("crates/{COUNTED}/src/{file}.rt"));
+        let others = functions_in(&code).filter(|name| !WITHOUT.iter().any(|(_, known, _)| known == name));
+        faults.extend(others.map(|name| format!("crates/{COUNTED} has the function {name}, which is not looked at")));
+    }
+    faults
+}
+
+/// The names of the functions that a text declares, wherever it does.
+fn functions_in(code: &str) -> impl Iterator<Item = &str> {
+    let name = |at: usize| {
+        let rest = code[at + 2..].trim_start();
+        let end = rest.find(|c: char| !c.is_alphanumeric() && c != '_').unwrap_or(rest.len());
+        &rest[..end]
+    };
+    words(code, "fn").map(name)
+}
+
+/// The lines of a file without the comments that end them, and without those that the prover alone reads.
+fn code(tree: &Tree, path: &str) -> String {
+    let text = tree.read(path).unwrap_or_default();
+    let lines = text.lines().map(|line| line.split("//").next().unwrap_or("").trim_end());
+    lines.filter(|line| !line.starts_with("ghost use ")).flat_map(|line| [line, "\n"]).collect()
 }
 
 /// The functions whose bodies are known: `read`, the one that tells the table's size, and those that are one call.
@@ -119,17 +190,22 @@ fn lines(body: &str) -> String {
     body.lines().map(str::trim).filter(|line| !line.is_empty()).collect::<Vec<_>>().join("\n")
 }
 
-/// What a function of the check has to be lent: a table and a count, and no other slice.
+/// What a function of the check has to be lent: a table first, a count last, and between them numbers.
 fn signature(function: &Function) -> Vec<String> {
-    let name = &function.name;
+    let (name, lent) = (&function.name, &function.arguments);
+    let is_lent = |argument: Option<&(String, String)>, word: &str, kinds: &[&str]| {
+        argument.is_some_and(|(argument, of)| argument == word && kinds.contains(&of.as_str()))
+    };
     let mut faults = Vec::new();
-    for (word, kinds) in [(TABLE, &TABLES[..]), (COUNT.0, &[COUNT.1])] {
-        if !function.arguments.iter().any(|(argument, of)| argument == word && kinds.contains(&of.as_str())) {
-            faults.push(format!("{name} is not lent `{word}: {}`", kinds[0]));
-        }
+    if !is_lent(lent.first(), TABLE, &TABLES) {
+        faults.push(format!("{name} is not lent `{TABLE}: {}` first", TABLES[0]));
     }
-    let slices = function.arguments.iter().filter(|(argument, of)| of.contains('[') && argument != TABLE);
-    faults.extend(slices.map(|(argument, of)| format!("{name} is lent `{argument}: {of}`")));
+    if !is_lent(lent.last(), COUNT.0, &[COUNT.1]) {
+        faults.push(format!("{name} is not lent `{}: {}` last", COUNT.0, COUNT.1));
+    }
+    let between = lent.get(1..lent.len().max(2) - 1).unwrap_or_default();
+    let others = between.iter().filter(|(_, of)| !NUMBERS.contains(&of.as_str()));
+    faults.extend(others.map(|(argument, of)| format!("{name} is lent `{argument}: {of}`")));
     faults
 }
 
@@ -137,8 +213,9 @@ fn signature(function: &Function) -> Vec<String> {
 fn body(function: &Function, own: &[String]) -> Vec<String> {
     let (name, body) = (&function.name, &function.body);
     let mut faults = Vec::new();
-    if body.contains('[') {
-        faults.push(format!("{name} has a bracket"));
+    faults.extend(BARRED.iter().filter(|(text, _)| body.contains(text)).map(|(_, what)| format!("{name} has {what}")));
+    if body.replace("|=", "").contains('|') {
+        faults.push(format!("{name} has a closure"));
     }
     let calls = calls(body);
     let others: BTreeSet<&str> = calls.iter().map(|call| call.callee).filter(|callee| !may_call(callee, own)).collect();
@@ -154,6 +231,11 @@ fn body(function: &Function, own: &[String]) -> Vec<String> {
     for word in [TABLE, COUNT.0] {
         let elsewhere = words(body, word).filter(|at| !places.contains(at));
         faults.extend(elsewhere.map(|at| format!("{name} uses `{word}` in `{}`", line_at(body, at))));
+    }
+    // A name that is called could be given to something else.
+    for word in own.iter().map(String::as_str).chain(BELOW_IT.iter().filter_map(|below| below.rsplit("::").next())) {
+        let otherwise = words(body, word).filter(|at| !body[at + word.len()..].starts_with('('));
+        faults.extend(otherwise.map(|at| format!("{name} does not call `{word}` in `{}`", line_at(body, at))));
     }
     faults
 }
@@ -236,25 +318,33 @@ fn files(tree: &Tree) -> Vec<String> {
     tree.source_files(CHECK).iter().map(|file| format!("crates/{CHECK}/src/{file}.rt")).collect()
 }
 
-/// A constant of the check's own could have the name and not the value of another.
-fn own_constants(tree: &Tree) -> Vec<String> {
+/// The files in which what is looked at stands.
+fn looked_at(tree: &Tree) -> BTreeSet<String> {
+    let known = [BELOW.0, READ.0].into_iter().chain(WITHOUT.iter().map(|(file, _, _)| *file)).map(String::from);
+    files(tree).into_iter().chain(known).collect()
+}
+
+/// A constant of the check's own could have the name and not the value of another, a type the name of a function.
+fn own_items(tree: &Tree) -> Vec<String> {
     let mut faults = Vec::new();
     for path in files(tree) {
-        let text = tree.read(&path).unwrap_or_default();
-        let constants = text.lines().filter(|line| line.trim_start_matches("pub ").starts_with("const "));
-        faults.extend(constants.map(|line| format!("{path} has a constant of its own: {line}")));
+        let code = code(tree, &path);
+        let own = code.lines().filter(|line| ITEMS.iter().any(|item| words(line, item).next().is_some()));
+        faults.extend(own.map(|line| format!("{path} has an item of its own: {}", line.trim())));
     }
     faults
 }
 
 /// What the files bring in besides the constants, the types and the functions that are looked at: nothing under another name.
 fn imports(tree: &Tree) -> Vec<String> {
-    let known = [BELOW.0, READ.0].into_iter().chain(WITHOUT.iter().map(|(file, _, _)| *file)).map(String::from);
-    let paths: BTreeSet<String> = files(tree).into_iter().chain(known).collect();
     let mut faults = Vec::new();
-    for path in paths {
+    for path in looked_at(tree) {
         let of = path.split('/').nth(1).unwrap_or("");
         let text = tree.read(&path).unwrap_or_default();
+        let code = code(tree, &path);
+        let unread = words(&code, "use")
+            .filter(|at| !["", "pub"].contains(&code[..*at].rsplit('\n').next().unwrap_or("").trim()));
+        faults.extend(unread.map(|at| format!("{path} uses what is not looked at in `{}`", line_at(&code, at))));
         for name in rattle::uses(&text) {
             let whole = name.strip_prefix("crate::").map_or(name.clone(), |rest| format!("{of}::{rest}"));
             let listed = [&CONSTANTS[..], &TYPES, &BELOW_IT].concat().contains(&whole.as_str());

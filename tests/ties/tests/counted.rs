@@ -199,6 +199,68 @@ fn a_call_without_the_table_or_its_count() {
 }
 
 #[test]
+fn another_signature() {
+    let counts = ["linked is not lent `reads: &mut C` last", "linked is lent `reads: &mut C`"];
+    TRIAL.after("two-counts", PARTS, "d: usize, reads: &mut C", "reads: &mut C, d: &C", &counts);
+    let function = ["linked is not lent `reads: &mut C` last", "dart.rt has 2 functions, of which 1 are looked at"];
+    TRIAL.after("function-lent", PARTS, "d: usize, reads", "d: fn(&[u16]) -> u16, reads", &function);
+    TRIAL.after("of-a-kind", PARTS, "d: usize,", "d: D,", &["linked is lent `d: D`"]);
+    let later = ["linked is not lent `t: &[u16]` first", "linked is lent `t: &[u16; WORDS]`"];
+    TRIAL.after("later", PARTS, "t: &[u16; WORDS], d: usize,", "d: usize, t: &[u16; WORDS],", &later);
+}
+
+#[test]
+fn what_hides_a_text() {
+    let string = "    read(t, d, { let _s = b\", reads)\"; &mut none });\n    read(t, read";
+    TRIAL.after("string", PARTS, "    read(t, read", string, &["linked has a string"]);
+    let comment = "    read(t, d, &mut none /*, reads)*/);\n    read(t, read";
+    TRIAL.after("comment", PARTS, "    read(t, read", comment, &["linked has a comment"]);
+    TRIAL.after("letter", PARTS, "usize == d", "usize == b'a' as usize", &["linked has a character"]);
+    let closure = "    let linked = |a: &C| 7;\n    linked(t, 2 *";
+    let named = ["keeps_rules has a closure", "keeps_rules does not call `linked` in `let linked = |a: &C| 7;`"];
+    TRIAL.after("closure", WHOLE, "    linked(t, 2 *", closure, &named);
+    let other = "    let linked = table::block::peek;\n    linked(t, 2 *";
+    let named = ["keeps_rules does not call `linked` in `let linked = table::block::peek;`"];
+    TRIAL.after("given", WHOLE, "    linked(t, 2 *", other, &named);
+    let within = "    fn peek(d: usize) -> u16 {\n        0\n    }\n    linked(t, 2 *";
+    let found = ["keeps_rules calls `peek`", "whole.rt has 6 functions, of which 5 are looked at"];
+    TRIAL.after("within", WHOLE, "    linked(t, 2 *", within, &found);
+}
+
+#[test]
+fn a_function_of_the_same_name() {
+    let below = "fn read(t: &[u16], i: usize, reads: &mut usize) -> u16 {\n    t[i]\n}\n\npub fn is_dead_with";
+    let twice = ["two functions of the check are named read"];
+    TRIAL.after("read-below", BELOW, "pub fn is_dead_with", below, &twice);
+    let decoy =
+        "impl Uncounted {\n    fn read(self) -> u16 {\n        reads.count();\n        t[i]\n    }\n}\n\npub fn read<";
+    TRIAL.after("decoy", READ, "pub fn read<", decoy, &twice);
+    let other = "fn check_with(t: &[u16], reads: &mut usize) -> u32 {\n    7\n}\n\npub fn counted_check";
+    let found =
+        ["two functions of the check are named check_with", "has the function check_with, which is not looked at"];
+    TRIAL.after("check-again", COUNTED, "pub fn counted_check", other, &found);
+    let peek = "as usize == d\n}\n\nfn peek(t: &[u16]) -> u16 { 0 }\n";
+    TRIAL.after("one-line", PARTS, "as usize == d\n}\n", peek, &["dart.rt has 2 functions, of which 1 are looked at"]);
+}
+
+#[test]
+fn an_item_of_its_own() {
+    let item = |text: &str| format!("{text}\n\npub fn linked<");
+    let cases = [
+        ("static", "static SEEN: u16 = 0;"),
+        ("const-within", "pub(crate) const SEEN: u16 = 0;"),
+        ("alias", "type Table = u16;"),
+        ("tuple", "struct linked(u16);"),
+    ];
+    for (name, text) in cases {
+        TRIAL.after(name, PARTS, "pub fn linked<", &item(text), &[&format!("dart.rt has an item of its own: {text}")]);
+    }
+    let use_within = "pub(crate) use table::words::peek as read;";
+    let found = ["dart.rt uses what is not looked at in `pub(crate) use table::words::peek as read;`"];
+    TRIAL.after("use-within", PARTS, "pub fn linked<", &item(use_within), &found);
+}
+
+#[test]
 fn a_call_that_is_another() {
     TRIAL.after(
         "good",
@@ -225,7 +287,13 @@ fn a_call_that_is_another() {
 
 #[test]
 fn a_missing_function() {
-    TRIAL.after("renamed", COUNTED, "fn counted_check", "fn counting_check", &["has no function counted_check"]);
+    TRIAL.after(
+        "renamed",
+        COUNTED,
+        "fn counted_check",
+        "fn counting_check",
+        &["has no function counted_check", "has the function counting_check, which is not looked at"],
+    );
     TRIAL.found(&TRIAL.whole("no-read").remove(READ), &["crates/table/src/read.rt has no function read"]);
     TRIAL.found(&TRIAL.whole("no-below").remove(BELOW), &["crates/table/src/block.rt has no function is_dead_with"]);
     TRIAL.found(
@@ -317,7 +385,13 @@ fn another_import() {
         "use table::other::EDGE;",
         &["uses `table::other::EDGE`"],
     );
-    TRIAL.after("constant", PARTS, "use table::layout::EDGE;", "const EDGE: usize = 16;", &["constant of its own"]);
+    TRIAL.after(
+        "constant",
+        PARTS,
+        "use table::layout::EDGE;",
+        "const EDGE: usize = 16;",
+        &["an item of its own: const EDGE"],
+    );
     // In a list, which may go over several lines.
     let lines = "use table::{\n    block::BLOCK,\n    layout::{\n        EDGE, // the words\n        EDGES as LENGTH,\n    },\n};";
     TRIAL.after("lines", PARTS, "use table::layout::EDGE;", lines, &["uses `table::layout::EDGES as LENGTH`"]);

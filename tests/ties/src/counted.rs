@@ -16,6 +16,8 @@ const CHECK: &str = "check_table";
 const COUNTED: &str = "check_counted";
 /// A function of the check that stands below it, since others use it as well.
 const BELOW: (&str, &str) = ("crates/table/src/block.rt", "is_dead_with");
+/// Where the modules of that function and of the one that reads are declared.
+const LIBRARY_BELOW: &str = "crates/table/src/lib.rt";
 /// The function that reads, and its body.
 const READ: (&str, &str) = ("crates/table/src/read.rt", "read");
 const READS: &str = "reads.count();\nt[i]";
@@ -63,12 +65,7 @@ const COUNT: (&str, &str) = ("reads", "&mut C");
 /// What may be lent besides.
 const NUMBERS: [&str; 2] = ["usize", "u16"];
 /// What may not stand in a body.
-const BARRED: [(&str, &str); 4] = [
-    ("[", "a bracket"),
-    ("\"", "a string"),
-    ("'", "a character or a lifetime"),
-    ("/*", "a comment that does not end a line"),
-];
+const BARRED: [(&str, &str); 2] = [("[", "a bracket"), ("'", "a character or a lifetime")];
 /// What the check declares nothing by.
 const ITEMS: [&str; 13] = [
     "const",
@@ -112,6 +109,7 @@ pub fn faults(tree: &Tree) -> Vec<String> {
     faults.extend(declared_twice(tree, &own));
     faults.extend(hidden(tree));
     faults.extend(own_items(tree));
+    faults.extend(unread(tree));
     faults.extend(imports(tree));
     faults
 }
@@ -166,7 +164,8 @@ fn functions_in(code: &str) -> impl Iterator<Item = &str> {
 fn code(tree: &Tree, path: &str) -> String {
     let text = tree.read(path).unwrap_or_default();
     let lines = text.lines().map(|line| line.split("//").next().unwrap_or("").trim_end());
-    lines.filter(|line| !line.starts_with("ghost use ")).flat_map(|line| [line, "\n"]).collect()
+    let is_ghost = |line: &&str| line.starts_with("ghost use ") && line.find(';').is_none_or(|at| at + 1 == line.len());
+    lines.filter(|line| !is_ghost(line)).flat_map(|line| [line, "\n"]).collect()
 }
 
 /// The functions whose bodies are known: `read`, the one that tells the table's size, and those that are one call.
@@ -197,6 +196,9 @@ fn signature(function: &Function) -> Vec<String> {
         argument.is_some_and(|(argument, of)| argument == word && kinds.contains(&of.as_str()))
     };
     let mut faults = Vec::new();
+    if !function.text.contains(&format!("fn {name}<C: Counter>(")) {
+        faults.push(format!("{name} is not generic in C: Counter alone"));
+    }
     if !is_lent(lent.first(), TABLE, &TABLES) {
         faults.push(format!("{name} is not lent `{TABLE}: {}` first", TABLES[0]));
     }
@@ -217,7 +219,12 @@ fn body(function: &Function, own: &[String]) -> Vec<String> {
     if body.replace("|=", "").contains('|') {
         faults.push(format!("{name} has a closure"));
     }
+    // Nothing is named by a path but a refusal.
+    let paths = body.match_indices("::").filter(|(at, _)| !body[..*at].ends_with("Refusal"));
+    faults.extend(paths.map(|(at, _)| format!("{name} has a path in `{}`", line_at(body, at))));
     let calls = calls(body);
+    let of_another = calls.iter().filter(|call| call.before.trim_end().ends_with('.'));
+    faults.extend(of_another.map(|call| format!("{name} calls `{}` of something", call.callee)));
     let others: BTreeSet<&str> = calls.iter().map(|call| call.callee).filter(|callee| !may_call(callee, own)).collect();
     faults.extend(others.into_iter().map(|callee| format!("{name} calls `{callee}`, which is not looked at")));
     // Where the table and the count may stand.
@@ -240,8 +247,9 @@ fn body(function: &Function, own: &[String]) -> Vec<String> {
     faults
 }
 
-/// A call in a body: what stands before the opening parenthesis, the arguments, each with its place, and the whole text.
+/// A call in a body: what stands before it, its name, the arguments, each with its place, and the whole text.
 struct Call<'a> {
+    before: &'a str,
     callee: &'a str,
     arguments: Vec<(usize, &'a str)>,
     text: &'a str,
@@ -267,7 +275,8 @@ fn calls(body: &str) -> Vec<Call<'_>> {
                 let arguments = begins.iter().zip(ends).map(|(from, to)| trimmed(body, *from, to));
                 let arguments = arguments.filter(|(_, text)| !text.is_empty()).collect();
                 if !matches!(callee, "" | "!") {
-                    calls.push(Call { callee, arguments, text: &body[begin - callee.len()..=at] });
+                    let (before, text) = (&body[..begin - callee.len()], &body[begin - callee.len()..=at]);
+                    calls.push(Call { before, callee, arguments, text });
                 }
             }
             _ => {}
@@ -324,6 +333,28 @@ fn looked_at(tree: &Tree) -> BTreeSet<String> {
     files(tree).into_iter().chain(known).collect()
 }
 
+/// What this look would not see: text behind a comment or a string, a line that goes on after the brace that ends a body, and a module that is another.
+fn unread(tree: &Tree) -> Vec<String> {
+    let mut faults = Vec::new();
+    for path in looked_at(tree) {
+        let text = tree.read(&path).unwrap_or_default();
+        let lines: Vec<&str> = text.lines().collect();
+        let hides = |line: &&&str| !line.trim_start().starts_with("//") && (line.contains("/*") || line.contains('"'));
+        faults.extend(lines.iter().filter(hides).map(|line| format!("{path} may hide something in `{}`", line.trim())));
+        let goes_on = lines.windows(2).filter(|pair| pair[0] == "}" && !pair[1].is_empty());
+        faults.extend(goes_on.map(|pair| format!("{path} goes on after a body with `{}`", pair[1].trim())));
+    }
+    let below = tree.read(LIBRARY_BELOW).unwrap_or_default();
+    for module in ["pub mod block;", "pub mod read;"] {
+        if below.lines().filter(|line| *line == module).count() != 1 {
+            faults.push(format!("{LIBRARY_BELOW} has no `{module}`"));
+        }
+    }
+    let renames = below.lines().filter(|line| !line.starts_with("//") && (line.contains("use ") || line.contains('"')));
+    faults.extend(renames.map(|line| format!("{LIBRARY_BELOW} has `{line}`")));
+    faults
+}
+
 /// A constant of the check's own could have the name and not the value of another, a type the name of a function.
 fn own_items(tree: &Tree) -> Vec<String> {
     let mut faults = Vec::new();
@@ -342,9 +373,9 @@ fn imports(tree: &Tree) -> Vec<String> {
         let of = path.split('/').nth(1).unwrap_or("");
         let text = tree.read(&path).unwrap_or_default();
         let code = code(tree, &path);
-        let unread = words(&code, "use")
+        let others = words(&code, "use")
             .filter(|at| !["", "pub"].contains(&code[..*at].rsplit('\n').next().unwrap_or("").trim()));
-        faults.extend(unread.map(|at| format!("{path} uses what is not looked at in `{}`", line_at(&code, at))));
+        faults.extend(others.map(|at| format!("{path} uses what is not looked at in `{}`", line_at(&code, at))));
         for name in rattle::uses(&text) {
             let whole = name.strip_prefix("crate::").map_or(name.clone(), |rest| format!("{of}::{rest}"));
             let listed = [&CONSTANTS[..], &TYPES, &BELOW_IT].concat().contains(&whole.as_str());

@@ -9,7 +9,10 @@ const PARTS: &str = "crates/check_table/src/dart.rt";
 const WHOLE: &str = "crates/check_table/src/whole.rt";
 const COUNTED: &str = "crates/check_counted/src/whole.rt";
 
-const FILES: [(&str, &str); 5] = [
+const LIBRARY: &str = "crates/table/src/lib.rt";
+
+const FILES: [(&str, &str); 6] = [
+    (LIBRARY, "// The table.\n#![tactic(auto)]\n\npub mod block;\npub mod read;\n"),
     (
         BELOW,
         "use crate::layout::EDGE;\nuse crate::read::{Counter, Uncounted, read};\n\npub const BLOCK: usize = 32;\n\n\
@@ -171,7 +174,11 @@ fn a_call_without_the_table_or_its_count() {
         PARTS,
         "    read(t, read",
         "    Counter::count(reads);\n    read(t, read",
-        &["linked calls `Counter::count`", "linked uses `reads` in `Counter::count(reads);`"],
+        &[
+            "linked has a path in `Counter::count(reads);`",
+            "linked calls `Counter::count`",
+            "linked uses `reads` in `Counter::count(reads);`",
+        ],
     );
     TRIAL.after(
         "hidden",
@@ -212,16 +219,28 @@ fn another_signature() {
 #[test]
 fn what_hides_a_text() {
     let string = "    read(t, d, { let _s = b\", reads)\"; &mut none });\n    read(t, read";
-    TRIAL.after("string", PARTS, "    read(t, read", string, &["linked has a string"]);
+    TRIAL.after("string", PARTS, "    read(t, read", string, &["dart.rt may hide something in `read(t, d, { let _s"]);
     let comment = "    read(t, d, &mut none /*, reads)*/);\n    read(t, read";
-    TRIAL.after("comment", PARTS, "    read(t, read", comment, &["linked has a comment"]);
+    TRIAL.after(
+        "comment",
+        PARTS,
+        "    read(t, read",
+        comment,
+        &["dart.rt may hide something in `read(t, d, &mut none /*"],
+    );
     TRIAL.after("letter", PARTS, "usize == d", "usize == b'a' as usize", &["linked has a character"]);
     let closure = "    let linked = |a: &C| 7;\n    linked(t, 2 *";
     let named = ["keeps_rules has a closure", "keeps_rules does not call `linked` in `let linked = |a: &C| 7;`"];
     TRIAL.after("closure", WHOLE, "    linked(t, 2 *", closure, &named);
-    let other = "    let linked = table::block::peek;\n    linked(t, 2 *";
-    let named = ["keeps_rules does not call `linked` in `let linked = table::block::peek;`"];
+    let other = "    let linked = peek;\n    linked(t, 2 *";
+    let named = ["keeps_rules does not call `linked` in `let linked = peek;`"];
     TRIAL.after("given", WHOLE, "    linked(t, 2 *", other, &named);
+    let marks = "    let _marks = table::empty::MARKS;\n    linked(t, 2 *";
+    let path = "keeps_rules has a path in `let _marks = table::empty::MARKS;`";
+    TRIAL.after("marks", WHOLE, "    linked(t, 2 *", marks, &[path, path]);
+    let apart = "    read(t, w. read(t, d, reads) as usize, reads) as usize == d";
+    let of_another = ["linked calls `read` of something"];
+    TRIAL.after("apart", PARTS, "    read(t, read(t, d, reads) as usize, reads) as usize == d", apart, &of_another);
     let within = "    fn peek(d: usize) -> u16 {\n        0\n    }\n    linked(t, 2 *";
     let found = ["keeps_rules calls `peek`", "whole.rt has 6 functions, of which 5 are looked at"];
     TRIAL.after("within", WHOLE, "    linked(t, 2 *", within, &found);
@@ -241,6 +260,29 @@ fn a_function_of_the_same_name() {
     TRIAL.after("check-again", COUNTED, "pub fn counted_check", other, &found);
     let peek = "as usize == d\n}\n\nfn peek(t: &[u16]) -> u16 { 0 }\n";
     TRIAL.after("one-line", PARTS, "as usize == d\n}\n", peek, &["dart.rt has 2 functions, of which 1 are looked at"]);
+}
+
+#[test]
+fn what_is_not_read() {
+    let more = "use table::layout::EDGE;\nghost use table::specs::X; use table::words::read;\n";
+    let used = "dart.rt uses what is not looked at in `ghost use table::specs::X; use table::words::read;`";
+    TRIAL.after("ghost", PARTS, "use table::layout::EDGE;\n", more, &[used, used]);
+    let comment = "/* // */ use table::words::peek;\nuse table::layout::EDGE;\n";
+    let found = ["dart.rt may hide something in `/* // */ use table::words::peek;`"];
+    TRIAL.after("before-use", PARTS, "use table::layout::EDGE;\n", comment, &found);
+    let early = "as usize == d\n}\n    let _m = t[3];\n}\n";
+    let found = ["dart.rt goes on after a body with `let _m = t[3];`"];
+    TRIAL.after("early", PARTS, "as usize == d\n}\n", early, &found);
+    let generics = "<#[x(t: &[u16], reads: &mut C)] C: Counter>(t: &[u16; WORDS], d: usize, reads";
+    let found = ["linked is not generic in C: Counter alone"];
+    TRIAL.after("generics", PARTS, "<C: Counter>(t: &[u16; WORDS], d: usize, reads", generics, &found);
+    TRIAL.after(
+        "alias-module",
+        LIBRARY,
+        "pub mod read;",
+        "pub mod reads;\npub use crate::reads as read;",
+        &["table/src/lib.rt has no `pub mod read;`", "table/src/lib.rt has `pub use crate::reads as read;`"],
+    );
 }
 
 #[test]
@@ -317,7 +359,8 @@ fn another_callee() {
     let upward = ["is_dead_with calls `linked`", &table, &count];
     TRIAL.after("upward", BELOW, "reads) == 0", "reads) == linked(t, b, reads)", &upward);
     let [table, count] = used("keeps_rules", "if table::block::peek(t, reads) {");
-    let by_path = ["keeps_rules calls `table::block::peek`", &table, &count];
+    let path = "keeps_rules has a path in `if table::block::peek(t, reads) {`";
+    let by_path = [path, path, "keeps_rules calls `table::block::peek`", &table, &count];
     TRIAL.after("by-path", WHOLE, "is_dead_with(t, 1, reads)", "table::block::peek(t, reads)", &by_path);
     TRIAL.after(
         "method",
@@ -327,7 +370,8 @@ fn another_callee() {
         &["keeps_rules calls `t.first`", "keeps_rules uses `t` in `if t.first() == 1 {`"],
     );
     let [table, count] = used("keeps_rules", "if peek::<C>(t, reads) {");
-    let of_a_kind = ["keeps_rules calls `peek::<C>`", &table, &count];
+    let path = "keeps_rules has a path in `if peek::<C>(t, reads) {`";
+    let of_a_kind = [path, "keeps_rules calls `peek::<C>`", &table, &count];
     TRIAL.after("kind", WHOLE, "is_dead_with(t, 1, reads)", "peek::<C>(t, reads)", &of_a_kind);
     TRIAL.after("macro", WHOLE, "if is_dead_with(t, 1, reads)", "if !seen!(1)", &["keeps_rules calls `seen!`"]);
 }
